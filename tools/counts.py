@@ -28,7 +28,7 @@ ROWS = [
     ("a rule", "NotCapable", r"NotCapable", r"NotCapable", r""),
     ("a register of every node", "SPLIT_TIMEOUT_LO", r"SPLIT_TIMEOUT_LO", r"SPLIT_TIMEOUT", r""),
     ("a register that a run keeps", "BUS_MANAGER_ID", r"BUS_MANAGER_ID|bus_manager_id", r"BUS_MANAGER_ID", r""),
-    ("a word over logs", "json", r"[Jj]son", r"json", r"fw_json"),
+    ("a word over logs", "json", r"[Jj]son", r"json", r"fw_json|fw_json_packets"),
     ("a word over scripts", "dub", r"[Dd]ub", r"dub", r"fw_(?!simulate|tool)\w*"),
     ("a transaction label", "BusManager", r"BusManager", r"BUS_MANAGER", r""),
     ("a kind of device", "Camcorder", r"Camcorder|CAMCORDER|camcorder", r"camcorder", r""),

@@ -1,3 +1,4 @@
+pub mod Changes
 pub mod Quiet
 pub mod Runs
 pub mod Lends

@@ -20,9 +20,9 @@ use std::marker::Model;
 /// A simulated bus. There is always a run for whose state it stands, until a write fails.
 #[derive(Drop)]
 pub struct Bus {
-    machine: Machine,
-    spent: bool,
-    room: Room,
+    pub(crate) machine: Machine,
+    pub(crate) spent: bool,
+    pub(crate) room: Room,
 }
 
 impl Model for Bus {
@@ -50,6 +50,7 @@ impl Bus {
     ghost use Rattle.fw_machine.specs.declared.machine.Machine.{Machine as MachineRecord};
     ghost use Rattle.fw_places.specs.Places.{IsPlace};
     ghost use Rattle.fw_bus.specs.Buses.{Applies, IsReached, LendsNode, WhereRefused, WhereFailed};
+    ghost use Rattle.fw_bus.specs.Changes.{counted_in};
 
     /// A bus without a device, at cycle 0. It takes all the memory that its calls need.
     pub fn new(alloc: Global) -> Result<Bus, AllocError>
@@ -135,6 +136,15 @@ impl Bus {
     {
         places.give_back_from(now, words, &mut self.machine);
         self.spent = false;
+    }
+
+    /// The bus goes back by one half step that was only counted.
+    pub fn uncount(&mut self)
+        requires { (n : MachineRecord) × IsReached n × (self.old.machine ≡ counted_in n) }
+        ensures machine { (n : MachineRecord) → self.old.machine ≡ counted_in n → self.new.machine ≡ n }
+        ensures spent { self.new.spent ≡ self.old.spent }
+    {
+        self.machine.half_steps -= 1;
     }
 
     /// What a command would order, or the first rule that it breaks. Nothing is changed.

@@ -5,8 +5,10 @@
 #![tactic(auto)]
 
 mod bus;
+mod change;
 
 pub use bus::Bus;
+pub use change::Changed;
 pub use fw_run::{Order, RuleFault};
 
 /// Why a command was not carried out to its end.

@@ -53,3 +53,4 @@ pub mod CycleTurns
 pub mod Packets
 pub mod OneCycle
 pub mod Cycling
+pub mod Leaves

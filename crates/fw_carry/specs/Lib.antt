@@ -7,3 +7,4 @@ pub mod Transacting
 pub mod Serving
 pub mod Exchanging
 pub mod Cycling
+pub mod Leaving

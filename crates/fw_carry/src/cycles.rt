@@ -22,7 +22,7 @@ ghost use Rattle.fw_machine.specs.Stands.{IsReady, StandsFor};
 ghost use Rattle.fw_machine.specs.Streaming.{AreStillFrom};
 
 use crate::second::{pass_one, pass_second};
-use crate::streams::put_packets;
+use crate::streams::{put_heard, put_packets};
 use fw_async::{Head, Packet, node_id};
 use fw_csr::offset::CYCLE_TIME;
 use fw_devices::Talkers;
@@ -122,7 +122,7 @@ fn put_cycle<F: Fn(u16, u32, u16) -> [u8; 480], H: Fn(u32, u8) -> u8>(
         return put_packets(machine, talkers, &before, desk, &mut room.cycle, &mut None);
     };
     let mut heard = Some(recording);
-    put_packets(machine, talkers, &before, desk, &mut room.cycle, &mut heard);
+    put_heard(machine, talkers, &before, desk, &mut room.cycle, &mut heard);
     keep(machine, &heard);
 }
 

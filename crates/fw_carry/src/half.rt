@@ -1,14 +1,16 @@
 //! One half step of a controller: its request is carried out and it hears the answer, or it says what it does next; and the
 //! loss of an answer.
 
-ghost use Rattle.std.specs.Prelude.{◌≡◌, ◌<◌, ℕ, [], ◌∷◌, IsTrue, IsFalse};
+ghost use Rattle.std.specs.Prelude.{◌≡◌, ◌<◌, ℕ, [], ◌∷◌, IsTrue, IsFalse, OnOk, true, false};
 ghost use Rattle.fw_cmp.specs.Losses.{Awaits};
 ghost use Rattle.fw_run.specs.declared.limits.TheConstants.{MOST_RESETS};
 ghost use Rattle.fw_run.specs.HalfSteps as HalfSteps;
 ghost use Rattle.fw_run.specs.Actions.{Lose};
 ghost use Rattle.fw_carry.specs.Performing.{Performs, Performed, WritesHalf};
+ghost use Rattle.fw_carry.specs.Leaving.{LeavesHalf, WhereNothing};
 ghost use Rattle.fw_carry.specs.Serving.{Serves};
 ghost use Rattle.fw_machine.specs.Giving.{sides_of};
+ghost use Rattle.fw_machine.specs.Halves.{IsHalfFrom};
 ghost use Rattle.fw_machine.specs.Stands.{IsReady, is_living_in};
 ghost use Rattle.fw_machine.specs.Tables.{Listens, dead_of, states_of};
 
@@ -37,6 +39,8 @@ pub(crate) fn turn<K: Sink>(
     ensures time { (machine.new.cycle ≡ machine.old.cycle) }
     ensures half_steps { machine.new.half_steps ≡ machine.old.half_steps }
     ensures names { machine.new.devices.names ≡ machine.old.devices.names }
+    ensures half { LeavesHalf machine.old machine.new device }
+    ensures silent { OnOk result (WhereNothing (K.held sink.old) (K.held sink.new) (machine.new ≡ machine.old)) }
 {
     if machine.controllers.get(device).has_request() {
         hear(machine, device, room, sink)
@@ -59,6 +63,46 @@ fn ask<K: Sink>(
     ensures speaks { WritesHalf HalfSteps.half machine.old machine.new device (sides_of K.held K.faults sink.old sink.new) result }
     ensures same { machine.new ≡ record machine.old { controllers = machine.new.controllers; wire = machine.new.wire } }
     ensures dead { dead_of machine.new.controllers ≡ dead_of machine.old.controllers }
+    ensures half { IsHalfFrom device true machine.old machine.new }
+    ensures silent { OnOk result (WhereNothing (K.held sink.old) (K.held sink.new) (machine.new ≡ machine.old)) }
+{
+    match machine
+        .controllers
+        .ask(device, machine.cycle, &machine.directory)
+    {
+        Some((to, request)) => {
+            let own = machine.number(device);
+            send(
+                own,
+                to,
+                Label::Procedure,
+                &request,
+                &mut machine.wire,
+                &mut room.packet,
+            );
+            give_packet(machine, &mut room.packet, sink)
+        }
+        None => ask_other(machine, device, room, sink),
+    }
+}
+
+/// As `ask`, where the request is not found at once, or none goes out.
+// Not inlined: most half steps send, and a round is faster with their registers alone.
+#[inline(never)]
+fn ask_other<K: Sink>(
+    machine: &mut Machine,
+    device: u8,
+    room: &mut Room,
+    sink: &mut K,
+) -> Result<(), Failed>
+    requires ready { IsReady machine.old }
+    requires living { IsTrue (is_living_in machine.old device) }
+    requires heard { Listens (states_of machine.old.controllers device) }
+    ensures speaks { WritesHalf HalfSteps.half machine.old machine.new device (sides_of K.held K.faults sink.old sink.new) result }
+    ensures same { machine.new ≡ record machine.old { controllers = machine.new.controllers; wire = machine.new.wire } }
+    ensures dead { dead_of machine.new.controllers ≡ dead_of machine.old.controllers }
+    ensures half { IsHalfFrom device true machine.old machine.new }
+    ensures silent { OnOk result (WhereNothing (K.held sink.old) (K.held sink.new) (machine.new ≡ machine.old)) }
 {
     match machine
         .controllers
@@ -102,6 +146,8 @@ pub(crate) fn hear<K: Sink>(
     ensures time { (machine.new.cycle ≡ machine.old.cycle) }
     ensures half_steps { machine.new.half_steps ≡ machine.old.half_steps }
     ensures names { machine.new.devices.names ≡ machine.old.devices.names }
+    ensures half { IsHalfFrom device false machine.old machine.new }
+    ensures written { OnOk result (WhereNothing (K.held sink.old) (K.held sink.new) ⊥) }
 {
     let reply = serve_request(machine, device, &mut room.packet);
     machine.controllers.hear(device, &reply);

@@ -20,3 +20,4 @@ mod tapes;
 mod transact;
 
 pub use carry::carry_out;
+pub use steps::half_step;

@@ -54,6 +54,8 @@ fn round_end(machine: &Machine, living: &[bool; 63], end: u8) -> u8
 
 /// One round: each living controller, in order of declaration, takes one half step. `living` marks those, and `each` is
 /// how many they are. Those from `end` on have nothing to do, so that their half steps are only counted.
+// Not inlined: in `rounds` it would have fewer registers.
+#[inline(never)]
 fn round<K: Sink>(
     machine: &mut Machine,
     living: &[bool; 63],

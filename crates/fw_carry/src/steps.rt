@@ -1,12 +1,14 @@
 //! Half steps, and what is written after a `settle`.
 
-ghost use Rattle.std.specs.Prelude.{◌≡◌, ◌≢◌, ◌≤◌, ◌<◌, ◌+◌, ◌*◌, ℕ, [], ◌∷◌, IsTrue, IsFalse, length};
+ghost use Rattle.std.specs.Prelude.{◌≡◌, ◌≢◌, ◌≤◌, ◌<◌, ◌+◌, ◌*◌, ℕ, [], ◌∷◌, IsTrue, IsFalse, OnOk, length};
 ghost use Rattle.fw_run.specs.declared.limits.TheConstants.{MOST_HALF_STEPS};
 ghost use Rattle.fw_run.specs.Actions.{HalfStep};
 ghost use Rattle.fw_run.specs.Carrying.{times, Carries};
 ghost use Rattle.fw_run.specs.declared.order.Order.TheVariants.{Settle};
+ghost use Rattle.fw_carry.specs.Leaving.{LeavesHalf, WhereNothing};
 ghost use Rattle.fw_carry.specs.Performing.{Performs, Performed, TellsUnsettled};
 ghost use Rattle.fw_machine.specs.Giving.{sides_of};
+ghost use Rattle.fw_machine.specs.Halves.{counted_in};
 ghost use Rattle.fw_machine.specs.Stands.{IsReady, is_living_in, living_in};
 ghost use Rattle.fw_machine.specs.Tables.{states_of};
 
@@ -18,9 +20,10 @@ use fw_machine::entries::unsettled;
 use fw_machine::{Machine, Room, give};
 use fw_outside::{Failed, Sink};
 
-/// One half step of a device's controller, which lives: it writes at most one entry.
+/// One half step of a device's controller, which lives: it writes at most one entry. Of the controllers it changes that one alone, unless
+/// it begins a bus reset, and where it writes nothing it is only counted.
 #[inline(always)]
-pub(crate) fn half_step<K: Sink>(
+pub fn half_step<K: Sink>(
     machine: &mut Machine,
     device: u8,
     room: &mut Room,
@@ -33,6 +36,8 @@ pub(crate) fn half_step<K: Sink>(
     ensures living { (d : ℕ) → is_living_in machine.new d ≡ is_living_in machine.old d }
     ensures names { machine.new.devices.names ≡ machine.old.devices.names }
     ensures count { machine.new.half_steps ≡ machine.old.half_steps + 1 }
+    ensures half { machine.new.devices.epoch ≡ machine.old.devices.epoch → LeavesHalf machine.old machine.new device }
+    ensures silent { OnOk result (WhereNothing (K.held sink.old) (K.held sink.new) (machine.new ≡ counted_in machine.old)) }
 {
     if machine.controllers.is_calm(device) {
         machine.half_steps += 1;
@@ -61,6 +66,8 @@ fn deaf_step<K: Sink>(
     ensures living { (d : ℕ) → is_living_in machine.new d ≡ is_living_in machine.old d }
     ensures names { machine.new.devices.names ≡ machine.old.devices.names }
     ensures count { machine.new.half_steps ≡ machine.old.half_steps + 1 }
+    ensures half { machine.new.devices.epoch ≡ machine.old.devices.epoch → LeavesHalf machine.old machine.new device }
+    ensures silent { OnOk result (WhereNothing (K.held sink.old) (K.held sink.new) (machine.new ≡ counted_in machine.old)) }
 {
     machine.half_steps += 1;
     if is_force(

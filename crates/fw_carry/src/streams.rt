@@ -77,3 +77,25 @@ pub(crate) fn put_packets<F: Fn(u16, u32, u16) -> [u8; 480], H: Fn(u32, u8) -> u
         }
     }
 }
+
+/// The same, if a deck records.
+// Not inlined: the block that is heard then has its place in memory, and no other packet moves it.
+#[inline(never)]
+pub(crate) fn put_heard<F: Fn(u16, u32, u16) -> [u8; 480], H: Fn(u32, u8) -> u8>(
+    machine: &Machine,
+    talkers: &Talkers,
+    before: &Streams,
+    desk: &Desk<F, H>,
+    room: &mut CycleRoom,
+    heard: &mut Option<Recording>,
+)
+    requires ready { IsReady machine.now }
+    requires desk { AnyBlock (F.pre desk.now.blocks) }
+    requires talkers { AreTalkers (length machine.now.devices.nodes) machine.now.devices.nodes talkers.now }
+    requires nothing { IfSome heard.old (λ r. r.block ≡ None) }
+    requires room { length room.old + 32512 ≤ 102632 }
+    ensures puts { PutsIntoRoom (HadSent before.now) (record { blocks = F.post desk.now.blocks; vendor = H.post desk.now.vendor }) (HearsTo 64 heard.old heard.new) machine.now room.old room.new }
+    ensures same { unheard heard.new ≡ unheard heard.old }
+{
+    put_packets(machine, talkers, before, desk, room, heard);
+}

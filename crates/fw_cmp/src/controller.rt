@@ -1,4 +1,4 @@
-ghost use Rattle.std.specs.Prelude.{◌≡◌, ◌<◌, ◌≤◌, ◌^◌, ◌↔◌, ℕ, IsTrue, IsFalse, IfSome};
+ghost use Rattle.std.specs.Prelude.{◌≡◌, ◌<◌, ◌≤◌, ◌^◌, ◌↔◌, ℕ, IsTrue, IsFalse, IfNone, IfSome};
 ghost use Rattle.fw_cmp.specs.declared.directory.Directory.{Directory as BusDirectory};
 ghost use Rattle.fw_cmp.specs.Causes.{IsAtRest, IsHeldBack};
 ghost use Rattle.fw_cmp.specs.Holdings.{CanGoOn};
@@ -9,7 +9,7 @@ ghost use Rattle.fw_cmp.specs.Turns.{addressee_in, is_busy};
 
 use crate::agenda::Agenda;
 use crate::{Directory, Next};
-use fw_csr::{Reply, SPLIT_TIMEOUT};
+use fw_csr::{QuadletAccess, Reply, SPLIT_TIMEOUT};
 use std::marker::Model;
 
 mod starts;
@@ -75,6 +75,28 @@ impl Controller {
             self.asked_at = now;
         }
         next
+    }
+
+    /// The request that goes out in this cycle, and its node's number, where the current job makes one at the stage at which it stands:
+    /// what `next` would do, found at once. None tells nothing, and then nothing changes.
+    #[inline(always)]
+    pub fn ask(&mut self, now: u64, directory: &Directory) -> Option<(u8, QuadletAccess)>
+        requires heard { MayTurn self.old }
+        requires now { now ≤ 2 ^ 52 }
+        requires nodes { HasNodeNumbers directory.now }
+        requires reached { IsFalse self.old.lost → CanGoOn directory.now self.old.state }
+        ensures sends { IfSome result (λ asked. turn_of now directory.now self.old ≡ Next.Send asked.0 asked.1) }
+        ensures state { IfSome result (λ asked. self.new ≡ after_turn now directory.now self.old) }
+        ensures none { IfNone result (self.new ≡ self.old) }
+        ensures fits { ListeningFits self.new }
+        ensures addressee { IfSome result (λ asked. asked.0 < 63) }
+    {
+        if self.lost {
+            return None;
+        }
+        let asked = self.agenda.ask(directory)?;
+        self.asked_at = now;
+        Some(asked)
     }
 
     /// A response was lost: the controller waits for its split timeout, and then forces a bus reset.

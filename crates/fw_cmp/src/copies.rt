@@ -4,6 +4,7 @@ ghost use Rattle.std.specs.Prelude.{◌≡◌, ◌≤◌, ◌+◌, IfOk, IsTrue,
 
 use crate::agenda::Agenda;
 use crate::controller::Controller;
+use crate::marks::{slot_mark, work_mark};
 use crate::work::Work;
 use crate::{Connection, Current, Job, Outcome, Slot, Stage, Task};
 use fw_base::PlugAt;
@@ -153,42 +154,6 @@ pub(crate) fn same_work(current: &Current, other: &Current) -> bool
     }
 }
 
-// A number by which most stages differ.
-fn stage_mark(stage: Stage) -> u32 {
-    match stage {
-        Stage::Begin => 0,
-        Stage::ReadOutput => 1,
-        Stage::ReadChannels(_, word) => word ^ 2,
-        Stage::SwapChannels(_, word, _) => word ^ 3,
-        Stage::ReadBandwidth(_, word) => word ^ 4,
-        Stage::SwapBandwidth(_, _, word, _) => word ^ 5,
-        Stage::ConnectOutput(_, _, word) => word ^ 6,
-        Stage::OverlayOutput(word) => word ^ 7,
-        Stage::ReadInput(flow) => flow.units ^ 8,
-        Stage::ConnectInput(_, word) => word ^ 9,
-        Stage::ReadInputToLeave(_, units) => units ^ 10,
-        Stage::LeaveInput(_, _, word) => word ^ 11,
-        Stage::ReadOutputToLeave(_, _, units) => units ^ 12,
-        Stage::LeaveOutput(_, _, _, word) => word ^ 13,
-        Stage::ReadBandwidthToRelease(_, _, units) => units ^ 14,
-        Stage::RaiseBandwidth(_, _, _, word) => word ^ 15,
-        Stage::ReadChannelsToRelease(_, channel) => u32::from(channel) ^ 16,
-        Stage::RestoreChannel(_, _, word) => word ^ 17,
-        Stage::Made(flow) => flow.units ^ 18,
-        Stage::Ended(_) => 19,
-    }
-}
-
-// A number by which most controllers differ that are at other things.
-fn work_mark(current: Current) -> u32 {
-    match current {
-        Current::Nothing => 0,
-        Current::Asking(_, stage) => stage_mark(stage).wrapping_mul(4).wrapping_add(1),
-        Current::Hearing(_, stage) => stage_mark(stage).wrapping_mul(4).wrapping_add(2),
-        Current::Overtaken(slot, _) => u32::from(slot).wrapping_mul(4).wrapping_add(3),
-    }
-}
-
 impl Agenda {
     fn copy_from(&mut self, other: &Agenda)
         ensures { self.new ≡ other.now }
@@ -252,9 +217,10 @@ impl Part for Controller {
     fn mark(controller: &Controller) -> u64 {
         let agenda = &controller.agenda;
         let waiting = agenda.waiting.len() as u64;
-        mixed(
+        let first = mixed(
             controller.asked_at.wrapping_add(waiting),
-            work_mark(agenda.current.get()),
-        )
+            slot_mark(agenda.slots[0]),
+        );
+        mixed(first, work_mark(agenda.current.get()))
     }
 }

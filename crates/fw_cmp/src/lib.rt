@@ -3,6 +3,7 @@
 #![tactic(auto)]
 
 mod agenda;
+mod ask;
 mod begin;
 mod connection;
 mod controller;
@@ -13,6 +14,7 @@ mod hear;
 mod input;
 mod job;
 mod laws;
+mod marks;
 mod order;
 mod outcome;
 mod output;

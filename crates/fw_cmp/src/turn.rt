@@ -1,46 +1,22 @@
 //! A controller's turn: which job it is at, and whether it sends the next request, ends or has nothing to do.
 
-ghost use Rattle.std.specs.Prelude.{◌≡◌, ◌<◌, ◌↔◌, ℕ, IsTrue, IsFalse, IsSome, IfSome, All, []};
+ghost use Rattle.std.specs.Prelude.{◌≡◌, ◌<◌, ◌↔◌, ℕ, IsTrue, IsFalse, IfSome, All, []};
 ghost use Rattle.fw_cmp.specs.Controllers.{Fits, CurrentFits, IsHeard, IsStanding, is_restoring};
-ghost use Rattle.fw_cmp.specs.Fits.{JobFits, SlotFits, StageFits, TargetFits};
+ghost use Rattle.fw_cmp.specs.Fits.{SlotFits};
 ghost use Rattle.fw_cmp.specs.declared.directory.Directory.{Directory as BusDirectory};
 ghost use Rattle.fw_cmp.specs.Holdings.{CanGoOn, CurrentReached};
 ghost use Rattle.fw_cmp.specs.Causes.{IsAtRest, IsHeldBack};
 ghost use Rattle.fw_cmp.specs.Outcomes.{EndsWithCause};
 ghost use Rattle.fw_cmp.specs.Nodes.{HasNodeNumbers};
-ghost use Rattle.fw_cmp.specs.Requests.{access_at, addressee_of, swap_of};
-ghost use Rattle.fw_cmp.specs.Turns.{addressee_in, slot_after, ended, sending, rests, answer_of, after_answer, next, after_next, is_busy};
+ghost use Rattle.fw_cmp.specs.Turns.{addressee_in, slot_after, ended, rests, answer_of, after_answer, next, after_next, is_busy};
 ghost use Rattle.fw_cmp.specs.Jobs.{picked, resumed_current, going};
 ghost use Rattle.fw_cmp.specs.declared.current.Current.TheVariants.{Asking, Nothing};
 
 use crate::agenda::Agenda;
+use crate::ask::send;
 use crate::order::{can_pick, pick};
 use crate::work::Work;
-use crate::{Current, Directory, Job, Next, Slot, Stage, Target};
-use fw_csr::QuadletAccess;
-
-/// The request of a stage goes to the node of its register. The register is looked up before the swap is put together, so that
-/// each kind of register is told apart once.
-#[inline(always)]
-fn send(directory: &Directory, job: &Job, stage: &Stage, target: Target) -> Next
-    requires job { JobFits job.now }
-    requires fits { StageFits job.now stage.now }
-    requires target { TargetFits target }
-    requires nodes { HasNodeNumbers directory.now }
-    requires reached { IsSome (addressee_of directory.now target) }
-    ensures value { result ≡ sending (addressee_of directory.now target) (access_at (swap_of job.now stage.now) target) }
-    ensures addressee { IfSome (addressee_in result) (λ to. to < 63) }
-{
-    let addressee = directory.addressee(target);
-    let offset = target.offset();
-    match addressee {
-        Some(to) => Next::Send {
-            to,
-            request: QuadletAccess::new(offset, job.swap(stage)),
-        },
-        None => unreachable!(),
-    }
-}
+use crate::{Current, Directory, Job, Next, Slot, Stage};
 
 /// The current job goes on from its stage: it begins where it has not, and ends where it restores too late.
 fn resume(directory: &Directory, slots: &[Slot; 32], current: Current) -> Current
@@ -107,7 +83,7 @@ impl Agenda {
     }
 
     /// A job is current, whose request does not stand.
-    fn has_job(&self) -> bool
+    pub(crate) fn has_job(&self) -> bool
         requires heard { IsHeard self.now.current }
         ensures none { IsFalse result → self.now.current ≡ Nothing }
         ensures some { (now : ℕ) → (d : BusDirectory) → IsTrue result → picked now d self.now ≡ self.now }
@@ -141,7 +117,7 @@ impl Agenda {
     }
 
     /// The current job goes on from another stage than that at which it stands: it begins, or restores too late.
-    fn turns(&self) -> bool
+    pub(crate) fn turns(&self) -> bool
         requires heard { IsHeard self.now.current }
         ensures stays { (d : BusDirectory) → IsFalse result → going d self.now ≡ self.now }
         ensures fits { Fits self.now }

@@ -15,7 +15,8 @@ ghost use Rattle.fw_decode.specs.Texts.{explained_form};
 ghost use Rattle.fw_reports.specs.Silences.{never_refused};
 
 use crate::LogRefusal;
-use fw_explain::Explainer;
+use fw_cip::whole_iso;
+use fw_explainer::Explainer;
 use fw_log::{LogReader, PlainBody, Room, Timed};
 use fw_outside::{Failed, Sink, Source};
 use fw_reading::{Closing, LogEnding, Reading, Stop, read_log};
@@ -64,25 +65,20 @@ fn put_reset(
 }
 
 // Appends the line of an entry of this cycle that has this body.
-fn put_body<'a>(
+fn put_body(
     explainer: &mut Explainer,
-    whole: &'a mut WholeRoom,
+    whole: &mut WholeRoom,
     cycle: u64,
-    body: &PlainBody<'a>,
+    body: &PlainBody,
 ) -> Result<(), AllocError>
     requires { (e : AnEntry) × HasBody body.now e }
     ensures line { (e : AnEntry) → HasBody body.now e → OnOk result (explainer.new.text ≡ explainer.old.text ++ line explainer.old.requests (record { cycle = cycle; what = e })) }
     ensures requests { (e : AnEntry) → HasBody body.now e → OnOk result (explainer.new.requests ≡ standing_after e explainer.old.requests) }
 {
     match body {
+        PlainBody::Packet(bytes) => explainer.put_packet_from(cycle, bytes.as_slice()),
+        PlainBody::Iso(bytes) => explainer.put_iso_from(cycle, &whole_iso(bytes.as_slice())),
         PlainBody::Reset(bytes) => put_reset(explainer, whole, cycle, bytes.as_slice()),
-        _ => {
-            let entry = Timed {
-                cycle,
-                what: whole.make(body),
-            };
-            explainer.put(&entry)
-        }
     }
 }
 

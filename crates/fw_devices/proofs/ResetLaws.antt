@@ -1,9 +1,11 @@
 -- What the steps of a bus reset make of a network.
-use Rattle.std.proofs.Common.{◌≡◌, ℕ, ◌+◌, ◌<◌, ◌≤◌, ◌&&◌, List, length, slice_get, Option, Some, None, arith, refl, sym, ap, subst, ◌∙◌}
+use Rattle.std.proofs.Common.{◌≡◌, ℕ, ◌+◌, ◌<◌, ◌≤◌, ◌&&◌, List, length, map, slice_get, Option, Some, None, arith, refl, sym, ap, subst, ◌∙◌}
 use Rattle.std.specs.Option.{option_map}
 use Rattle.std.proofs.lemmas.List.{length-map, get_or_default, same_lists}
 use Rattle.fw_base.specs.declared.device.DeviceKind.{DeviceKind}
 use Rattle.fw_base.specs.declared.device.DeviceKind.TheVariants.{Relay}
+use Rattle.fw_phy.specs.Phy.{begun_by}
+use Rattle.fw_phy.specs.declared.packet.PhyPacket.{PhyPacket}
 use Rattle.fw_entry.specs.declared.entry.ResetEntry.{ResetEntry}
 use Rattle.fw_entry.specs.declared.nodes.NodeRow.{NodeRow}
 use Rattle.fw_tree.specs.declared.numbering.Numbering.{Numbering}
@@ -108,6 +110,19 @@ kinds_same old new s = same_lists (kinds_of new) (kinds_of old) (length-map new 
 
 pub found_same : (t : Topology) (n : Numbering) (manager : Option ℕ) (e : ResetEntry) (old new : List NodeState) → AreSameDevices old new → IsFound t (kinds_of old) n manager e → IsFound t (kinds_of new) n manager e
 found_same t n manager e old new s h = let P : List DeviceKind → Type 0 = λ kinds. IsFound t kinds n manager e in subst P (sym (kinds_same old new s)) h
+
+pub found_taken : (t : Topology) (kinds : List DeviceKind) (n : Numbering) (manager : Option ℕ) (e : ResetEntry) (initiator node epoch : ℕ) (ids : List PhyPacket) → number_at n.number initiator ≡ Some node
+    → ids ≡ map (begun_by node) e.ids → IsFound t kinds n manager e → IsFound t kinds n manager (record e { epoch = epoch; initiator = node; ids = ids })
+found_taken t kinds n manager e initiator node epoch ids at are h = record {
+  numbered = h.numbered;
+  manages = h.manages;
+  root = h.root;
+  manager_is = h.manager_is;
+  size = h.size;
+  rows = h.rows;
+  initiator = initiator;
+  ids = rw are (packets_begun t.devices t.cables n.number n.parent_port h.initiator initiator node n.count e.ids h.numbered.nodes.one at h.ids);
+}
 
 pub found_begun : (t : Topology) (kinds : List DeviceKind) (n : Numbering) (manager : Option ℕ) (e : ResetEntry) (initiator node : ℕ) → number_at n.number initiator ≡ Some node → IsFound t kinds n manager e → IsFound t kinds n manager (begun node e)
 found_begun t kinds n manager e initiator node at h = record {

@@ -1,11 +1,14 @@
 //! The bus as tree identification and self-identification find it, kept until a device or a cable comes.
 
-ghost use Rattle.std.specs.Prelude.{◌≡◌, ◌+◌, ◌<◌, ◌≤◌, ◌^◌, ℕ, Some, None, IfSome, true, false, length, slice_get};
+ghost use Rattle.std.specs.Prelude.{◌≡◌, ◌+◌, ◌<◌, ◌≤◌, ◌^◌, ℕ, List, Some, None, IfSome, IsTrue, true, false, length, slice_get};
+ghost use Rattle.fw_base.specs.declared.device.DeviceKind.{DeviceKind as Kind};
+ghost use Rattle.fw_tree.specs.Topology.{Topology};
 ghost use Rattle.fw_tree.specs.Numbers.{AreNodes, has_number, number_at};
 ghost use Rattle.fw_devices.specs.Network.{AreKinds, kinds_of, kind_at, no_entry};
 ghost use Rattle.fw_devices.specs.Entries.{begun, row_of, number_of};
 ghost use Rattle.fw_devices.specs.Kept.{IsFound};
 
+use crate::MOST_DEVICES;
 use fw_base::DeviceKind;
 use fw_entry::{NodeList, NodeRow, ResetEntry};
 use fw_node::Node;
@@ -29,6 +32,16 @@ fn number_where(numbering: &Numbering, device: Option<u8>) -> Option<u8>
     ensures { result ≡ number_of numbering.now.number device }
 {
     numbering.number[usize::from(device?)]
+}
+
+// A number that is found to be that of a device is.
+fn is_number(numbering: &Numbering, device: u8, node: u8) -> bool
+    ensures { IsTrue result → number_at numbering.now.number device ≡ Some node }
+{
+    if usize::from(device) >= MOST_DEVICES {
+        return false;
+    }
+    numbering.number[usize::from(device)] == Some(node)
 }
 
 fn row_of(device: u8, kind: DeviceKind) -> NodeRow
@@ -137,5 +150,40 @@ impl Bus {
         self.entry.ids.set_initiator(node);
         self.entry.initiator = node;
         self.entry.epoch += 1;
+    }
+
+    // If the entry of another bus reset has its initiator under the same number, that bus reset is the latest one by epoch, initiator
+    // and packets.
+    fn take_initiator(&mut self, entry: &ResetEntry)
+        ensures same { self.new ≡ record self.old { entry = self.new.entry } }
+        ensures found { (t : Topology) (kinds : List Kind) → IsFound t kinds self.old.numbering self.old.manager self.old.entry
+            → IsFound t kinds self.new.numbering self.new.manager self.new.entry }
+    {
+        let node = entry.initiator;
+        let Some(row) = entry.nodes.as_slice().get(usize::from(node)) else {
+            return;
+        };
+        if !is_number(&self.numbering, row.device, node) {
+            return;
+        }
+        self.entry.ids.set_initiator(node);
+        self.entry.initiator = node;
+        self.entry.epoch = entry.epoch;
+    }
+
+    /// The latest bus reset is another one. What was found stays current if it is so of that one too.
+    pub fn change(&mut self, entry: &ResetEntry, manager: Option<u8>)
+        ensures entry { self.new.entry ≡ entry.now }
+        ensures manager { self.new.manager ≡ manager }
+        ensures found { (t : Topology) (kinds : List Kind) → (self.old.current ≡ true → IsFound t kinds self.old.numbering self.old.manager self.old.entry)
+            → self.new.current ≡ true → IsFound t kinds self.new.numbering self.new.manager self.new.entry }
+    {
+        self.take_initiator(entry);
+        if self.manager == manager && self.entry.is_same(entry) {
+            return;
+        }
+        self.entry.copy_from(entry);
+        self.manager = manager;
+        self.current = false;
     }
 }

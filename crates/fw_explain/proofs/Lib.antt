@@ -1,4 +1,3 @@
 pub mod LoopLaws
 pub mod StandingLaws
 pub mod LatestLaws
-pub mod TailLaws

@@ -60,9 +60,9 @@ fn put_presence(text: &mut Vec<u8>, has: bool) -> Result<(), AllocError>
     put_word(text, if has { " block" } else { " empty" })
 }
 
-// Appends an isochronous packet.
+/// Appends an isochronous packet as a line tells it after its cycle. An error says that memory ran out, and comes for nothing else.
 #[tactic(auto, unfolding(crate::specs::Lines::iso_text))]
-pub(crate) fn put_iso(text: &mut Vec<u8>, pairs: &Pairs, p: &IsoPacket) -> Result<(), AllocError>
+pub fn put_iso(text: &mut Vec<u8>, pairs: &Pairs, p: &IsoPacket) -> Result<(), AllocError>
     ensures { OnOk result (text.new.items ≡ text.old.items ++ iso_text p.now) }
 {
     put_stream(text, p)?;

@@ -1,21 +1,18 @@
 //! The entries of a log in words, a line each: the cycle, and then what happened. A response is told by the request that it
-//! answers, so the requests that stand are kept from entry to entry.
+//! answers, so each line is a function of the requests that stand before its entry.
 #![tactic(auto)]
 
 mod events;
-mod explainer;
-mod latest;
 mod line;
-mod lines;
 mod lock;
-mod memo;
 mod packet;
 mod parts;
 mod reset;
 mod response;
 mod tail;
 
-pub use events::{put_event, put_outcome, put_saying, put_shown, put_tape, put_value};
-pub use explainer::Explainer;
-pub use packet::head_of;
-pub use reset::{put_further, put_manager, put_row, put_self};
+pub use events::{put_event, put_iso, put_outcome, put_saying, put_shown, put_tape, put_value};
+pub use line::put_what;
+pub use packet::{head_of, put_head};
+pub use reset::{put_epoch, put_further, put_later, put_manager, put_row, put_self};
+pub use tail::{Tail, TailWords, put_tail};

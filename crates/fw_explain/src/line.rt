@@ -4,7 +4,6 @@ ghost use Rattle.std.specs.Prelude.{◌≡◌, ◌++◌, OnOk};
 ghost use Rattle.fw_explain.specs.Lines.{what_text};
 
 use crate::events::{put_event, put_iso, put_outcome, put_shown};
-use crate::memo::Memo;
 use crate::packet::put_packet;
 use crate::reset::put_reset;
 use fw_entry::Entry;
@@ -12,12 +11,12 @@ use fw_names::{Pairs, put_word};
 use fw_requests::Requests;
 use std::alloc::AllocError;
 
-// Appends what an entry records, by the requests that stand before it.
+/// Appends what an entry records, by the requests that stand before it: its line between the cycle and the line feed. An error says
+/// that memory ran out, and comes for nothing else.
 #[tactic(auto, unfolding(crate::specs::Lines::what_text))]
-pub(crate) fn put_what(
+pub fn put_what(
     text: &mut Vec<u8>,
     pairs: &Pairs,
-    memo: &mut Memo,
     requests: &Requests,
     what: &Entry,
 ) -> Result<(), AllocError>
@@ -25,7 +24,7 @@ pub(crate) fn put_what(
 {
     match what {
         Entry::Reset(reset) => put_reset(text, reset.get()),
-        Entry::Async(packet) => put_packet(text, pairs, memo, requests, packet),
+        Entry::Async(packet) => put_packet(text, pairs, requests, packet),
         Entry::Iso(packet) => put_iso(text, pairs, packet),
         Entry::Event(event) => put_event(text, event),
         Entry::Outcome(outcome) => put_outcome(text, pairs, outcome),

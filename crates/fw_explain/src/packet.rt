@@ -5,10 +5,8 @@ ghost use Rattle.fw_async.specs.Heads.{head_of};
 ghost use Rattle.fw_explain.specs.Lines.{takes_frames, written_quadlet, written_block, at_text, details, head_text, packet_text};
 
 use crate::lock::{put_at, put_lock};
-use crate::memo::Memo;
 use crate::parts::{put_block, put_part};
 use crate::response::put_response;
-use crate::tail::tail_of;
 use fw_async::{Head, Packet};
 use fw_frames::put_frame;
 use fw_names::{Pairs, put_node, put_number, put_word, tcode_name};
@@ -29,7 +27,7 @@ fn takes_frames(place: Place) -> bool
 
 // Appends a quadlet that is written, where it is written to.
 #[tactic(auto, unfolding(crate::specs::Lines::written_quadlet))]
-fn put_written_quadlet(
+pub(crate) fn put_written_quadlet(
     text: &mut Vec<u8>,
     pairs: &Pairs,
     place: Place,
@@ -47,7 +45,7 @@ fn put_written_quadlet(
 
 // Appends a block that is written, where it is written to.
 #[tactic(auto, unfolding(crate::specs::Lines::written_block))]
-fn put_written_block(
+pub(crate) fn put_written_block(
     text: &mut Vec<u8>,
     pairs: &Pairs,
     place: Place,
@@ -118,9 +116,9 @@ pub fn head_of(p: &Packet) -> Head
     }
 }
 
-// Appends from whom a packet goes to whom, and its label.
+/// Appends from whom a packet goes to whom, and its label. An error says that memory ran out, and comes for nothing else.
 #[tactic(auto, unfolding(crate::specs::Lines::head_text))]
-fn put_head(text: &mut Vec<u8>, pairs: &Pairs, head: &Head) -> Result<(), AllocError>
+pub fn put_head(text: &mut Vec<u8>, pairs: &Pairs, head: &Head) -> Result<(), AllocError>
     ensures { OnOk result (text.new.items ≡ text.old.items ++ head_text head.now) }
 {
     put_node(text, pairs, head.source)?;
@@ -134,16 +132,12 @@ fn put_head(text: &mut Vec<u8>, pairs: &Pairs, head: &Head) -> Result<(), AllocE
 pub(crate) fn put_packet(
     text: &mut Vec<u8>,
     pairs: &Pairs,
-    memo: &mut Memo,
     requests: &Requests,
     p: &Packet,
 ) -> Result<(), AllocError>
     ensures { OnOk result (text.new.items ≡ text.old.items ++ packet_text requests.now p.now) }
 {
     put_head(text, pairs, &head_of(p))?;
-    if let Some(tail) = tail_of(requests, p) {
-        return memo.put(text, pairs, &tail);
-    }
     put_word(text, " ")?;
     put_word(text, tcode_name(p))?;
     put_details(text, pairs, requests, p)

@@ -195,9 +195,9 @@ pub fn put_manager(text: &mut Vec<u8>, manager: Option<u8>) -> Result<(), AllocE
     }
 }
 
-// Appends the number of a bus reset.
+/// Appends the number of a bus reset. An error says that memory ran out, and comes for nothing else.
 #[tactic(auto, unfolding(crate::specs::Resets::epoch_text))]
-pub(crate) fn put_epoch(text: &mut Vec<u8>, epoch: u32) -> Result<(), AllocError>
+pub fn put_epoch(text: &mut Vec<u8>, epoch: u32) -> Result<(), AllocError>
     ensures { OnOk result (text.new.items ≡ text.old.items ++ epoch_text epoch) }
 {
     put_part(text, "bus reset epoch ", u64::from(epoch))
@@ -228,9 +228,9 @@ fn put_initiator(text: &mut Vec<u8>, initiator: u8) -> Result<(), AllocError>
     put_part(text, ", initiator node ", u64::from(initiator))
 }
 
-// Appends a bus reset after its number.
+/// Appends a bus reset after its number. An error says that memory ran out, and comes for nothing else.
 #[tactic(auto, unfolding(crate::specs::Resets::later_text))]
-pub(crate) fn put_later(text: &mut Vec<u8>, r: &ResetEntry) -> Result<(), AllocError>
+pub fn put_later(text: &mut Vec<u8>, r: &ResetEntry) -> Result<(), AllocError>
     ensures { OnOk result (text.new.items ≡ text.old.items ++ later_text r.now) }
 {
     put_root(text, r.root)?;

@@ -1,27 +1,21 @@
-//! The usual packets of transactions of one quadlet, without their heads.
+//! What the usual packets say after their heads. Many packets of a log say the same.
 
-ghost use Rattle.std.specs.Prelude.{◌≡◌, ◌++◌, [], IfSome, IsTrue, OnOk, codes, length};
-ghost use Rattle.fw_names.specs.Names.{tcode_name};
-ghost use Rattle.fw_explain.specs.Lines.{details, lock_text, locked_text, read_text, response_text};
-ghost use Rattle.fw_requests.specs.Requests.{answered};
-ghost use Rattle.fw_explain.specs.Tails.{brought_text, change_text, changed_text, reading_text, tail_text, written_text};
-ghost use Rattle.fw_requests.specs.declared.asked.Answer.TheVariants.{Write as WriteResponse, ReadQuadlet as ReadQuadletResponse, Lock as LockResponse};
-ghost use Rattle.fw_registers.specs.Places.{place_of};
-ghost use Rattle.fw_words.specs.Swaps.{quadlet_swap};
+ghost use Rattle.std.specs.Prelude.{◌≡◌, ◌++◌, OnOk};
+ghost use Rattle.std.specs.Int.{to_be_bytes, w32};
+ghost use Rattle.fw_explain.specs.Tails.{brought_text, change_text, changed_text, failed_text, pair_text, reading_text, tail_text, write_text, written_text};
 
 use crate::lock::{put_at, put_function, put_swap, put_swapped};
+use crate::packet::{put_written_block, put_written_quadlet};
 use crate::response::{COMPLETE, put_rcode};
-use fw_async::{Head, Packet};
 use fw_names::{Pairs, put_word};
 use fw_registers::{Place, put_register_word};
-use fw_requests::{Answer, Requests};
-use fw_words::{COMPARE_SWAP, Swap, quadlet_at};
+use fw_words::{COMPARE_SWAP, Swap};
 use std::alloc::AllocError;
 
-/// What a packet says after its head, if it is a read of a quadlet, a compare_swap of one, or a response to such a request that
-/// stands, and is complete. Many packets of a log say the same.
+/// What a packet says after its head, if it is a request of a quadlet, a write of a short block, or a response to such a request that
+/// stands.
 #[derive(Clone, Copy)]
-pub(crate) struct Tail {
+pub struct Tail {
     /// The offset of the request, 48 bits.
     pub offset: u64,
     pub words: TailWords,
@@ -29,111 +23,23 @@ pub(crate) struct Tail {
 
 /// What kind of packet it is, and the words that it has.
 #[derive(Clone, Copy)]
-pub(crate) enum TailWords {
-    /// A read.
+pub enum TailWords {
+    /// A read of a quadlet.
     Read,
     /// What it brings.
     Value(u32),
-    /// A compare_swap.
+    /// That it brings nothing: its response code.
+    NoValue(u8),
+    /// A compare_swap of a quadlet.
     Swap(Swap),
     /// The word that it found.
     Old(Swap, u32),
-    /// The response to a write.
-    Written,
-}
-
-// That of the response to a read.
-fn value_tail(requests: &Requests, head: &Head, rcode: u8, value: u32) -> Option<Tail>
-    ensures { IfSome result (λ t. tail_text t ≡ codes " read_quadlet_response" ++ response_text (answered ReadQuadletResponse head.now requests.now) rcode (read_text (answered ReadQuadletResponse head.now requests.now) value)) }
-{
-    if rcode != COMPLETE {
-        return None;
-    }
-    let asked = requests.answered(Answer::ReadQuadlet, head)?;
-    Some(Tail {
-        offset: asked.offset,
-        words: TailWords::Value(value),
-    })
-}
-
-// The response is that of a complete compare_swap of a quadlet.
-fn is_old_word(rcode: u8, function: u8, bytes: &[u8]) -> bool
-    ensures { IsTrue result → (rcode ≡ 0) × (function ≡ 2) × (length bytes.now ≡ 4) }
-{
-    rcode == COMPLETE && function == COMPARE_SWAP && bytes.len() == 4
-}
-
-// That of the response to a compare_swap.
-fn old_tail(requests: &Requests, head: &Head, rcode: u8, function: u8, bytes: &[u8]) -> Option<Tail>
-    ensures { IfSome result (λ t. tail_text t ≡ codes " lock_response" ++ locked_text (answered LockResponse head.now requests.now) rcode function bytes.now) }
-{
-    if !is_old_word(rcode, function, bytes) {
-        return None;
-    }
-    let asked = requests.answered(Answer::Lock, head)?;
-    let swap = asked.swap?;
-    Some(Tail {
-        offset: asked.offset,
-        words: TailWords::Old(swap, quadlet_at(bytes, 0).0),
-    })
-}
-
-// That of the response to a write.
-fn written_tail(requests: &Requests, head: &Head, rcode: u8) -> Option<Tail>
-    ensures { IfSome result (λ t. tail_text t ≡ codes " write_response" ++ response_text (answered WriteResponse head.now requests.now) rcode []) }
-{
-    if rcode != COMPLETE {
-        return None;
-    }
-    let asked = requests.answered(Answer::Write, head)?;
-    Some(Tail {
-        offset: asked.offset,
-        words: TailWords::Written,
-    })
-}
-
-// That of a compare_swap.
-fn swap_tail(offset: u64, function: u8, bytes: &[u8]) -> Option<Tail>
-    ensures { IfSome result (λ t. tail_text t ≡ codes " lock_request" ++ lock_text (place_of offset) function bytes.now (quadlet_swap function bytes.now)) }
-{
-    if function != COMPARE_SWAP {
-        return None;
-    }
-    let swap = Swap::of_lock(function, bytes)?;
-    Some(Tail {
-        offset,
-        words: TailWords::Swap(swap),
-    })
-}
-
-/// What a packet says after its head, if it is one of the usual packets.
-#[tactic(auto, unfolding(crate::specs::Lines::details, crate::specs::Lines::response_details, crate::specs::Tails::words_text))]
-pub(crate) fn tail_of(requests: &Requests, p: &Packet) -> Option<Tail>
-    ensures { IfSome result (λ t. tail_text t ≡ codes " " ++ tcode_name p.now ++ details requests.now p.now) }
-{
-    match p {
-        Packet::ReadQuadlet { offset, .. } => Some(Tail {
-            offset: *offset,
-            words: TailWords::Read,
-        }),
-        Packet::Lock {
-            offset,
-            function,
-            bytes,
-            ..
-        } => swap_tail(*offset, *function, bytes.as_slice()),
-        Packet::ReadQuadletReply { head, rcode, value } => {
-            value_tail(requests, head, *rcode, *value)
-        }
-        Packet::LockReply {
-            head,
-            rcode,
-            function,
-            bytes,
-        } => old_tail(requests, head, *rcode, *function, bytes.as_slice()),
-        Packet::WriteReply { head, rcode } => written_tail(requests, head, *rcode),
-        _ => None,
-    }
+    /// A write of a quadlet.
+    Write(u32),
+    /// A write of a block of two quadlets, as most frames are.
+    WritePair(u32, u32),
+    /// The response to a write: its code.
+    Written(u8),
 }
 
 // Appends a read.
@@ -190,19 +96,62 @@ fn put_changed(
     put_swapped(text, pairs, place, s, old)
 }
 
-// Appends that a write is complete.
-#[tactic(auto, unfolding(crate::specs::Tails::written_text))]
-fn put_written(text: &mut Vec<u8>, pairs: &Pairs, place: Place) -> Result<(), AllocError>
-    ensures { OnOk result (text.new.items ≡ text.old.items ++ written_text place) }
+// Appends that a read brings nothing.
+#[tactic(auto, unfolding(crate::specs::Tails::failed_text))]
+fn put_failed(text: &mut Vec<u8>, pairs: &Pairs, place: Place, rcode: u8) -> Result<(), AllocError>
+    ensures { OnOk result (text.new.items ≡ text.old.items ++ failed_text place rcode) }
 {
-    put_word(text, " write_response")?;
-    put_rcode(text, COMPLETE)?;
+    put_word(text, " read_quadlet_response")?;
+    put_rcode(text, rcode)?;
     put_at(text, pairs, place)
 }
 
-/// Appends what a packet says after its head.
+// Appends a write of a quadlet.
+#[tactic(auto, unfolding(crate::specs::Tails::write_text))]
+fn put_write(text: &mut Vec<u8>, pairs: &Pairs, place: Place, value: u32) -> Result<(), AllocError>
+    ensures { OnOk result (text.new.items ≡ text.old.items ++ write_text place value) }
+{
+    put_word(text, " write_quadlet_request")?;
+    put_written_quadlet(text, pairs, place, value)
+}
+
+// The bytes of two quadlets.
+fn pair_bytes(first: u32, second: u32) -> [u8; 8]
+    ensures { result ≡ to_be_bytes w32 first ++ to_be_bytes w32 second }
+{
+    let [a, b, c, d] = first.to_be_bytes();
+    let [e, f, g, h] = second.to_be_bytes();
+    [a, b, c, d, e, f, g, h]
+}
+
+// Appends a write of a block of two quadlets.
+#[tactic(auto, unfolding(crate::specs::Tails::pair_text))]
+fn put_pair(
+    text: &mut Vec<u8>,
+    pairs: &Pairs,
+    place: Place,
+    first: u32,
+    second: u32,
+) -> Result<(), AllocError>
+    ensures { OnOk result (text.new.items ≡ text.old.items ++ pair_text place first second) }
+{
+    put_word(text, " write_block_request")?;
+    put_written_block(text, pairs, place, &pair_bytes(first, second))
+}
+
+// Appends the response to a write.
+#[tactic(auto, unfolding(crate::specs::Tails::written_text))]
+fn put_written(text: &mut Vec<u8>, pairs: &Pairs, place: Place, rcode: u8) -> Result<(), AllocError>
+    ensures { OnOk result (text.new.items ≡ text.old.items ++ written_text place rcode) }
+{
+    put_word(text, " write_response")?;
+    put_rcode(text, rcode)?;
+    put_at(text, pairs, place)
+}
+
+/// Appends what a packet says after its head. An error says that memory ran out, and comes for nothing else.
 #[tactic(auto, unfolding(crate::specs::Tails::words_text))]
-pub(crate) fn put_tail(text: &mut Vec<u8>, pairs: &Pairs, tail: &Tail) -> Result<(), AllocError>
+pub fn put_tail(text: &mut Vec<u8>, pairs: &Pairs, tail: &Tail) -> Result<(), AllocError>
     ensures { OnOk result (text.new.items ≡ text.old.items ++ tail_text tail.now) }
 {
     let place = Place::of(tail.offset);
@@ -211,6 +160,9 @@ pub(crate) fn put_tail(text: &mut Vec<u8>, pairs: &Pairs, tail: &Tail) -> Result
         TailWords::Value(value) => put_brought(text, pairs, place, value),
         TailWords::Swap(s) => put_change(text, pairs, place, s),
         TailWords::Old(s, old) => put_changed(text, pairs, place, s, old),
-        TailWords::Written => put_written(text, pairs, place),
+        TailWords::NoValue(rcode) => put_failed(text, pairs, place, rcode),
+        TailWords::Write(value) => put_write(text, pairs, place, value),
+        TailWords::WritePair(first, second) => put_pair(text, pairs, place, first, second),
+        TailWords::Written(rcode) => put_written(text, pairs, place, rcode),
     }
 }

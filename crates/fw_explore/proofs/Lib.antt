@@ -5,3 +5,4 @@ pub mod Numbers
 pub mod PastForms
 pub mod KeyForms
 pub mod BehindForms
+pub mod SinceLaws

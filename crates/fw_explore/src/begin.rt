@@ -10,6 +10,7 @@ use crate::step::Walker;
 use fw_bus::Bus;
 use fw_endings::Rows;
 use fw_levels::Levels;
+use fw_names::Pairs;
 use fw_outside::GrowSink;
 use fw_parts::{Full, Table};
 use fw_told::Past;
@@ -23,7 +24,7 @@ impl<P: Keeper> Walker<P> {
     {
         let past = Past::new(self.alloc);
         let number = self.pasts.keep(0, &past)?;
-        self.kept.keep(&[])?;
+        self.kept.keep()?;
         self.put_key(number, 0)?;
         Ok(())
     }
@@ -50,6 +51,7 @@ pub(crate) fn begin<P: Keeper>(
         pasts: Table::new(alloc)?,
         here: Vec::new(alloc),
         key: Vec::new(alloc),
+        pairs: Pairs::new(),
     };
     walker.first_key()?;
     let levels = Levels::new(alloc, most, walker.key.as_slice())?;

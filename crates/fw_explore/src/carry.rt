@@ -12,6 +12,7 @@ ghost use Rattle.fw_explored.specs.Steps.{CarriesOn};
 
 use crate::keeper::Keeper;
 use crate::kept_bus::KeptBus;
+use crate::since::{Since, is_nothing};
 use fw_bus::{BusFault, RuleFault};
 use fw_command::Command;
 use fw_outside::GrowSink;
@@ -36,9 +37,14 @@ impl<P: Keeper> KeptBus<P> {
         ensures places { self.new.places ≡ self.old.places }
     {
         sink.clear();
-        self.stands = false;
-        match self.bus.apply(command, sink, desk) {
-            Ok(()) => Ok(None),
+        let since = self.since;
+        self.since = Since::Any;
+        match self.bus.change(command, sink, desk) {
+            Ok(changed) => {
+                let silent = is_nothing(sink.as_slice());
+                self.since = since.after(changed, silent);
+                Ok(None)
+            }
             Err(BusFault::Refused(rule)) => Ok(Some(rule)),
             Err(BusFault::WriteFault) => Err(Full::NoMemory),
         }

@@ -39,7 +39,7 @@ impl<P: Keeper> Walker<P> {
             MoverKind::Once => return Ok(false),
             MoverKind::HalfSteps => {}
         }
-        self.kept.give_back(&self.here[2..]);
+        self.kept.give_back(&self.here[2..])?;
         if self
             .kept
             .carry(&mut self.sink, &this.command, desk)?

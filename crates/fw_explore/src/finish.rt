@@ -103,7 +103,7 @@ impl<P: Keeper> Walker<P> {
         ensures here { self.new.here ≡ self.old.here }
     {
         let mut past = self.past().copied(self.alloc)?;
-        self.kept.give_back(&self.here[2..]);
+        self.kept.give_back(&self.here[2..])?;
         let mut refused = Vec::new(self.alloc);
         let mut lines = Vec::new(self.alloc);
         let behind = explored.behind.as_slice();
@@ -123,7 +123,7 @@ impl<P: Keeper> Walker<P> {
         ensures { IfOk result (λ t. t.items ≡ said_all past.now.said ++ unmarked_from past.now.done 0 explored.now.movers.items ++ refused.now) }
     {
         let mut ending = Vec::new(self.alloc);
-        put_said(&mut ending, past.said())?;
+        put_said(&mut ending, &self.pairs, past.said())?;
         put_left(&mut ending, explored.movers.as_slice(), past.done())?;
         ending.extend_from_slice(refused)?;
         Ok(ending)

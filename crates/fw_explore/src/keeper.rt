@@ -4,6 +4,7 @@ ghost use Rattle.std.specs.Prelude.{◌≡◌, ℕ, List, OnOk, IsFalse};
 ghost use Rattle.fw_machine.specs.declared.machine.Machine.{Machine};
 ghost use Rattle.fw_run.specs.State.{State};
 ghost use Rattle.fw_bus.specs.Buses.{StandsFor};
+ghost use Rattle.fw_bus.specs.Changes.{IsHalfFrom, counted_in};
 
 use fw_bus::Bus;
 use fw_parts::Full;
@@ -18,10 +19,31 @@ pub trait Keeper: Drop {
         ensures place { OnOk result (Kept self.new out.new.items bus.now.machine) }
         ensures wider { OnOk result ((words : List ℕ) (m : Machine) → Kept self.old words m → Kept self.new words m) };
 
+    /// Keeps, as `keep`, a bus that is one half step of a device's controller after one that was kept under `now`. If that controller asks,
+    /// no request of it stood before.
+    fn keep_half(
+        &mut self,
+        bus: &Bus,
+        now: &[u32],
+        device: u8,
+        asks: bool,
+        out: &mut Vec<u32>,
+    ) -> Result<(), Full>
+        requires fresh { IsFalse bus.now.spent }
+        requires now { (m : Machine) × Kept self.old now.now m × IsHalfFrom device asks m bus.now.machine }
+        ensures place { OnOk result (Kept self.new out.new.items bus.now.machine) }
+        ensures wider { OnOk result ((words : List ℕ) (m : Machine) → Kept self.old words m → Kept self.new words m) };
+
+    /// A bus that a half step only counted on from where it was kept stands there again.
+    fn take_back(&self, now: &[u32], bus: &mut Bus)
+        requires { (m : Machine) × Kept self.now now.now m × (bus.old.machine ≡ counted_in m) }
+        ensures { Kept self.now now.now bus.new.machine };
+
     /// A bus comes back to what was kept under these numbers: it stands then for each state for which that one stood.
     fn give_back(&self, words: &[u32], bus: &mut Bus)
         requires { (m : Machine) × Kept self.now words.now m }
         ensures stands { (m : Machine) (s : State) → Kept self.now words.now m → StandsFor m s → StandsFor bus.new.machine s }
+        ensures place { Kept self.now words.now bus.new.machine }
         ensures fresh { IsFalse bus.new.spent };
 
     /// A bus that stands where it was kept comes back, as by `give_back`, to what was kept under other numbers.
@@ -29,5 +51,6 @@ pub trait Keeper: Drop {
         requires now { Kept self.now now.now bus.old.machine }
         requires kept { (m : Machine) × Kept self.now words.now m }
         ensures stands { (m : Machine) (s : State) → Kept self.now words.now m → StandsFor m s → StandsFor bus.new.machine s }
+        ensures place { Kept self.now words.now bus.new.machine }
         ensures fresh { IsFalse bus.new.spent };
 }

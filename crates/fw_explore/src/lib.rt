@@ -1,7 +1,7 @@
 //! The word `explore`: every interleaving of half steps and lines behind a script, and how each ends.
 //!
 //! The interleavings of one length are many, the places that they lead to few: a place is the lines that were carried out, what was told so
-//! far, and the machine. The contract of `Bus::apply` speaks of every run for whose state a machine stands, so one call carries all
+//! far, and the machine. The contract of `Bus::change` speaks of every run for whose state a machine stands, so one call carries all
 //! schedules of a place on.
 #![tactic(auto)]
 
@@ -17,6 +17,7 @@ mod kept_bus;
 mod key;
 mod names;
 mod past;
+mod since;
 mod step;
 mod there;
 mod unknown;

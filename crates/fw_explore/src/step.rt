@@ -19,6 +19,7 @@ use crate::kept_bus::KeptBus;
 use crate::key::put_key_words;
 use crate::there::is_there;
 use fw_movers::{Explored, MoverKind};
+use fw_names::Pairs;
 use fw_outside::GrowSink;
 use fw_parts::{Full, Table, are_numbers, put_words};
 use fw_tape::Desk;
@@ -35,6 +36,8 @@ pub(crate) struct Walker<P: Keeper> {
     /// The numbers of the place that it goes on from: of its past, its half steps, and those of its machine.
     pub(crate) here: Vec<u32>,
     pub(crate) key: Vec<u8>,
+    /// The digits of bytes, made once for all endings.
+    pub(crate) pairs: Pairs,
 }
 
 // The half steps with a move.
@@ -64,7 +67,7 @@ impl<P: Keeper> Walker<P> {
     {
         let half = half_after(kind, self.here[1]);
         let number = self.past_after(mover, kind)?;
-        self.kept.keep(&self.here[2..])?;
+        self.kept.keep()?;
         self.put_key(number, half)?;
         Ok(())
     }
@@ -113,7 +116,7 @@ impl<P: Keeper> Walker<P> {
         if self.is_full(explored, kind) {
             return Ok(false);
         }
-        self.kept.give_back(&self.here[2..]);
+        self.kept.give_back(&self.here[2..])?;
         if self
             .kept
             .carry(&mut self.sink, &this.command, desk)?

@@ -4,7 +4,7 @@ use Rattle.std.specs.Prelude.{codes, decimal}
 use Rattle.fw_entry.specs.declared.codes.kind.TheConstants.{RESET}
 use Rattle.fw_entry.specs.declared.entry.Entry.TheVariants.{Reset}
 use Rattle.fw_entry.specs.declared.entry.ResetEntry.{ResetEntry}
-use Rattle.fw_json.specs.Values.{field, number_value}
+use Rattle.fw_json_packets.specs.Values.{field, number_value}
 use Rattle.fw_json.specs.Objects.{front_fields, later_fields, list_fields, reset_fields, object}
 
 before_four : (a b c d e : List ℕ) → a ++ (b ++ c ++ d ++ e) ≡ a ++ b ++ c ++ d ++ e

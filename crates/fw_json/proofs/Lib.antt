@@ -1,5 +1,4 @@
-pub mod Joins
-pub mod IsoTexts
+pub mod Rows
 pub mod Told
 pub mod ToldValues
 pub mod ToldLists
@@ -13,6 +12,3 @@ pub mod PlainNames
 pub mod PlainIds
 pub mod PlainEntries
 pub mod LaterLaws
-pub mod SwapTexts
-pub mod HeadTexts
-pub mod CipTexts

@@ -22,7 +22,8 @@ use Rattle.fw_entry.proofs.RowLaws.{event_code, outcome_code, small_system}
 use Rattle.fw_names.specs.Names.{tcode, tcode_name, rcode_name, function_name, event_name, outcome_name, kind_name, format_name, system_name}
 use Rattle.fw_json.specs.Ids.{id_object, node_objects}
 use Rattle.fw_json.specs.Laws.{IsLine}
-use Rattle.fw_json.specs.Objects.{reset_fields, head_fields, place_fields, rcode_fields, target_fields, quadlet_field, block_fields, lock_fields, data_fields, packet_fields, iso_fields, device_of, inserted_fields, tape_fields, event_fields, outcome_fields, shown_fields, what_fields, front_fields, object}
+use Rattle.fw_json_packets.specs.Packets.{head_fields, place_fields, rcode_fields, target_fields, quadlet_field, block_fields, lock_fields, data_fields, packet_fields, iso_fields}
+use Rattle.fw_json.specs.Objects.{reset_fields, device_of, inserted_fields, tape_fields, event_fields, outcome_fields, shown_fields, what_fields, front_fields, object}
 use Rattle.fw_json.proofs.ToldEntries.{few_manager, small_kind}
 use Rattle.fw_json.proofs.ToldEvents.{few_device}
 use Rattle.fw_json.proofs.ToldIso.{one_bit, some_size}

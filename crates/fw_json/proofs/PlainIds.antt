@@ -8,7 +8,7 @@ use Rattle.fw_phy.specs.declared.packet.PhyPacket.{PhyPacket}
 use Rattle.fw_phy.specs.declared.packet.PhyPacket.TheVariants.{SelfId, SelfIdMore, Config, LinkOn}
 use Rattle.fw_entry.specs.Log.{RowFits}
 use Rattle.fw_entry.specs.declared.nodes.NodeRow.{NodeRow}
-use Rattle.fw_json.specs.Values.{name_value}
+use Rattle.fw_json_packets.specs.Values.{name_value}
 use Rattle.fw_json.specs.Ids.{port_fields, id_object, node_object, node_objects}
 use Rattle.fw_names.specs.Names.{port_name}
 use Rattle.fw_json.proofs.ToldLists.{Each}

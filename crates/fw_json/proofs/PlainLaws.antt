@@ -7,7 +7,7 @@ use Rattle.std.specs.List.{join_with_byte, list_all}
 use Rattle.std.specs.Char.{is_ascii_lowercase}
 use Rattle.fw_names.specs.Texts.{hex, hex_bytes}
 use Rattle.fw_json.specs.Laws.{IsPlain}
-use Rattle.fw_json.specs.Values.{field, quoted, name_value, number_value, flag_value, code, array, cycle_value}
+use Rattle.fw_json_packets.specs.Values.{field, quoted, name_value, number_value, flag_value, code, array, cycle_value}
 use Rattle.fw_json.proofs.Told.{both_left, both_right}
 
 abbrev plain_byte : ℕ → Bool

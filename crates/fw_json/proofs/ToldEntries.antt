@@ -6,7 +6,7 @@ use Rattle.fw_entry.specs.declared.entry.Entry.{Entry}
 use Rattle.fw_entry.specs.declared.entry.Entry.TheVariants.{Reset, Async, Iso, Event, Outcome, Shown, End}
 use Rattle.fw_entry.specs.declared.entry.Timed.{Timed}
 use Rattle.fw_names.specs.Names.{kind_name}
-use Rattle.fw_json.specs.Values.{field, code}
+use Rattle.fw_json_packets.specs.Values.{field, code}
 use Rattle.fw_json.specs.Objects.{reset_fields, what_fields, front_fields, object}
 use Rattle.fw_json.proofs.Told.{Value, Told, Stops, next, means, comma, brace, coded, number, nothing}
 use Rattle.fw_json.proofs.ToldValues.{perhaps, cycle}

@@ -11,7 +11,7 @@ use Rattle.fw_entry.specs.declared.entry.OutcomeEntry.{OutcomeEntry}
 use Rattle.fw_entry.specs.declared.entry.ShownEntry.{ShownEntry}
 use Rattle.fw_entry.proofs.RowLaws.{event_code, outcome_code, no_tape, small_system}
 use Rattle.fw_names.specs.Names.{system_name, event_name, outcome_name}
-use Rattle.fw_json.specs.Values.{code, number_value}
+use Rattle.fw_json_packets.specs.Values.{code, number_value}
 use Rattle.fw_json.specs.Objects.{device_of, inserted_fields, tape_fields, event_fields, outcome_fields, shown_fields}
 use Rattle.fw_json.proofs.Told.{Value, Told, Stops, next, knowing, means, comma, comma_then, coded, number, nothing}
 use Rattle.fw_json.proofs.ToldValues.{eight, twelve, perhaps}

@@ -11,7 +11,7 @@ use Rattle.fw_phy.specs.declared.packet.PhyPacket.TheVariants.{SelfId, SelfIdMor
 use Rattle.fw_entry.specs.Log.{RowFits, are_ids}
 use Rattle.fw_entry.specs.declared.nodes.NodeRow.{NodeRow}
 use Rattle.fw_names.specs.Names.{speed_name, device_name}
-use Rattle.fw_json.specs.Values.{field, array, flag_value}
+use Rattle.fw_json_packets.specs.Values.{field, array, flag_value}
 use Rattle.fw_json.specs.Ids.{port_names, port_fields, id_object, node_object, node_objects}
 use Rattle.fw_json.proofs.Told.{Value, Told, Differ, left, right, differ, comma_any, first_byte, next, knowing, means, comma, brace, comma_first, both_right, coded, number, no_number, one_text, closing}
 use Rattle.fw_json.proofs.ToldValues.{flag}

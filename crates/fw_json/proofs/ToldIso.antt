@@ -5,8 +5,8 @@ use Rattle.fw_cip.specs.declared.packet.CipHeader.{CipHeader}
 use Rattle.fw_cip.specs.declared.packet.IsoPacket.{IsoPacket}
 use Rattle.fw_names.specs.Texts.{hex_bytes}
 use Rattle.fw_names.specs.Names.{format_name}
-use Rattle.fw_json.specs.Values.{quoted, name_value}
-use Rattle.fw_json.specs.Objects.{cip_fields, iso_fields}
+use Rattle.fw_json_packets.specs.Values.{quoted, name_value}
+use Rattle.fw_json_packets.specs.Packets.{cip_fields, iso_fields}
 use Rattle.fw_json.proofs.Told.{Value, Told, next, knowing, means, comma, comma_first, known, number, one_text}
 use Rattle.fw_json.proofs.ToldValues.{six, in_bytes}
 

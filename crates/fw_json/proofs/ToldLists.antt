@@ -2,7 +2,7 @@
 use Rattle.std.proofs.Common.{◌≡◌, ℕ, ◌+◌, true, List, [], ◌∷◌, ◌++◌, map, refl, ap, sym, ◌∙◌, arith, append_assoc}
 use Rattle.std.specs.List.{join_with_byte}
 use Rattle.std.proofs.lemmas.List.{append-nil}
-use Rattle.fw_json.specs.Values.{array}
+use Rattle.fw_json_packets.specs.Values.{array}
 use Rattle.fw_json.proofs.Told.{stops, Value, first_byte}
 
 -- each value holds, each at its place, counted from this number on

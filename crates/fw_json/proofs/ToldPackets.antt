@@ -7,8 +7,8 @@ use Rattle.fw_async.specs.declared.packet.Packet.{Packet}
 use Rattle.fw_async.specs.declared.packet.Packet.TheVariants.{WriteQuadlet, WriteBlock, WriteReply, ReadQuadlet, ReadBlock, ReadQuadletReply, ReadBlockReply, CycleStart, Lock, LockReply}
 use Rattle.fw_async.proofs.KindLaws.{lock_most, reply_most}
 use Rattle.fw_names.specs.Names.{tcode, tcode_name, rcode_name, function_name, retry_name}
-use Rattle.fw_json.specs.Values.{code}
-use Rattle.fw_json.specs.Objects.{head_fields, place_fields, rcode_fields, target_fields, quadlet_field, block_fields, lock_fields, data_fields, packet_fields}
+use Rattle.fw_json_packets.specs.Values.{code}
+use Rattle.fw_json_packets.specs.Packets.{head_fields, place_fields, rcode_fields, target_fields, quadlet_field, block_fields, lock_fields, data_fields, packet_fields}
 use Rattle.fw_json.proofs.Told.{Value, Told, next, knowing, means, comma, comma_first, coded, known, Differ, left, right, differ, codes_differ, number, nothing}
 use Rattle.fw_json.proofs.ToldValues.{four, eight, twelve, in_bytes}
 

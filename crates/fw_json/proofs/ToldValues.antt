@@ -4,7 +4,7 @@ use Rattle.std.proofs.lemmas.Bool.Decides.{nat_tests}
 use Rattle.std.proofs.lemmas.List.{append_cancel_right, length-append}
 use Rattle.std.specs.Fmt.{digit_glyph}
 use Rattle.fw_names.specs.Texts.{hex, hex_bytes}
-use Rattle.fw_json.specs.Values.{quoted, number_value, flag_value, cycle_value}
+use Rattle.fw_json_packets.specs.Values.{quoted, number_value, flag_value, cycle_value}
 use Rattle.fw_json.proofs.Told.{stops, Value, first_byte, one_text, number, no_number}
 
 -- ---- texts in quotation marks that are as long

@@ -4,7 +4,7 @@ use Rattle.fw_phy.specs.declared.packet.PhyPacket.{PhyPacket}
 use Rattle.fw_phy.specs.declared.packet.PhyPacket.TheVariants.{SelfId, SelfIdMore, Config, LinkOn}
 use Rattle.fw_entry.specs.declared.nodes.NodeRow.{NodeRow}
 use Rattle.fw_names.specs.Names.{speed_name, port_name, device_name}
-use Rattle.fw_json.specs.Values.{field, array, code, name_value, flag_value}
+use Rattle.fw_json_packets.specs.Values.{field, array, code, name_value, flag_value}
 
 -- the ports of a self-ID packet, as numbers
 abbrev pub port_numbers : List ℕ → List ℕ

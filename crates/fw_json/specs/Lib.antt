@@ -1,5 +1,3 @@
-pub mod Values
 pub mod Ids
 pub mod Objects
 pub mod Laws
-pub mod Usual

@@ -1,4 +1,4 @@
-//! The fields of an entry behind its cycle.
+//! The fields of an entry after its cycle.
 
 ghost use Rattle.std.specs.Prelude.{◌≡◌, ◌++◌, OnOk};
 ghost use Rattle.fw_json.specs.Objects.{device_of, inserted_fields, tape_fields, event_fields, outcome_fields, shown_fields, what_fields};

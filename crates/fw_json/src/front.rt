@@ -1,7 +1,7 @@
 //! What each object begins with.
 
 ghost use Rattle.std.specs.Prelude.{◌≡◌, ◌++◌, OnOk, codes};
-ghost use Rattle.fw_json.specs.Values.{field, cycle_value};
+ghost use Rattle.fw_json_packets.specs.Values.{field, cycle_value};
 ghost use Rattle.fw_json.specs.Objects.{front_fields};
 
 use crate::values::put_code;
@@ -12,7 +12,7 @@ use std::alloc::AllocError;
 const INEXACT: u64 = 1 << 53;
 
 // Appends the key of a cycle and the cycle: a number, or a text where not each reader holds the number exactly.
-#[tactic(auto, unfolding(crate::specs::Values::field, crate::specs::Values::quoted))]
+#[tactic(auto, unfolding(fw_json_packets::specs::Values::field, fw_json_packets::specs::Values::quoted))]
 fn put_cycle(text: &mut Vec<u8>, cycle: u64) -> Result<(), AllocError>
     ensures { OnOk result (text.new.items ≡ text.old.items ++ field (codes "{\"cycle\":") (cycle_value cycle)) }
 {

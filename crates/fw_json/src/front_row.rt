@@ -4,7 +4,7 @@ ghost use Rattle.std.specs.Prelude.{◌≡◌, ◌≤◌, IfSome, OnOk, take};
 ghost use Rattle.fw_json.specs.Objects.{front_fields};
 
 use crate::front::put_front;
-use crate::rows::FRONT;
+use fw_json_packets::FRONT;
 use std::alloc::{AllocError, Global};
 use std::marker::Model;
 
@@ -14,7 +14,7 @@ pub(crate) struct FrontRow {
     // The cycle and the kind in it.
     cycle: Option<u64>,
     kind: u8,
-    // The front, and others behind it.
+    // The front, and others after it.
     bytes: Vec<u8>,
     // How many bytes the front has.
     size: usize,

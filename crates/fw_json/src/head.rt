@@ -3,32 +3,22 @@
 ghost use Rattle.std.specs.Prelude.{◌≡◌, ◌++◌, IsTrue, OnOk, codes, decimal};
 ghost use Rattle.fw_names.specs.Names.{retry_name};
 ghost use Rattle.fw_names.specs.Texts.{hex};
-ghost use Rattle.fw_json.specs.Values.{field, quoted, code};
-ghost use Rattle.fw_json.specs.Objects.{head_fields};
+ghost use Rattle.fw_json_packets.specs.Values.{field, quoted, code};
+ghost use Rattle.fw_json_packets.specs.Packets.{head_fields};
 
 use crate::packet::put_retry;
 use crate::values::{put_count, put_text};
 use fw_async::Head;
+use fw_json_packets::{addressee, usual_sender};
 use fw_names::{Pairs, put_number};
 use std::alloc::AllocError;
 
 /// The retry code retry_X (IEEE 1394-1995, retry codes).
 const RETRY_X: u8 = 1;
 
-// The addressee under its key, and the key of the transaction label.
-#[inline(always)]
-#[tactic(auto, unfolding(crate::specs::Values::field, crate::specs::Values::quoted))]
-pub(crate) fn addressee(pairs: &Pairs, id: u16) -> [u8; 26]
-    ensures { result ≡ field (codes ",\"dst_id\":") (quoted (hex 4 id)) ++ codes ",\"tlabel\":" }
-{
-    let mut row = *b",\"dst_id\":\"....\",\"tlabel\":";
-    row[11..15].copy_from_slice(&pairs.four(id));
-    row
-}
-
 // The sender under its key.
 #[inline(always)]
-#[tactic(auto, unfolding(crate::specs::Values::field, crate::specs::Values::quoted))]
+#[tactic(auto, unfolding(fw_json_packets::specs::Values::field, fw_json_packets::specs::Values::quoted))]
 fn sender(pairs: &Pairs, id: u16) -> [u8; 16]
     ensures { result ≡ field (codes ",\"src_id\":") (quoted (hex 4 id)) }
 {
@@ -43,17 +33,6 @@ fn is_usual(rt: u8, pri: u8) -> bool
     ensures { IsTrue result → (rt ≡ 1) × (pri ≡ 0) }
 {
     rt == RETRY_X && pri == 0
-}
-
-// The usual retry code and priority, and the sender under its key.
-#[inline(always)]
-#[tactic(auto, unfolding(crate::specs::Values::field, crate::specs::Values::quoted))]
-pub(crate) fn usual_sender(pairs: &Pairs, id: u16) -> [u8; 62]
-    ensures { result ≡ codes ",\"retry\":1,\"retry_name\":\"retry_x\",\"priority\":0" ++ field (codes ",\"src_id\":") (quoted (hex 4 id)) }
-{
-    let mut row = *b",\"retry\":1,\"retry_name\":\"retry_x\",\"priority\":0,\"src_id\":\"....\"";
-    row[57..61].copy_from_slice(&pairs.four(id));
-    row
 }
 
 // Appends the retry code, the priority and the sender.

@@ -2,7 +2,7 @@
 
 ghost use Rattle.std.specs.Prelude.{◌≡◌, ◌++◌, OnOk, map};
 ghost use Rattle.fw_phy.specs.declared.packet.PhyPacket.TheVariants.{SelfId as Zero, SelfIdMore as Further};
-ghost use Rattle.fw_json.specs.Values.{array};
+ghost use Rattle.fw_json_packets.specs.Values.{array};
 ghost use Rattle.fw_json.specs.Ids.{port_numbers, port_names, port_fields, id_object};
 
 use crate::values::{put_code, put_comma, put_count, put_flag, put_name_value};

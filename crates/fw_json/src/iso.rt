@@ -1,28 +1,20 @@
 //! The fields of an isochronous packet.
 
-ghost use Rattle.std.specs.Prelude.{◌≡◌, ◌++◌, IsTrue, OnOk, Some, false, codes, decimal};
-ghost use Rattle.fw_cip.specs.Iso.{bit, data_length, block_bytes};
+ghost use Rattle.std.specs.Prelude.{◌≡◌, ◌++◌, OnOk, Some, codes, decimal};
+ghost use Rattle.fw_cip.specs.Iso.{bit, data_length};
 ghost use Rattle.fw_names.specs.Names.{format_name};
 ghost use Rattle.fw_names.specs.Texts.{hex};
-ghost use Rattle.fw_json.specs.Values.{field, quoted, code, name_value};
-ghost use Rattle.fw_json.specs.Objects.{cip_fields, iso_fields};
+ghost use Rattle.fw_json_packets.specs.Values.{field, quoted, code, name_value};
+ghost use Rattle.fw_json_packets.specs.Packets.{cip_fields, iso_fields};
 
 use crate::values::{put_count, put_data, put_name, put_six};
 use fw_cip::{CipHeader, IsoPacket};
+use fw_json_packets::{block_bytes, has_usual_sizes, is_untimed_525, is_untimed_625};
 use fw_names::{Pairs, format_name, put_word};
 use std::alloc::AllocError;
 
-/// DBS of SD-DVCR (IEC 61883-2).
-const DVCR_BLOCK: u8 = 120;
-
-/// FDF of SD-DVCR with 525 lines and no time stamp (IEC 61883-2).
-pub(crate) const LINES_525_UNTIMED: u32 = 0x00_ffff;
-
-/// FDF of SD-DVCR with 625 lines and no time stamp.
-const LINES_625_UNTIMED: u32 = 0x80_ffff;
-
-// The length of a packet behind its isochronous header, and its tag.
-#[tactic(auto, using(crate::proofs::IsoTexts::long_opening, crate::proofs::IsoTexts::short_opening))]
+// The length of a packet after its isochronous header, and its tag.
+#[tactic(auto, using(fw_json_packets::proofs::IsoTexts::long_opening, fw_json_packets::proofs::IsoTexts::short_opening))]
 fn opening(p: &IsoPacket) -> &'static str
     ensures { result.now ≡ field (codes ",\"data_length\":") (decimal (data_length p.now.block)) ++ field (codes ",\"tag\":") (decimal 1) }
 {
@@ -47,42 +39,17 @@ fn bit(flag: bool) -> u64
     if flag { 1 } else { 0 }
 }
 
-// Whether the blocks are those of SD-DVCR.
-#[inline(always)]
-pub(crate) fn is_usual(c: &CipHeader) -> bool
-    ensures size { IsTrue result → (c.now.dbs ≡ 120) × (c.now.fraction ≡ 0) }
-    ensures none { IsTrue result → (c.now.qpc ≡ 0) × (c.now.sph ≡ false) }
-{
-    c.dbs == DVCR_BLOCK && c.fraction == 0 && c.qpc == 0 && !c.sph
-}
-
 // Appends how the blocks are cut.
 fn put_sizes(text: &mut Vec<u8>, c: &CipHeader) -> Result<(), AllocError>
     ensures { OnOk result (text.new.items ≡ text.old.items ++ field (codes ",\"dbs\":") (decimal c.now.dbs) ++ field (codes ",\"fn\":") (decimal c.now.fraction) ++ field (codes ",\"qpc\":") (decimal c.now.qpc) ++ field (codes ",\"sph\":") (decimal (bit c.now.sph))) }
 {
-    if is_usual(c) {
+    if has_usual_sizes(c) {
         return put_word(text, r#","dbs":120,"fn":0,"qpc":0,"sph":0"#);
     }
     put_count(text, r#","dbs":"#, u64::from(c.dbs))?;
     put_count(text, r#","fn":"#, u64::from(c.fraction))?;
     put_count(text, r#","qpc":"#, u64::from(c.qpc))?;
     put_count(text, r#","sph":"#, bit(c.sph))
-}
-
-// Whether the format is SD-DVCR with 525 lines, and has no time stamp.
-#[inline(always)]
-pub(crate) fn is_untimed_525(c: &CipHeader) -> bool
-    ensures { IsTrue result → (c.now.fmt ≡ 0) × (c.now.fdf ≡ 65535) }
-{
-    c.fmt == 0 && c.fdf == LINES_525_UNTIMED
-}
-
-// Whether it is SD-DVCR with 625 lines, and has none.
-#[inline(always)]
-pub(crate) fn is_untimed_625(c: &CipHeader) -> bool
-    ensures { IsTrue result → (c.now.fmt ≡ 0) × (c.now.fdf ≡ 8454143) }
-{
-    c.fmt == 0 && c.fdf == LINES_625_UNTIMED
 }
 
 // Appends the format and its name.
@@ -113,16 +80,6 @@ fn put_cip(text: &mut Vec<u8>, pairs: &Pairs, c: &CipHeader) -> Result<(), Alloc
     put_sizes(text, c)?;
     put_count(text, r#","dbc":"#, u64::from(c.dbc))?;
     put_format(text, pairs, c)
-}
-
-// The bytes of the block, or none.
-pub(crate) fn block_bytes<'p>(p: &'p IsoPacket) -> &'p [u8]
-    ensures { result.now ≡ block_bytes p.now.block }
-{
-    match &p.block {
-        Some(block) => block.as_slice(),
-        None => &[],
-    }
 }
 
 // Appends the fields of an isochronous packet.

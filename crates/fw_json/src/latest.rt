@@ -11,12 +11,12 @@ use fw_entry::ResetEntry;
 use std::alloc::{AllocError, Global};
 use std::marker::Model;
 
-/// The bytes and the text of the latest bus reset behind its epoch. Contracts see it as the text.
+/// The bytes and the text of the latest bus reset after its epoch. Contracts see it as the text.
 #[derive(Drop)]
 pub(crate) struct LatestReset {
     // Whether there is one.
     is_kept: bool,
-    // The bytes of its body behind its epoch.
+    // The bytes of its body after its epoch.
     bytes: Vec<u8>,
     // What its object tells after its epoch.
     text: Vec<u8>,
@@ -46,14 +46,14 @@ impl LatestReset {
         })
     }
 
-    /// These bytes stand behind the epoch in its body.
+    /// These bytes stand after the epoch in its body.
     pub(crate) fn is(&self, later: &[u8]) -> bool
         ensures { IsTrue result → (r : AReset) × ResetFits r × (drop 4 (body (Reset r)) ≡ later.now) × (self.now ≡ later_fields r) }
     {
         self.is_kept && self.bytes.as_slice() == later
     }
 
-    /// Goes on to this bus reset, in whose body these bytes stand behind the epoch.
+    /// Goes on to this bus reset, in whose body these bytes stand after the epoch.
     pub(crate) fn keep(&mut self, r: &ResetEntry, later: &[u8]) -> Result<(), AllocError>
         requires fits { ResetFits r.now }
         requires later { drop 4 (body (Reset r.now)) ≡ later.now }

@@ -6,10 +6,8 @@
 //! from 2^53 on is a text of its decimal digits, since readers of JSON hold greater numbers rounded.
 #![tactic(auto)]
 
-mod blocks;
 mod digits;
 mod entry;
-mod fields;
 mod front;
 mod front_row;
 mod head;
@@ -21,11 +19,6 @@ mod lines;
 mod packet;
 mod reset;
 mod room;
-mod rows;
-mod swaps;
-mod text_room;
-mod usual;
-mod usual_iso;
 mod values;
 
 pub use laws::{objects_are_lines, objects_tell_entries};

@@ -1,26 +1,24 @@
-//! Objects, one behind another.
+//! Objects, one after another.
 
 ghost use Rattle.std.specs.Prelude.{◌≡◌, ◌++◌, [], false, IfOk, IsTrue, OnOk, codes, decimal};
 ghost use Rattle.fw_async.specs.Reader.{IsPacket, Spells};
 ghost use Rattle.fw_async.specs.declared.packet.Packet.{Packet as APacket};
 ghost use Rattle.fw_entry.specs.declared.codes.kind.TheConstants.{RESET};
 ghost use Rattle.fw_entry.specs.declared.entry.Entry.TheVariants.{Async, Iso};
-ghost use Rattle.fw_json.specs.Values.{field};
-ghost use Rattle.fw_json.specs.Objects.{front_fields, iso_fields, what_fields, object};
+ghost use Rattle.fw_json_packets.specs.Values.{field};
+ghost use Rattle.fw_json_packets.specs.Packets.{iso_fields};
+ghost use Rattle.fw_json.specs.Objects.{front_fields, what_fields, object};
 
 use crate::entry::put_what;
 use crate::front_row::FrontRow;
 use crate::iso::put_iso;
 use crate::latest::LatestReset;
-use crate::packet::put_packet;
-use crate::text_room::TextRoom;
-use crate::usual::is_usual;
-use crate::usual_iso::is_usual_iso;
 use crate::values::{put_count, put_text};
-use fw_async::{Packet, whole_packet};
+use fw_async::whole_packet;
 use fw_cip::IsoPacket;
 use fw_entry::codes::kind;
 use fw_entry::{Entry, Timed};
+use fw_json_packets::{TextRoom, is_usual_iso};
 use fw_names::{Pairs, kind_number, put_word};
 use std::alloc::{AllocError, Global};
 use std::marker::Model;
@@ -76,38 +74,43 @@ impl Lines {
         self.text.put(&self.object)
     }
 
-    // Appends the object of a usual packet, where its front is short, and answers whether it did.
-    fn put_usual(&mut self, cycle: u64, p: &Packet) -> Result<bool, AllocError>
-        ensures object { IfOk result (λ put. IsTrue put → self.new ≡ self.old ++ object (record { cycle = cycle; what = Async p.now })) }
+    // Appends the object of a packet of a usual kind, from the packet's bytes, if its front is short, and answers whether it did.
+    #[inline(always)]
+    fn put_usual(&mut self, cycle: u64, bytes: &[u8]) -> Result<bool, AllocError>
+        ensures object { (p : APacket) → Spells p bytes.now → IfOk result (λ put. IsTrue put → self.new ≡ self.old ++ object (record { cycle = cycle; what = Async p })) }
         ensures other { IfOk result (λ put. put ≡ false → self.new ≡ self.old) }
     {
-        if !is_usual(p) {
-            return Ok(false);
-        }
         self.front.set(cycle, kind::ASYNC)?;
         match self.front.row() {
-            Some((row, size)) => {
-                self.text.put_packet(row, size, &self.pairs, p)?;
-                Ok(true)
-            }
+            Some((row, size)) => self.text.put_packet(row, size, &self.pairs, bytes),
             None => Ok(false),
         }
     }
 
+    // Appends the object of another packet.
+    #[cold]
+    #[inline(never)]
+    fn put_other(&mut self, cycle: u64, bytes: &[u8]) -> Result<(), AllocError>
+        requires { IsPacket bytes.now }
+        ensures { (p : APacket) → Spells p bytes.now → OnOk result (self.new ≡ self.old ++ object (record { cycle = cycle; what = Async p })) }
+    {
+        self.put(&Timed {
+            cycle,
+            what: Entry::Async(whole_packet(bytes)),
+        })
+    }
+
     // Appends the object of the entry of an asynchronous packet, from the packet's bytes.
+    #[inline(always)]
     pub(crate) fn put_packet(&mut self, cycle: u64, bytes: &[u8]) -> Result<(), AllocError>
         requires { IsPacket bytes.now }
         ensures { (p : APacket) → Spells p bytes.now → OnOk result (self.new ≡ self.old ++ object (record { cycle = cycle; what = Async p })) }
     {
-        let packet = whole_packet(bytes);
-        let is_put = self.put_usual(cycle, &packet)?;
+        let is_put = self.put_usual(cycle, bytes)?;
         if is_put {
             return Ok(());
         }
-        self.put(&Timed {
-            cycle,
-            what: Entry::Async(packet),
-        })
+        self.put_other(cycle, bytes)
     }
 
     // Appends the object of the entry of an isochronous packet.

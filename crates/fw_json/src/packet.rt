@@ -3,12 +3,13 @@
 ghost use Rattle.std.specs.Prelude.{◌≡◌, ◌++◌, OnOk, Some, codes, decimal};
 ghost use Rattle.fw_async.specs.Heads.{head_of};
 ghost use Rattle.fw_names.specs.Names.{function_name, tcode, tcode_name, retry_name};
-ghost use Rattle.fw_json.specs.Values.{field, code};
-ghost use Rattle.fw_json.specs.Objects.{place_fields, rcode_fields, target_fields, quadlet_field, block_fields, lock_fields, data_fields, packet_fields};
+ghost use Rattle.fw_json_packets.specs.Values.{field, code};
+ghost use Rattle.fw_json_packets.specs.Packets.{place_fields, rcode_fields, target_fields, quadlet_field, block_fields, lock_fields, data_fields, packet_fields};
 
 use crate::head::put_head;
 use crate::values::{put_code, put_count, put_data, put_text};
 use fw_async::{Head, Packet};
+use fw_json_packets::{place, quadlet};
 use fw_names::{
     Pairs, function_name, put_word, rcode_name, rcode_row, retry_name, retry_row, tcode_row,
 };
@@ -16,7 +17,7 @@ use fw_words::COMPARE_SWAP;
 use std::alloc::AllocError;
 
 // What a packet begins with.
-pub(crate) fn head_of<'p>(p: &'p Packet) -> &'p Head
+fn head_of<'p>(p: &'p Packet) -> &'p Head
     ensures { result.now ≡ head_of p.now }
 {
     match p {
@@ -85,17 +86,6 @@ pub(crate) fn put_retry(text: &mut Vec<u8>, rt: u8) -> Result<(), AllocError>
     )
 }
 
-// An offset under its key.
-#[inline(always)]
-#[tactic(auto, unfolding(crate::specs::Values::field, crate::specs::Values::quoted))]
-pub(crate) fn place(pairs: &Pairs, offset: u64) -> [u8; 24]
-    ensures { result ≡ place_fields offset }
-{
-    let mut row = *b",\"offset\":\"............\"";
-    row[11..23].copy_from_slice(&pairs.twelve(offset));
-    row
-}
-
 #[inline(always)]
 fn put_place(text: &mut Vec<u8>, pairs: &Pairs, offset: u64) -> Result<(), AllocError>
     ensures { OnOk result (text.new.items ≡ text.old.items ++ place_fields offset) }
@@ -136,17 +126,6 @@ fn put_target(text: &mut Vec<u8>, pairs: &Pairs, p: &Packet) -> Result<(), Alloc
         Packet::Lock { offset, .. } => put_place(text, pairs, *offset),
         Packet::LockReply { rcode, .. } => put_rcode(text, *rcode),
     }
-}
-
-// A quadlet under its key.
-#[inline(always)]
-#[tactic(auto, unfolding(crate::specs::Values::field, crate::specs::Values::quoted))]
-pub(crate) fn quadlet(pairs: &Pairs, value: u32) -> [u8; 18]
-    ensures { result ≡ quadlet_field value }
-{
-    let mut row = *b",\"data\":\"........\"";
-    row[9..17].copy_from_slice(&pairs.eight(value));
-    row
 }
 
 #[inline(always)]

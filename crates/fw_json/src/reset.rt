@@ -1,7 +1,7 @@
 //! The fields of a reset.
 
 ghost use Rattle.std.specs.Prelude.{◌≡◌, ◌++◌, OnOk};
-ghost use Rattle.fw_json.specs.Values.{array};
+ghost use Rattle.fw_json_packets.specs.Values.{array};
 ghost use Rattle.fw_json.specs.Ids.{node_object, node_objects};
 ghost use Rattle.fw_json.specs.Objects.{list_fields, later_fields, reset_fields};
 

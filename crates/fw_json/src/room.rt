@@ -1,4 +1,4 @@
-//! Objects, one behind another, and room for what they are made from.
+//! Objects, one after another, and room for what they are made from.
 
 ghost use Rattle.std.specs.Prelude.{◌≡◌, ◌++◌, [], false, IfOk, IsTrue, OnOk, OnErr, drop};
 ghost use Rattle.fw_async.specs.Reader.{IsPacket, Spells};
@@ -117,7 +117,7 @@ fn put_kept(
 }
 
 /// Appends the object of the entry of a bus reset of this cycle, as `put_object` does, and keeps what it tells; the bytes are those
-/// of its body behind its epoch.
+/// of its body after its epoch.
 pub fn put_reset_from(
     room: &mut ObjectRoom,
     cycle: u64,
@@ -138,7 +138,7 @@ pub fn put_reset_from(
     }
 }
 
-/// Appends the object of the entry of a bus reset of this cycle, as `put_object` does, if the bytes of its body behind its epoch are
+/// Appends the object of the entry of a bus reset of this cycle, as `put_object` does, if the bytes of its body after its epoch are
 /// those of the bus reset that `put_reset_from` told last, and answers whether it did.
 pub fn put_reset_again(
     room: &mut ObjectRoom,

@@ -3,7 +3,7 @@
 ghost use Rattle.std.specs.Prelude.{◌≡◌, ◌++◌, OnOk, decimal};
 ghost use Rattle.std.specs.Option.{option_copied};
 ghost use Rattle.fw_names.specs.Texts.{hex, hex_bytes};
-ghost use Rattle.fw_json.specs.Values.{field, quoted, name_value, number_value, flag_value, code, comma};
+ghost use Rattle.fw_json_packets.specs.Values.{field, quoted, name_value, number_value, flag_value, code, comma};
 
 use crate::digits::put_digits;
 use fw_names::{Pairs, put_number, put_word};
@@ -29,7 +29,7 @@ pub(crate) fn put_text(text: &mut Vec<u8>, more: &[u8]) -> Result<(), AllocError
 
 // Appends a key and a value that is at hand.
 #[inline(always)]
-#[tactic(auto, unfolding(crate::specs::Values::field))]
+#[tactic(auto, unfolding(fw_json_packets::specs::Values::field))]
 fn put_value(text: &mut Vec<u8>, key: &str, value: &[u8]) -> Result<(), AllocError>
     ensures { OnOk result (text.new.items ≡ text.old.items ++ field key.now value.now) }
 {
@@ -39,7 +39,7 @@ fn put_value(text: &mut Vec<u8>, key: &str, value: &[u8]) -> Result<(), AllocErr
 
 // Appends a key and a number.
 #[inline(always)]
-#[tactic(auto, unfolding(crate::specs::Values::field))]
+#[tactic(auto, unfolding(fw_json_packets::specs::Values::field))]
 pub(crate) fn put_count(text: &mut Vec<u8>, key: &str, n: u64) -> Result<(), AllocError>
     ensures { OnOk result (text.new.items ≡ text.old.items ++ field key.now (decimal n)) }
 {
@@ -49,7 +49,7 @@ pub(crate) fn put_count(text: &mut Vec<u8>, key: &str, n: u64) -> Result<(), All
 
 // Appends a key and a flag.
 #[inline(always)]
-#[tactic(auto, unfolding(crate::specs::Values::field))]
+#[tactic(auto, unfolding(fw_json_packets::specs::Values::field))]
 pub(crate) fn put_flag(text: &mut Vec<u8>, key: &str, b: bool) -> Result<(), AllocError>
     ensures { OnOk result (text.new.items ≡ text.old.items ++ field key.now (flag_value b)) }
 {
@@ -58,7 +58,7 @@ pub(crate) fn put_flag(text: &mut Vec<u8>, key: &str, b: bool) -> Result<(), All
 }
 
 // Appends a key, and a number or null.
-#[tactic(auto, unfolding(crate::specs::Values::field))]
+#[tactic(auto, unfolding(fw_json_packets::specs::Values::field))]
 pub(crate) fn put_number_or_null(
     text: &mut Vec<u8>,
     key: &str,
@@ -75,7 +75,7 @@ pub(crate) fn put_number_or_null(
 
 // Appends a text whose characters need no escape.
 #[inline(always)]
-#[tactic(auto, unfolding(crate::specs::Values::quoted))]
+#[tactic(auto, unfolding(fw_json_packets::specs::Values::quoted))]
 pub(crate) fn put_quoted(text: &mut Vec<u8>, word: &str) -> Result<(), AllocError>
     ensures { OnOk result (text.new.items ≡ text.old.items ++ quoted word.now) }
 {
@@ -97,7 +97,7 @@ pub(crate) fn put_name_value(text: &mut Vec<u8>, name: Option<&str>) -> Result<(
 
 // Appends a key, and the name that a table has, or null.
 #[inline(always)]
-#[tactic(auto, unfolding(crate::specs::Values::field))]
+#[tactic(auto, unfolding(fw_json_packets::specs::Values::field))]
 pub(crate) fn put_name(text: &mut Vec<u8>, key: &str, name: Option<&str>) -> Result<(), AllocError>
     ensures { OnOk result (text.new.items ≡ text.old.items ++ field key.now (name_value (option_copied name.entry))) }
 {
@@ -107,7 +107,7 @@ pub(crate) fn put_name(text: &mut Vec<u8>, key: &str, name: Option<&str>) -> Res
 
 // Appends a code under its key, and its name under another.
 #[inline(always)]
-#[tactic(auto, unfolding(crate::specs::Values::code))]
+#[tactic(auto, unfolding(fw_json_packets::specs::Values::code))]
 pub(crate) fn put_code(
     text: &mut Vec<u8>,
     key: &str,
@@ -122,7 +122,7 @@ pub(crate) fn put_code(
 }
 
 #[inline(always)]
-#[tactic(auto, unfolding(crate::specs::Values::quoted))]
+#[tactic(auto, unfolding(fw_json_packets::specs::Values::quoted))]
 fn quoted_six(pairs: &Pairs, n: u32) -> [u8; 8]
     ensures { result ≡ quoted (hex 6 n) }
 {
@@ -144,7 +144,7 @@ pub(crate) fn put_six(
 }
 
 #[inline(always)]
-#[tactic(auto, unfolding(crate::specs::Values::quoted))]
+#[tactic(auto, unfolding(fw_json_packets::specs::Values::quoted))]
 fn quoted_eight(pairs: &Pairs, n: u32) -> [u8; 10]
     ensures { result ≡ quoted (hex 8 n) }
 {
@@ -166,7 +166,7 @@ pub(crate) fn put_eight(
 }
 
 #[inline(always)]
-#[tactic(auto, unfolding(crate::specs::Values::quoted))]
+#[tactic(auto, unfolding(fw_json_packets::specs::Values::quoted))]
 fn quoted_twelve(pairs: &Pairs, n: u64) -> [u8; 14]
     ensures { result ≡ quoted (hex 12 n) }
 {
@@ -189,7 +189,7 @@ pub(crate) fn put_twelve(
 }
 
 // Appends a key and bytes, two digits each.
-#[tactic(auto, unfolding(crate::specs::Values::field, crate::specs::Values::quoted))]
+#[tactic(auto, unfolding(fw_json_packets::specs::Values::field, fw_json_packets::specs::Values::quoted))]
 pub(crate) fn put_data(
     text: &mut Vec<u8>,
     pairs: &Pairs,

@@ -8,3 +8,4 @@ pub mod UsualLaws
 pub mod SameWordLaws
 pub mod GlanceLaws
 pub mod QueueLaws
+pub mod ChangeLaws

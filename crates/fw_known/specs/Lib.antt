@@ -7,3 +7,4 @@ pub mod Heard
 pub mod Used
 pub mod Kept
 pub mod Glances
+pub mod Changes

@@ -3,9 +3,11 @@
 ghost use Rattle.std.specs.Prelude.{◌≡◌, ◌+◌, ◌≤◌, ◌<◌, IfOk, IfSome, IsFalse, None, length, replicate, slice_set};
 ghost use Rattle.fw_known.specs.Channels.{AreDueFrom, fresh, channel_at, freshened_one, freshened, plug_moved, unused, quieted, next_late, late_to, is_taken, is_to_be_used, with_due, with_dues};
 
+use crate::change::{only_change, only_forgotten};
 use crate::channel::{Channel, Due, earlier, is_kept, is_same};
+use crate::lateness::{is_taken, is_to_be_used, next_late};
 use crate::plugs::Plugs;
-use fw_remarks::{Known, bit};
+use fw_remarks::Known;
 use std::alloc::{AllocError, Global};
 use std::marker::Model;
 
@@ -37,39 +39,6 @@ impl Model for Channels {
     ghost view = { λ c. c.rows.items };
 
     ghost invariant = { λ c. AreDueFrom c.due_from c.rows.items };
-}
-
-// Of a channel that is late and this one, if it is, the one that was taken first, and of two of one cycle the first.
-#[tactic(auto, unfolding(crate::specs::Channels::next_late))]
-fn next_late(best: Option<Late>, channel: u8, due: Option<Due>, cycle: u64) -> Option<Late>
-    ensures value { result ≡ next_late best channel due cycle }
-    ensures past { IfSome best (λ late. late.due.since + 8000 ≤ cycle) → IfSome result (λ late. late.due.since + 8000 ≤ cycle) }
-{
-    let Some(due) = due else {
-        return best;
-    };
-    if !due.is_late(cycle) {
-        return best;
-    }
-    match best {
-        Some(late) if late.due.since <= due.since => best,
-        _ => Some(Late { channel, due }),
-    }
-}
-
-// The channel at a bit of a half was taken.
-fn is_taken(old: u32, new: u32, at: u8) -> bool
-    requires { at < 32 }
-    ensures { result ≡ is_taken at old new }
-{
-    bit(old, at) && !bit(new, at)
-}
-
-// A channel that was taken is to be used, but for 31, which a manager has for itself, and one that a plug is on.
-fn is_to_be_used(is_taken: bool, channel: u8, plugs: &Plugs) -> bool
-    ensures { result ≡ is_to_be_used is_taken channel plugs.now }
-{
-    is_taken && channel != 31 && !plugs.is_used(channel)
 }
 
 impl Channels {
@@ -122,8 +91,8 @@ impl Channels {
         }
     }
 
-    /// Of half of the channels, the first of which is `first`, other bits are known than before: what changed is as if not seen.
-    pub fn freshen(&mut self, first: u8, old: Known, now: Known)
+    // The same of any words.
+    fn freshen_all(&mut self, first: u8, old: Known, now: Known)
         requires { first ≤ 32 }
         ensures { self.new ≡ freshened 32 first old now self.old }
     {
@@ -132,6 +101,17 @@ impl Channels {
         }
         for at in 0..32 {
             self.freshen_one(first + at, old.is_forgotten(now, at));
+        }
+    }
+
+    /// Of half of the channels, the first of which is `first`, other bits are known than before: what changed is as if not seen.
+    pub fn freshen(&mut self, first: u8, old: Known, now: Known)
+        requires { first ≤ 32 }
+        ensures { self.new ≡ freshened 32 first old now self.old }
+    {
+        match only_forgotten(old, now) {
+            Some(at) => self.freshen_one(first + at, old.is_forgotten(now, at)),
+            None => self.freshen_all(first, old, now),
         }
     }
 
@@ -230,9 +210,8 @@ impl Channels {
         }
     }
 
-    /// The channels that a swap took are to be used within a second, but for channel 31, which a manager has for itself, and those
-    /// that a plug is on.
-    pub fn set_dues(&mut self, first: u8, old: u32, new: u32, due: Due, plugs: &Plugs)
+    // The same of any words.
+    fn set_all_dues(&mut self, first: u8, old: u32, new: u32, due: Due, plugs: &Plugs)
         requires { first ≤ 32 }
         ensures { self.new ≡ with_dues 32 first old new due plugs.now self.old }
     {
@@ -240,6 +219,28 @@ impl Channels {
             let channel = first + at;
             let to_be_used = is_to_be_used(is_taken(old, new, at), channel, plugs);
             self.set_due(channel, to_be_used, due);
+        }
+    }
+    // The same of words that differ in one bit.
+    fn set_one_due(&mut self, first: u8, at: u8, old: u32, new: u32, due: Due, plugs: &Plugs)
+        requires half { first ≤ 32 }
+        requires bit { at < 32 }
+        ensures { self.new ≡ with_due (is_to_be_used (is_taken at old new) (first + at) plugs.now) (first + at) due self.old }
+    {
+        let channel = first + at;
+        let to_be_used = is_to_be_used(is_taken(old, new, at), channel, plugs);
+        self.set_due(channel, to_be_used, due);
+    }
+
+    /// The channels that a swap took are to be used within a second, but for channel 31, which a manager has for itself, and those
+    /// that a plug is on.
+    pub fn set_dues(&mut self, first: u8, old: u32, new: u32, due: Due, plugs: &Plugs)
+        requires { first ≤ 32 }
+        ensures { self.new ≡ with_dues 32 first old new due plugs.now self.old }
+    {
+        match only_change(old, new) {
+            Some(at) => self.set_one_due(first, at, old, new, due, plugs),
+            None => self.set_all_dues(first, old, new, due, plugs),
         }
     }
 }

@@ -2,12 +2,14 @@
 #![tactic(auto)]
 
 mod asked;
+mod change;
 mod channel;
 mod channels;
 mod counts;
 mod glance;
 mod hear;
 mod judge;
+mod lateness;
 mod plugs;
 mod queue;
 mod second;
@@ -18,6 +20,7 @@ mod taking;
 mod used;
 
 pub use asked::{Answer, Asked, Asking};
+pub use change::only_change;
 pub use channel::{Channel, Due, Noted};
 pub use channels::{Channels, Late};
 pub use counts::Counts;

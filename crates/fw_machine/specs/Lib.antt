@@ -11,3 +11,4 @@ pub mod Orders
 pub mod Streaming
 pub mod Recording
 pub mod Copies
+pub mod Halves

@@ -1,6 +1,6 @@
 //! The controllers of the declared devices.
 
-ghost use Rattle.std.specs.Prelude.{◌≡◌, ◌<◌, ◌≤◌, ◌+◌, ◌^◌, IfOk, IfSome, IsTrue, IsFalse, ℕ, None, true, false, replicate};
+ghost use Rattle.std.specs.Prelude.{◌≡◌, ◌<◌, ◌≤◌, ◌+◌, ◌^◌, IfNone, IfOk, IfSome, IsTrue, IsFalse, ℕ, None, true, false, replicate, slice_set};
 ghost use Rattle.fw_base.specs.Tables.{update};
 ghost use Rattle.fw_cmp.specs.Causes.{IsAtRest};
 ghost use Rattle.fw_cmp.specs.Fits.{SlotFits};
@@ -13,7 +13,7 @@ ghost use Rattle.fw_run.specs.Afterwards.{slot_of, start_of};
 ghost use Rattle.fw_machine.specs.Tables.{IsTable, count_of, dead_of, states_of};
 
 use fw_cmp::{Controller, Directory, Next, Slot, StartFault};
-use fw_csr::Reply;
+use fw_csr::{QuadletAccess, Reply};
 use fw_devices::MOST_DEVICES;
 use fw_run::Wanted;
 use std::alloc::{AllocError, Global};
@@ -114,6 +114,7 @@ impl Controllers {
         requires reached { IsFalse (states_of self.old device).lost → CanGoOn directory.now (states_of self.old device).state }
         ensures answer { result ≡ turn_of now directory.now (states_of self.old device) }
         ensures state { IsTable self.new (count_of self.old) (update (states_of self.old) device (after_turn now directory.now (states_of self.old device))) (dead_of self.old) }
+        ensures list { self.new ≡ record self.old { list = slice_set self.old.list device (after_turn now directory.now (states_of self.old device)) } }
         ensures addressee { IfSome (addressee_in result) (λ to. to < 63) }
     {
         let next = self.list[usize::from(device)].next(now, directory);
@@ -122,12 +123,39 @@ impl Controllers {
         next
     }
 
+    /// The request that the controller of a device makes next, and the number of the node that it goes to, where it is found at once
+    /// (`Controller::ask`).
+    #[inline(always)]
+    pub fn ask(
+        &mut self,
+        device: u8,
+        now: u64,
+        directory: &Directory,
+    ) -> Option<(u8, QuadletAccess)>
+        requires device { device < count_of self.old }
+        requires heard { MayTurn (states_of self.old device) }
+        requires now { now ≤ 2 ^ 52 }
+        requires nodes { HasNodeNumbers directory.now }
+        requires reached { IsFalse (states_of self.old device).lost → CanGoOn directory.now (states_of self.old device).state }
+        ensures sends { IfSome result (λ asked. turn_of now directory.now (states_of self.old device) ≡ Next.Send asked.0 asked.1) }
+        ensures state { IfSome result (λ asked. IsTable self.new (count_of self.old) (update (states_of self.old) device (after_turn now directory.now (states_of self.old device))) (dead_of self.old)) }
+        ensures list { IfSome result (λ asked. self.new ≡ record self.old { list = slice_set self.old.list device (after_turn now directory.now (states_of self.old device)) }) }
+        ensures none { IfNone result (self.new ≡ self.old) }
+        ensures addressee { IfSome result (λ asked. asked.0 < 63) }
+    {
+        let asked = self.list[usize::from(device)].ask(now, directory)?;
+        self.calm[usize::from(device)] = false;
+        self.fresh[usize::from(device)] = false;
+        Some(asked)
+    }
+
     /// The controller of a device hears the reply to the request that stands (`Controller::hear`).
     #[inline(always)]
     pub fn hear(&mut self, device: u8, reply: &Reply)
         requires device { device < count_of self.old }
         requires stands { Awaits (states_of self.old device) }
-        ensures { IsTable self.new (count_of self.old) (update (states_of self.old) device (after_answer (states_of self.old device) reply.now)) (dead_of self.old) }
+        ensures state { IsTable self.new (count_of self.old) (update (states_of self.old) device (after_answer (states_of self.old device) reply.now)) (dead_of self.old) }
+        ensures list { self.new ≡ record self.old { list = slice_set self.old.list device (after_answer (states_of self.old device) reply.now) } }
     {
         self.list[usize::from(device)].hear(reply);
         self.calm[usize::from(device)] = false;

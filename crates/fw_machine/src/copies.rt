@@ -101,6 +101,13 @@ impl Controllers {
         self.dead
     }
 
+    /// These of them have died, by number, and no others.
+    pub fn set_flags(&mut self, dead: [bool; MOST_DEVICES])
+        ensures { self.new ≡ record self.old { flags = dead } }
+    {
+        self.dead = dead;
+    }
+
     /// Become those that are kept under these numbers. What was marked to save work is forgotten.
     pub fn give_back(&mut self, kept: &[Controller], numbers: &[u32], dead: [bool; MOST_DEVICES])
         requires few { length numbers.now ≤ 63 }

@@ -45,6 +45,7 @@ impl Node {
 
     /// `carry_out` from bytes to bytes, with the reply that the response carries beside its bytes, which are put into `out`. A read
     /// and a compare_swap of a quadlet are carried out at once.
+    #[inline(always)]
     pub fn serve(&mut self, now: u64, bytes: &[u8], out: &mut PacketRoom) -> Reply
         requires request { IsRequest bytes.now }
         requires link { IsTrue (has_link self.old.kind) }
@@ -58,11 +59,12 @@ impl Node {
         };
         match quadlet_request_at(bytes) {
             Some(asked) => self.serve_quadlet(number, now, &asked, out),
-            None => self.serve_packet(number, now, &whole_packet(bytes), out),
+            None => self.serve_other(number, now, bytes, out),
         }
     }
 
     /// The same of a request for a quadlet.
+    #[inline(always)]
     fn serve_quadlet(
         &mut self,
         number: u8,
@@ -78,6 +80,18 @@ impl Node {
         let reply = self.reply(number, now, &asked_of(asked));
         put_reply(number, asked, reply, out);
         reply
+    }
+
+    /// The same of any request, which is read whole.
+    // Not inlined: requests are mostly for quadlets, and the room for another packet would be cleared at each.
+    #[inline(never)]
+    fn serve_other(&mut self, number: u8, now: u64, bytes: &[u8], out: &mut PacketRoom) -> Reply
+        requires number { number ≤ 62 }
+        requires request { IsRequest bytes.now }
+        ensures response { (p : AsyncPacket) → Spells p bytes.now → IsServed (space_of number now self.old) p out.new result }
+        ensures registers { (p : AsyncPacket) → Spells p bytes.now → self.new ≡ after_request (request_in p) self.old }
+    {
+        self.serve_packet(number, now, &whole_packet(bytes), out)
     }
 
     /// The same of any request packet.

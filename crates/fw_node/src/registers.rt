@@ -97,6 +97,7 @@ impl Node {
     }
 
     /// Carries a request out at the register that it is at, if there is one.
+    #[inline(always)]
     pub(crate) fn reply<R: RegisterRequest>(&mut self, number: u8, now: u64, r: &R) -> Reply
         requires { number ≤ 62 }
         ensures reply { result ≡ reply (register_at (space_of number now self.old) (offset_of (R.request r.now))) (R.request r.now) }

@@ -20,13 +20,13 @@ module _ (p : Places) (words : List ℕ) (n : Machine) (place : IsPlace p words 
   pub rest_number : get_or words 0 0 ≡ place.rest_at
   rest_number = ap (λ l. get_or l 0 0) place.words_are
 
-  reel_number : get_or words 1 0 ≡ place.reel_at
+  pub reel_number : get_or words 1 0 ≡ place.reel_at
   reel_number = ap (λ l. get_or l 1 0) place.words_are
 
   wire_number : get_or words 2 0 ≡ place.wire_at
   wire_number = ap (λ l. get_or l 2 0) place.words_are
 
-  bids_number : get_or words 3 0 ≡ place.bids_at
+  pub bids_number : get_or words 3 0 ≡ place.bids_at
   bids_number = ap (λ l. get_or l 3 0) place.words_are
 
   pub half_number : get_or words 4 0 ≡ n.half_steps
@@ -44,10 +44,10 @@ module _ (p : Places) (words : List ℕ) (n : Machine) (place : IsPlace p words 
   numbers_are : drop 6 words ≡ place.nodes_are_at ++ place.controllers_are_at
   numbers_are = ap (drop 6) place.words_are
 
-  nodes_are : take (get_or words 5 0) (drop 6 words) ≡ place.nodes_are_at
+  pub nodes_are : take (get_or words 5 0) (drop 6 words) ≡ place.nodes_are_at
   nodes_are = ap (λ k. take k (drop 6 words)) count_is ∙ ap (take (length place.nodes_are_at)) numbers_are ∙ take_at place.nodes_are_at place.controllers_are_at (length place.nodes_are_at) refl
 
-  controllers_are : drop (get_or words 5 0) (drop 6 words) ≡ place.controllers_are_at
+  pub controllers_are : drop (get_or words 5 0) (drop 6 words) ≡ place.controllers_are_at
   controllers_are = ap (λ k. drop k (drop 6 words)) count_is ∙ ap (drop (length place.nodes_are_at)) numbers_are ∙ drop_at place.nodes_are_at place.controllers_are_at (length place.nodes_are_at) refl
 
   -- ---- that there is something under each

@@ -14,7 +14,7 @@ use Rattle.fw_places.specs.Places.{IsRestOf, IsPlace, IsWider}
 use Rattle.fw_places.proofs.PlaceLaws.{more_of, more_all, more_more, longer, stays, parts_are}
 
 -- what is kept of requests
-abbrev AreLetters : List (Option (List ℕ)) → Pairs → Type 0
+abbrev pub AreLetters : List (Option (List ℕ)) → Pairs → Type 0
 AreLetters letters wire = HasLetters wire letters
 
 -- a node, a controller or a reel is kept as it is
@@ -26,7 +26,7 @@ module _ (p : Places) (m : Machine) (rests : List Rest) (reels : List (List (Lis
     (all_nodes : KeepsAll IsItself p.nodes nodes m.devices.nodes (n0 ∷ n1 ∷ n2 ∷ n3 ∷ m.half_steps ∷ count ∷ []) front)
     (all_controllers : KeepsAll IsItself p.controllers controllers m.controllers.list front words) where
   abbrev pub places : Places
-  places = record { rests = rests; reels = reels; letters = letters; nodes = nodes; controllers = controllers }
+  places = record { rests = rests; reels = reels; letters = letters; nodes = nodes; controllers = controllers; turns = tt; requests = tt; next_nodes = tt; next_controllers = tt }
 
   pub kept_wider : IsWider p places
   kept_wider = record {

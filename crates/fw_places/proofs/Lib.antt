@@ -3,3 +3,4 @@ pub mod PlaceLaws
 pub mod GiveLaws
 pub mod KeepingLaws
 pub mod ChangeLaws
+pub mod HalfLaws

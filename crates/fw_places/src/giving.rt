@@ -79,6 +79,35 @@ impl Places {
         m.half_steps = numbers.half_steps;
     }
 
+    // The same as `give_back_from`, to where more than nodes and controllers differs: names and cables mostly do not.
+    fn change_rest(&self, now: &[u32], words: &[u32], m: &mut Machine)
+        requires stands { IsPlace self.now now.now m.old }
+        requires kept { (n : MachineRecord) × IsPlace self.now words.now n }
+        ensures same { (n : MachineRecord) → IsPlace self.now words.now n → IsAsGood m.new n }
+        ensures place { IsPlace self.now words.now m.new }
+    {
+        let from = told_apart(now);
+        let numbers = told_apart(words);
+        let rest = self.rest_at(numbers.rest);
+        m.devices.change_frame(
+            &*rest.frame,
+            self.nodes.as_slice(),
+            from.nodes,
+            numbers.nodes,
+        );
+        m.controllers.change(
+            self.controllers.as_slice(),
+            from.controllers,
+            numbers.controllers,
+        );
+        m.controllers.set_flags(rest.dead);
+        rest.lend(m);
+        self.wind_from(from.reel, numbers.reel, &mut m.reel);
+        self.lay_from(from.wire, numbers.wire, &mut m.wire);
+        self.lay_from(from.bids, numbers.bids, &mut m.bids);
+        m.half_steps = numbers.half_steps;
+    }
+
     /// The same of a machine that is the one that was kept under `now`: only parts whose numbers differ are copied.
     pub fn give_back_from(&self, now: &[u32], words: &[u32], m: &mut Machine)
         requires stands { IsPlace self.now now.now m.old }
@@ -89,7 +118,7 @@ impl Places {
         let from = told_apart(now);
         let numbers = told_apart(words);
         if from.rest != numbers.rest {
-            self.give_back(words, m);
+            self.change_rest(now, words, m);
             return;
         }
         m.devices

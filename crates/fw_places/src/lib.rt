@@ -5,6 +5,8 @@
 #![tactic(auto)]
 
 mod giving;
+mod guesses;
+mod halves;
 mod numbers;
 mod places;
 mod rest;

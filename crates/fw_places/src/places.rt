@@ -3,6 +3,7 @@
 ghost use Rattle.std.specs.Prelude.{◌≡◌, [], IfOk, OnOk};
 ghost use Rattle.fw_places.specs.Places.{IsPlace, IsWider};
 
+use crate::guesses::{Guesses, keep_all_guessed};
 use crate::numbers::{FRONT, number_at, numbers_from};
 use crate::rest::Rest;
 use fw_async::Letters;
@@ -21,12 +22,18 @@ pub struct Places {
     pub(crate) letters: Table<Letters>,
     pub(crate) nodes: Table<Node>,
     pub(crate) controllers: Table<Controller>,
+    // What half steps led to last: which controllers, and which requests that stand.
+    pub(crate) turns: Guesses,
+    pub(crate) requests: Guesses,
+    // What all else led to last: which nodes and which controllers.
+    pub(crate) next_nodes: Guesses,
+    pub(crate) next_controllers: Guesses,
 }
 
 impl Places {
     /// No parts.
     pub fn new(alloc: Global) -> Result<Places, AllocError>
-        ensures { IfOk result (λ p. p ≡ record { rests = []; reels = []; letters = []; nodes = []; controllers = [] }) }
+        ensures { IfOk result (λ p. p ≡ record { rests = []; reels = []; letters = []; nodes = []; controllers = []; turns = tt; requests = tt; next_nodes = tt; next_controllers = tt }) }
     {
         Ok(Places {
             rests: Table::new(alloc)?,
@@ -34,6 +41,10 @@ impl Places {
             letters: Table::new(alloc)?,
             nodes: Table::new(alloc)?,
             controllers: Table::new(alloc)?,
+            turns: Guesses::new(alloc)?,
+            requests: Guesses::new(alloc)?,
+            next_nodes: Guesses::new(alloc)?,
+            next_controllers: Guesses::new(alloc)?,
         })
     }
 
@@ -52,10 +63,20 @@ impl Places {
         out.clear();
         out.extend_from_slice(&[rest, reel, wire, bids, m.half_steps, u32::from(count)])?;
         let later = FRONT + usize::from(count);
-        self.nodes
-            .keep_all(numbers_from(near, FRONT), m.devices.nodes(), out)?;
-        self.controllers
-            .keep_all(numbers_from(near, later), m.controllers.list(), out)?;
+        keep_all_guessed(
+            &mut self.nodes,
+            &mut self.next_nodes,
+            numbers_from(near, FRONT),
+            m.devices.nodes(),
+            out,
+        )?;
+        keep_all_guessed(
+            &mut self.controllers,
+            &mut self.next_controllers,
+            numbers_from(near, later),
+            m.controllers.list(),
+            out,
+        )?;
         Ok(())
     }
 }

@@ -127,6 +127,13 @@ impl Rest {
         self.tied == m.tied
     }
 
+    /// Streams that are found to be its own are.
+    pub(crate) fn has_streams(&self, streams: &Streams) -> bool
+        ensures { IsTrue result → streams.now ≡ self.now.streams }
+    {
+        streams.is_same(&self.streams)
+    }
+
     // Gives a machine what it has of it, but for devices and controllers.
     pub(crate) fn lend(&self, m: &mut Machine)
         ensures { m.new ≡ with_rest self.now m.old }

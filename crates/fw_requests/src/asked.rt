@@ -69,8 +69,9 @@ impl Default for Asked {
 impl Asked {
     ghost use Rattle.fw_requests.specs.Requests.{asked, asked_by, answers, is_same};
 
-    // What is kept of a request that a response of this kind answers.
-    fn new(head: &Head, answer: Answer, offset: u64, swap: Option<Swap>) -> Asked
+    /// What is kept of a request that a response of this kind answers.
+    #[inline(always)]
+    pub fn new(head: &Head, answer: Answer, offset: u64, swap: Option<Swap>) -> Asked
         ensures { result ≡ asked head.now answer offset swap }
     {
         Asked {

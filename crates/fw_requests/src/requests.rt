@@ -66,14 +66,16 @@ impl Requests {
     }
 
     /// The request that a response of this kind with this head answers, if one that stands is it.
+    #[inline(always)]
     pub fn answered(&self, answer: Answer, head: &Head) -> Option<Asked>
         ensures { result ≡ answered answer head.now self.now }
     {
         asked_at(self.queue.as_slice(), answer, head)
     }
 
-    // Takes the request away that such a response answers.
-    fn take_answered(&mut self, answer: Answer, head: &Head)
+    /// Takes the request away that such a response answers.
+    #[inline(always)]
+    pub fn take_answered(&mut self, answer: Answer, head: &Head)
         ensures { self.new ≡ without_answered answer head.now self.old }
     {
         take_answered(&mut self.queue, answer, head);
@@ -82,8 +84,9 @@ impl Requests {
         }
     }
 
-    // Appends a request in place of one with its source, destination and label.
-    fn ask(&mut self, new: Asked)
+    /// Appends a request in place of one with its source, destination and label.
+    #[inline(always)]
+    pub fn ask(&mut self, new: Asked)
         ensures { self.new ≡ with_request new self.old }
     {
         let asker = asker_of(&new);

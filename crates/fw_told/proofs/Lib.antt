@@ -1,3 +1,4 @@
 pub mod TellingLaws
 pub mod TellLaws
 pub mod SayingLaws
+pub mod EndLaws

@@ -10,7 +10,7 @@ use Rattle.fw_movers.specs.declared.mover.Mover.{Mover}
 use Rattle.fw_told.specs.Telling.{is_of_controller, is_of_candidate}
 use Rattle.fw_told.specs.Sayings.{entry_of, said_text, said_by, said_of, unmarked_by, unmarked, unmarked_from}
 
-said_append : (test : Entry → Bool) (xs ys : List Told) → said_by test (xs ++ ys) ≡ said_by test xs ++ said_by test ys
+pub said_append : (test : Entry → Bool) (xs ys : List Told) → said_by test (xs ++ ys) ≡ said_by test xs ++ said_by test ys
 said_append test xs ys =
     ap (flat_map said_text) (filter-append (λ (t : Told). test (entry_of t)) xs ys)
     ∙ flat_map-append said_text (filter (λ (t : Told). test (entry_of t)) xs) (filter (λ (t : Told). test (entry_of t)) ys)
@@ -36,7 +36,7 @@ pub none_said : (said : List Told) → said_of 0 said ≡ []
 unfolding said_of
 none_said said = refl
 
-next_said : (said : List Told) (d : ℕ) → said_of (d + 1) said ≡ said_of d said ++ said_by (is_of_controller d) said ++ said_by (is_of_candidate d) said
+pub next_said : (said : List Told) (d : ℕ) → said_of (d + 1) said ≡ said_of d said ++ said_by (is_of_controller d) said ++ said_by (is_of_candidate d) said
 unfolding said_of
 next_said said d = rw (add-one d) refl
 

@@ -1,5 +1,5 @@
 -- The text of what is told of, in the order of the endings.
-use Rattle.std.specs.Prelude.{ℕ, zero, suc, ◌+◌, List, [], ◌∷◌, ◌++◌, Bool, false, codes, slice_index_or, if◌then◌else◌}
+use Rattle.std.specs.Prelude.{ℕ, ◌≡◌, zero, suc, ◌+◌, List, [], ◌∷◌, ◌++◌, Bool, false, codes, slice_index_or, if◌then◌else◌}
 use Rattle.std.specs.List.{filter, flat_map}
 use Rattle.fw_entry.specs.declared.entry.Entry.{Entry}
 use Rattle.fw_entry.specs.declared.entry.Entry.TheVariants.{Event, Outcome, Shown}
@@ -33,6 +33,10 @@ abbrev pub test_of : Whose → Entry → Bool
 test_of (Of.Controller d) = is_of_controller d
 test_of (Of.Candidate d) = is_of_candidate d
 test_of Of.Nobody = is_shown
+
+-- it is told of neither the controller nor the candidate of a device
+abbrev pub IsNotOf : ℕ → Told → Type 0
+IsNotOf d t = (is_of_controller d (entry_of t) ≡ false) × (is_of_candidate d (entry_of t) ≡ false)
 
 unfoldable pub said_of : ℕ → List Told → List ℕ
 said_of zero said = []

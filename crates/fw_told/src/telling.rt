@@ -1,9 +1,10 @@
 //! What is told of, as text.
 
-ghost use Rattle.std.specs.Prelude.{◌≡◌, ◌≤◌, ◌++◌, ◌∷◌, [], OnOk, length};
+ghost use Rattle.std.specs.Prelude.{◌≡◌, ◌≤◌, ◌<◌, ◌==◌, ◌++◌, ◌∷◌, [], ℕ, false, OnOk, length};
+ghost use Rattle.std.specs.List.{All};
 ghost use Rattle.fw_explain.specs.Lines.{what_text};
 ghost use Rattle.fw_told.specs.Telling.{is_of_bid, is_of_candidate, is_of_controller, remark};
-ghost use Rattle.fw_told.specs.Sayings.{entry_of, said_text, said_by, said_all, test_of, unmarked_by, unmarked_from};
+ghost use Rattle.fw_told.specs.Sayings.{IsNotOf, entry_of, said_text, said_by, said_all, test_of, unmarked_by, unmarked_from};
 
 use crate::past::Told;
 use fw_entry::codes::{NO_DEVICE, event};
@@ -110,16 +111,50 @@ fn put_device(out: &mut Vec<u8>, pairs: &Pairs, said: &[Told], device: u8) -> Re
     put_whose(out, pairs, said, Whose::Candidate(device))
 }
 
+// One more than a device's number, and 0 for what is no device.
+fn after_device(device: u8) -> u8
+    ensures few { result ≤ 63 }
+    ensures others { (d : ℕ) → result ≤ d → d < 63 → (device == d) ≡ false }
+{
+    if device < 63 { device + 1 } else { 0 }
+}
+
+// One more than the number of the device of which it is told, and 0 where it is told of none.
+fn after_told(told: &Told) -> u8
+    ensures few { result ≤ 63 }
+    ensures others { (d : ℕ) → result ≤ d → d < 63 → IsNotOf d told.now }
+{
+    match told {
+        Told::Event(e) => after_device(e.device),
+        Told::Outcome(o) => after_device(o.device),
+        Told::Shown(_) => 0,
+    }
+}
+
+// From this device on nothing is told of any.
+fn end_of(said: &[Told]) -> u8
+    ensures few { result ≤ 63 }
+    ensures others { (d : ℕ) → result ≤ d → d < 63 → All (IsNotOf d) said.now }
+{
+    let mut end = 0;
+    for told in said {
+        let after = after_told(told);
+        if end < after {
+            end = after;
+        }
+    }
+    end
+}
+
 /// Appends all that is told: by device, then without one, then what was shown. An error says that memory ran out.
-pub fn put_said(out: &mut Vec<u8>, said: &[Told]) -> Result<(), AllocError>
+pub fn put_said(out: &mut Vec<u8>, pairs: &Pairs, said: &[Told]) -> Result<(), AllocError>
     ensures { OnOk result (out.new.items ≡ out.old.items ++ said_all said.now) }
 {
-    let pairs = Pairs::new();
-    for device in 0..63 {
-        put_device(out, &pairs, said, device)?;
+    for device in 0..end_of(said) {
+        put_device(out, pairs, said, device)?;
     }
-    put_whose(out, &pairs, said, Whose::Controller(NO_DEVICE))?;
-    put_whose(out, &pairs, said, Whose::Nobody)
+    put_whose(out, pairs, said, Whose::Controller(NO_DEVICE))?;
+    put_whose(out, pairs, said, Whose::Nobody)
 }
 
 // Appends the line of a mover that is one, if it was not carried out.

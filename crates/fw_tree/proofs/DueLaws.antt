@@ -6,14 +6,14 @@ use Rattle.std.proofs.lemmas.List.{get_or-replicate}
 use Rattle.std.proofs.lemmas.List.Sums.{sum_by-cons}
 use Rattle.fw_tree.specs.declared.facts.End.{End}
 use Rattle.fw_tree.specs.declared.rounds.Parent.{Parent}
-use Rattle.fw_tree.specs.Cables.{Peers, peer, InRange, is_seen, AreMarked}
-use Rattle.fw_tree.specs.Rounds.{is_open, open_count}
+use Rattle.fw_tree.specs.Cables.{Peers, peer, InRange, is_seen}
+use Rattle.fw_tree.specs.Rounds.{is_open, open_count, LeavesBy}
 use Rattle.fw_tree.specs.Forest.{AreCables}
-use Rattle.fw_tree.specs.Parents.{IsDue, staying}
+use Rattle.fw_tree.specs.Parents.{IsDue, IsOpenMarked, staying}
 use Rattle.fw_tree.proofs.ForestLaws.{truth, first_of, second_of, open_to, opened}
 use Rattle.fw_tree.proofs.ParentLaws.{Leave, leave_more, set_seen_other}
 use Rattle.fw_tree.proofs.PlacedLaws.{none_open}
-use Rattle.fw_tree.proofs.RoundLaws.{in_range}
+use Rattle.fw_tree.proofs.RoundLaws.{in_range, same_end, same_port}
 
 -- a device that is not due does not leave
 not_due : (stays due : Bool) (n : ℕ) → (stays ≡ true → n ≡ 1 → due ≡ true) → due ≡ false → false ≡ (stays && (n == 1))
@@ -29,28 +29,42 @@ due_first g d low still one = get_or-replicate 63 d true false low
 
 -- what is joined to those that left is marked, as far as the devices below i
 pub Marked : Peers → List Bool → List Bool → List Bool → ℕ → Type 0
-Marked g old now due i = (k : ℕ) → k < i → is_seen old k ≡ true → is_seen now k ≡ false → AreMarked (slice_index_or g k []) due
+Marked g old now due i = (k : ℕ) → k < i → is_seen old k ≡ true → is_seen now k ≡ false → IsOpenMarked g (is_seen old) k due
 
-all_keep : (ports : List (Option End)) (due more : List Bool) → ((k : ℕ) → IsTrue (is_seen due k) → IsTrue (is_seen more k)) → AreMarked ports due → AreMarked ports more
-all_keep ports due more keeps m p = still (slice_index_or ports p None) (m p)
+all_keep : (g : Peers) (s : ℕ → Bool) (d : ℕ) (due more : List Bool) → ((k : ℕ) → IsTrue (is_seen due k) → IsTrue (is_seen more k)) → IsOpenMarked g s d due → IsOpenMarked g s d more
+all_keep g s d due more keeps m p = still (peer g d p) (m p)
   where
-    still : (o : Option End) → IfSome o (λ e. IsTrue (is_seen due e.device)) → IfSome o (λ e. IsTrue (is_seen more e.device))
+    still : (o : Option End) → IfSome o (λ e. s e.device ≡ true → is_seen due e.device ≡ true) → IfSome o (λ e. s e.device ≡ true → is_seen more e.device ≡ true)
     still None h = tt
-    still (Some e) h = keeps e.device h
+    still (Some e) h = λ stays. keeps e.device (h stays)
+
+-- a device that leaves has one open cable: where that leads is marked
+pub open_marked : (g : Peers) (s : ℕ → Bool) (d q : ℕ) (end : End) (due : List Bool) → LeavesBy g s d q → peer g d q ≡ Some end → is_seen due end.device ≡ true
+    → IsOpenMarked g s d due
+open_marked g s d q end due l is marked p = go (peer g d p) refl
+  where
+    go : (o : Option End) → peer g d p ≡ o → IfSome o (λ e. s e.device ≡ true → is_seen due e.device ≡ true)
+    go None found = tt
+    go (Some e) found = λ stays.
+        let k : p ≡ q = same_port g s d p q l.one (opened s (peer g d p) e found stays) l.parent in
+        let there : peer g d q ≡ Some e = rw k at found in
+        let same : e.device ≡ end.device = same_end (peer g d q) e end there is in
+        rw same marked
 
 pub marked_none : (g : Peers) (old now due : List Bool) → Marked g old now due 0
 unfolding Marked
 marked_none g old now due k low = absurd (omega arith)
 
-pub marked_more : (g : Peers) (round : ℕ) (old now then due more : List Bool) (was par : List (Option Parent)) (i : ℕ) (left : Bool) → Leave g round old now was par i → Marked g old now due i → (left ≡ true → then ≡ slice_set now i false) → (left ≡ false → then ≡ now) → ((k : ℕ) → IsTrue (is_seen due k) → IsTrue (is_seen more k)) → (left ≡ true → AreMarked (slice_index_or g i []) more) → Marked g old then more (i + 1)
+pub marked_more : (g : Peers) (round : ℕ) (old now then due more : List Bool) (was par : List (Option Parent)) (i : ℕ) (left : Bool) → Leave g round old now was par i → Marked g old now due i → (left ≡ true → then ≡ slice_set now i false) → (left ≡ false → then ≡ now)
+    → ((k : ℕ) → IsTrue (is_seen due k) → IsTrue (is_seen more k)) → (left ≡ true → IsOpenMarked g (is_seen old) i more) → Marked g old then more (i + 1)
 unfolding Marked
 marked_more g round old now then due more was par i true l m gone same keeps marked k low was_in is_out = elim (cases_eq k i) [
   | inl here ↦ rw here (marked refl)
-  | inr differ ↦ all_keep (slice_index_or g k []) due more keeps (m k (omega arith) was_in (sym (set_seen_other now i k differ) ∙ (ap (λ xs. is_seen xs k) (sym (gone refl)) ∙ is_out)))
+  | inr differ ↦ all_keep g (is_seen old) k due more keeps (m k (omega arith) was_in (sym (set_seen_other now i k differ) ∙ (ap (λ xs. is_seen xs k) (sym (gone refl)) ∙ is_out)))
 ]
 marked_more g round old now then due more was par i false l m gone same keeps marked k low was_in is_out = elim (cases_eq k i) [
   | inl here ↦ absurd (let x : is_seen now k ≡ is_seen old k = l.still k (omega arith) in let y : is_seen now k ≡ false = ap (λ xs. is_seen xs k) (sym (same refl)) ∙ is_out in let z : ⊥ = cc in z)
-  | inr differ ↦ all_keep (slice_index_or g k []) due more keeps (m k (omega arith) was_in (ap (λ xs. is_seen xs k) (sym (same refl)) ∙ is_out))
+  | inr differ ↦ all_keep g (is_seen old) k due more keeps (m k (omega arith) was_in (ap (λ xs. is_seen xs k) (sym (same refl)) ∙ is_out))
 ]
 
 -- what a round has done so far
@@ -141,13 +155,15 @@ due_next g old now due d range cables after marked low stays one = elim (lost_po
     shut None e is h = absurd (let z : ⊥ = cc in z)
     shut (Some f) e is h = let same : f ≡ e = cc in rw (← same) h
 
-    seen_at : (o : Option End) (e : End) → o ≡ Some e → IfSome o (λ f. IsTrue (is_seen due f.device)) → is_seen due e.device ≡ true
-    seen_at None e is h = absurd (let z : ⊥ = cc in z)
-    seen_at (Some f) e is h = let same : f ≡ e = cc in rw (← same) h
+    seen_at : (o : Option End) (e : End) → o ≡ Some e → IfSome o (λ f. is_seen old f.device ≡ true → is_seen due f.device ≡ true) → is_seen old e.device ≡ true
+        → is_seen due e.device ≡ true
+    seen_at None e is h was = absurd (let z : ⊥ = cc in z)
+    seen_at (Some f) e is h was = let same : f ≡ e = cc in rw (← same) (h (rw same was))
 
     by_port : (p : ℕ) → Lost (is_seen old) (is_seen now) (peer g d p) → is_seen due d ≡ true
     by_port p lost =
         let o = open_to (is_seen old) (peer g d p) lost.0 in
         let gone = shut (peer g d p) o.end o.is lost.1 in
         let back = cables.back d p o.end o.is in
-        seen_at (peer g o.end.device o.end.port) (record { device = d; port = p }) back (marked o.end.device (in_range g range d p o.end o.is) o.member gone o.end.port)
+        let was : is_seen old d ≡ true = first_of (is_seen old d) (not (open_count g (is_seen old) d == 1)) (sym (after d low) ∙ stays) in
+        seen_at (peer g o.end.device o.end.port) (record { device = d; port = p }) back (marked o.end.device (in_range g range d p o.end o.is) o.member gone o.end.port) was

@@ -3,7 +3,7 @@ use Rattle.std.proofs.Common.{◌≡◌, ◌⊎◌, inl, inr, ℕ, zero, suc, �
 use Rattle.std.proofs.lemmas.Grind.{common_steps}
 use Rattle.std.proofs.lemmas.Bool.{cases_eq}
 use Rattle.fw_tree.specs.declared.facts.End.{End}
-use Rattle.fw_tree.specs.Cables.{Peers, peer, Walk, here, along, is_seen, AllReached, IsClosed, unseen, LeadsTo, MarksPeers, Spreads}
+use Rattle.fw_tree.specs.Cables.{Peers, peer, Walk, here, along, is_seen, AllReached, AreMarked, IsClosed, unseen, LeadsTo, MarksPeers, Spreads}
 
 -- what is seen after a mark
 pub seen_same : (xs : List Bool) (e : ℕ) → e < length xs → IsTrue (is_seen (slice_set xs e true) e)
@@ -47,3 +47,12 @@ only_from n e d h = elim (seen_from (replicate n false) e d h) [ inl none ↦ cc
 
 pub reached_first : (g : Peers) (a : ℕ) (seen : List Bool) → ((d : ℕ) → IsTrue (is_seen seen d) → d ≡ a) → AllReached g a seen
 reached_first g a seen others d h = let P : ℕ → Type 0 = Walk g a in subst P (sym (others d h)) here
+
+-- where nothing is joined to the one device that was seen, all that can be walked to was seen
+pub closed_alone : (g : Peers) (a : ℕ) (old seen : List Bool) → ((d : ℕ) → IsTrue (is_seen old d) → d ≡ a) → seen ≡ old → AreMarked (slice_index_or g a []) seen
+    → IsClosed g seen
+closed_alone g a old seen others same marked d p found =
+    let P : List Bool → Type 0 = λ xs. IsTrue (is_seen xs d) in
+    let is : d ≡ a = others d (subst P same found) in
+    let Q : ℕ → Type 0 = λ n. IfSome (peer g n p) (λ e. IsTrue (is_seen seen e.device)) in
+    subst Q (sym is) (marked p)

@@ -1,7 +1,7 @@
 -- What the rounds find: each device's parent, or that it is root.
-use Rattle.std.specs.Prelude.{◌≡◌, ℕ, suc, ◌+◌, ◌<◌, List, [], ◌∷◌, Option, Some, None, Bool, true, false, slice_index_or}
+use Rattle.std.specs.Prelude.{◌≡◌, ℕ, suc, ◌+◌, ◌<◌, List, [], ◌∷◌, Option, Some, None, Bool, true, false, IfSome, slice_index_or}
 use Rattle.fw_tree.specs.declared.rounds.Parent.{Parent}
-use Rattle.fw_tree.specs.Cables.{Peers, is_seen, IsOnBus}
+use Rattle.fw_tree.specs.Cables.{Peers, peer, is_seen, IsOnBus}
 use Rattle.fw_tree.specs.Rounds.{open_count, stays, LeavesBy, WinsTie, HasParent, IsRoot}
 
 -- what one round notes of a device that leaves in it
@@ -32,6 +32,10 @@ staying (false ∷ xs) = staying xs
 -- a device that leaves in a round is marked as due in it
 abbrev pub IsDue : Peers → List Bool → List Bool → ℕ → Type 0
 IsDue g now due d = is_seen now d ≡ true → open_count g (is_seen now) d ≡ 1 → is_seen due d ≡ true
+
+-- a cable of the device that leads to one that stays leads to one that is marked
+abbrev pub IsOpenMarked : Peers → (ℕ → Bool) → ℕ → List Bool → Type 0
+IsOpenMarked g s d due = (p : ℕ) → IfSome (peer g d p) (λ e. s e.device ≡ true → is_seen due e.device ≡ true)
 
 -- the round leaves all as it was
 abbrev pub Settled : Peers → ℕ → Type 0

@@ -1,14 +1,13 @@
 ghost use Rattle.std.specs.Prelude.{◌≡◌, ◌<◌, ◌≤◌, ◌==◌, ◌&&◌, not, ℕ, [], true, false, None, Some, IfSome, IfNone, IsTrue, count_by, length, nat_lt, slice_index_or, slice_set};
-ghost use Rattle.fw_tree.specs.Cables.{AreMarked, InRange, is_seen, peer};
+ghost use Rattle.fw_tree.specs.Cables.{InRange, is_seen, peer};
 ghost use Rattle.fw_tree.specs.declared.facts.End.{End as Far};
 ghost use Rattle.fw_tree.specs.Rounds.{is_open, open_count, LeavesBy};
 ghost use Rattle.fw_tree.specs.Forest.{AreCables};
-ghost use Rattle.fw_tree.specs.Parents.{Notes, IsDue, IsParent, Settled, parent_at, staying};
+ghost use Rattle.fw_tree.specs.Parents.{Notes, IsDue, IsOpenMarked, IsParent, Settled, parent_at, staying};
 ghost use Rattle.fw_tree.specs.Topology.{ArePlaced};
 
 use crate::facts::AllCables;
 use crate::ports::cables_of;
-use crate::walk::mark_peers;
 use crate::{End, PhyFacts};
 
 // A cable of a device: its port, and the far end.
@@ -30,8 +29,8 @@ pub struct Parent {
 struct Round {
     // The device has not left.
     stays: [bool; 63],
-    // The device may leave in the round: in the first round each device, and later those with a cable to one that left in the
-    // round before, since no other has fewer open cables than before.
+    // The device may leave in the round: in the first round each device, and later those to which the one open cable of a device led
+    // that left in the round before, since no other that stays has fewer open cables than before.
     due: [bool; 63],
 }
 
@@ -83,7 +82,7 @@ fn has_left(before: &[bool; 63], after: &[bool; 63], other: usize, d: usize) -> 
     other < d && before[other] && !after[other]
 }
 
-// Lets a device leave where it has one open cable, and says whether it left. Then those at its cables may leave in the next
+// Lets a device leave where it has one open cable, and says whether it left. Then the one at that cable may leave in the next
 // round. Those before it have left already, so that they need not be asked again.
 fn leave_one(
     g: &AllCables,
@@ -106,7 +105,7 @@ fn leave_one(
     ensures same { result ≡ false → after.new.stays ≡ after.old.stays }
     ensures same_parents { result ≡ false → parents.new ≡ parents.old }
     ensures keeps { (k : ℕ) → IsTrue (is_seen after.old.due k) → IsTrue (is_seen after.new.due k) }
-    ensures marked { result ≡ true → AreMarked (slice_index_or g.now d []) after.new.due }
+    ensures marked { result ≡ true → IsOpenMarked g.now (is_seen before.now) d after.new.due }
 {
     let Some(cable) = way_out(g, facts, d, before) else {
         return false;
@@ -120,7 +119,7 @@ fn leave_one(
         })
     };
     after.stays[d] = false;
-    mark_peers(cables_of(g, facts, d), &mut after.due);
+    after.due[cable.end.device as usize] = true;
     true
 }
 

@@ -103,6 +103,10 @@ pub fn reach(g: &AllCables, facts: &[PhyFacts; 63], a: u8) -> [bool; 63]
     ensures first { is_seen result a ≡ true }
 {
     let mut seen = only(a);
+    // A device that was just declared has no cables, so that nothing more is reached.
+    if !spread_from(g, facts, usize::from(a), &mut seen) {
+        return seen;
+    }
     while spread(g, facts, &mut seen) {}
     seen
 }

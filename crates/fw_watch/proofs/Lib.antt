@@ -3,3 +3,4 @@ pub mod HeldLaws
 pub mod SwapLaws
 pub mod PutLaws
 pub mod StepLaws
+pub mod OnlyLaws

@@ -5,7 +5,7 @@ ghost use Rattle.fw_remarks.specs.Remarks.{told};
 ghost use Rattle.fw_watch.specs.Swaps.{many_remarks, new_units_remarks, units_remarks, taken_remarks, change_remarks, changes_remarks, channels_remarks, plug_remarks, swap_remarks};
 
 use crate::swap::{ALL_UNITS, changes, is_move, is_new, units_held};
-use fw_known::{Made, State};
+use fw_known::{Made, State, only_change};
 use fw_remarks::{Journal, Register, Remark, bit};
 use std::alloc::AllocError;
 
@@ -124,9 +124,9 @@ fn tell_changes(state: &State, journal: &mut Journal, m: &Made, first: u8) -> Re
     Ok(())
 }
 
-// Tells a swap of half of CHANNELS_AVAILABLE.
+// Tells a swap of half of CHANNELS_AVAILABLE, channel by channel.
 #[tactic(auto, using(crate::proofs::WatchLaws::told_more), unfolding(crate::specs::Swaps::channels_remarks))]
-fn tell_channels(
+fn tell_all_channels(
     state: &State,
     journal: &mut Journal,
     m: &Made,
@@ -141,6 +141,22 @@ fn tell_channels(
         return Ok(());
     }
     journal.say(m.cycle, Remark::Several { by: m.by, count })
+}
+
+// Tells a swap of half of CHANNELS_AVAILABLE: most change one channel.
+fn tell_channels(
+    state: &State,
+    journal: &mut Journal,
+    m: &Made,
+    first: u8,
+) -> Result<(), AllocError>
+    requires { first ≤ 32 }
+    ensures { OnOk result (journal.new ≡ told journal.old (channels_remarks state.now m.now first)) }
+{
+    match only_change(m.old, m.new) {
+        Some(at) => tell_change(state, journal, m, first, at),
+        None => tell_all_channels(state, journal, m, first),
+    }
 }
 
 // Tells a swap of a plug.

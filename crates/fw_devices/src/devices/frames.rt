@@ -2,12 +2,13 @@
 
 ghost use Rattle.std.specs.Prelude.{◌≡◌, ◌≤◌, length, vec_capacity, IfOk, IsTrue};
 ghost use Rattle.fw_devices.specs.Frames.{AreWithin, IsOf, frame_of, nodes_at};
-ghost use Rattle.fw_devices.specs.Network.{Network};
+ghost use Rattle.fw_devices.specs.Network.{Network, kinds_of};
 
 use super::Devices;
 use crate::bus::no_reset;
 use crate::frame::Frame;
 use crate::names::Names;
+use fw_base::DeviceKind;
 use fw_node::Node;
 use fw_tree::Cabling;
 use std::alloc::{AllocError, Global};
@@ -28,18 +29,37 @@ fn copy_nodes(nodes: &mut Vec<Node>, kept: &[Node], numbers: &[u32])
     }
 }
 
-// The nodes are those that are kept under `now`, and become those under `numbers`: only where the two differ is one copied.
-fn change_nodes(nodes: &mut [Node], kept: &[Node], now: &[u32], numbers: &[u32])
+// Two that are found to be of one kind are.
+fn same_kind(node: &Node, other: &Node) -> bool
+    ensures { IsTrue result → node.now.kind ≡ other.now.kind }
+{
+    matches!(
+        (node.kind(), other.kind()),
+        (DeviceKind::Relay, DeviceKind::Relay)
+            | (DeviceKind::Deck, DeviceKind::Deck)
+            | (DeviceKind::Camcorder, DeviceKind::Camcorder)
+            | (DeviceKind::Computer, DeviceKind::Computer)
+    )
+}
+
+// The nodes are those that are kept under `now`, and become those under `numbers`: only where the two differ is one copied. Whether each
+// is of the kind that it was of.
+fn change_nodes(nodes: &mut [Node], kept: &[Node], now: &[u32], numbers: &[u32]) -> bool
     requires now { nodes.old ≡ nodes_at kept.now now.now }
     requires size { length now.now ≡ length numbers.now }
     requires within { AreWithin numbers.now (length kept.now) }
-    ensures { nodes.new ≡ nodes_at kept.now numbers.now }
+    ensures nodes { nodes.new ≡ nodes_at kept.now numbers.now }
+    ensures kinds { IsTrue result → kinds_of nodes.new ≡ kinds_of nodes.old }
 {
+    let mut same = true;
     for n in 0..numbers.len() {
         if now[n] != numbers[n] {
-            nodes[n].copy_from(&kept[numbers[n] as usize]);
+            let node = &kept[numbers[n] as usize];
+            same &= same_kind(node, &nodes[n]);
+            nodes[n].copy_from(node);
         }
     }
+    same
 }
 
 impl Devices {
@@ -58,6 +78,13 @@ impl Devices {
         frame.names.copy_from(&self.names);
         frame.entry.copy_from(&self.bus.entry);
         Ok(frame)
+    }
+
+    // If it is found that they have the names and cables of a frame, they do.
+    fn has_lines(&self, frame: &Frame) -> bool
+        ensures { IsTrue result → (self.now.topology ≡ frame.now.topology) × (self.now.names ≡ frame.now.names) }
+    {
+        self.cabling.is_same(&frame.cabling) && self.names.is_same(&frame.names)
     }
 
     /// If it is found that they have a frame, they do.
@@ -104,7 +131,23 @@ impl Devices {
         requires kept { (n : Network) × IsOf (frame_of self.old) kept.now numbers.now n }
         ensures { (n : Network) → IsOf (frame_of self.old) kept.now numbers.now n → self.new ≡ n }
     {
-        self.bus.current = false;
-        change_nodes(&mut self.nodes, kept, now, numbers);
+        let same = change_nodes(&mut self.nodes, kept, now, numbers);
+        self.bus.current &= same;
+    }
+
+    /// The same with another frame: names and cables are copied only if they differ, and what was found of the bus stays if it is still so.
+    pub fn change_frame(&mut self, frame: &Frame, kept: &[Node], now: &[u32], numbers: &[u32])
+        requires now { IsOf (frame_of self.old) kept.now now.now self.old }
+        requires kept { (n : Network) × IsOf frame.now kept.now numbers.now n }
+        ensures { (n : Network) → IsOf frame.now kept.now numbers.now n → self.new ≡ n }
+    {
+        if now.len() != numbers.len() || !self.has_lines(frame) {
+            self.give_back(frame, kept, numbers);
+            return;
+        }
+        let same = change_nodes(&mut self.nodes, kept, now, numbers);
+        self.bus.current &= same;
+        self.bus.change(&frame.entry, frame.manager);
+        self.withhold = frame.withhold;
     }
 }

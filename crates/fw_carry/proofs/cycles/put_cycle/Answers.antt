@@ -72,8 +72,8 @@ returns-in_default-recording_on g c =
       fills = cycle_unheard _ c.put_packets.new.heard refl (λ s good st. sym c.in_default-recording_on.is ∙ c.recording_on.ensures.value s good st) c.put_packets.ensures.same begun c.put_packets.ensures.puts;
     }
 
-pub put_packets-requires-2 : goal.put_packets-requires-2
-put_packets-requires-2 g c = record {
+pub put_heard-requires : goal.put_heard-requires
+put_heard-requires g c = record {
   ready = ready_after c.requires.ready
       (begun_in c.next_cycle.new.room.cycle c.put_entry.new.room.cycle c.in-Some.root _ c.requires.ready c.requires.written c.next_cycle.ensures.fills (λ s good st. sym (c.root.ensures s good st) ∙ c.in-Some.is)
       c.cycle_start-start.ensures.value c.put_entry.ensures.gives);
@@ -90,5 +90,5 @@ returns g c =
     rw c.keep.ensures (record {
       talkers = c.next_cycle.ensures.talkers;
       still = c.next_cycle.ensures.still;
-      fills = cycle_then _ _ c.put_packets-2.new.heard refl (λ s good st. sym c.in-Some-recording_on.is ∙ c.recording_on.ensures.value s good st) c.put_packets-2.ensures.same begun c.put_packets-2.ensures.puts;
+      fills = cycle_then _ _ c.put_heard.new.heard refl (λ s good st. sym c.in-Some-recording_on.is ∙ c.recording_on.ensures.value s good st) c.put_heard.ensures.same begun c.put_heard.ensures.puts;
     })

@@ -1,25 +1,40 @@
-use Rattle.std.proofs.Common.{◌≡◌, ◌<◌, inl, inr, false, Some, None, IfSome, refl, ap, sym, subst, ◌∙◌, arith}
+use Rattle.std.proofs.Common.{◌≡◌, ◌<◌, ℕ, inr, true, Option, Some, IfSome, IfNone, IsTrue, refl, sym, subst, arith}
+use Rattle.std.specs.Prelude.{OnOk}
 use Rattle.fw_async.specs.Wire.{Pairs}
+use Rattle.fw_base.specs.Tables.{update}
 use Rattle.fw_base.specs.declared.label.Label.TheVariants.{Procedure}
+use Rattle.fw_csr.specs.declared.request.Request.{Request}
 use Rattle.fw_node.specs.Packets.{packet_of, request_head}
-use Rattle.fw_outside.proofs.Parts.{Grows-nothing}
 use Rattle.fw_entry.specs.declared.entry.Entry.TheVariants.{Async}
-use Rattle.fw_cmp.specs.declared.outcome.Next.{Next}
-use Rattle.fw_cmp.specs.Turns.{addressee_in}
-use Rattle.fw_step.specs.Requests.{is_sent}
-use Rattle.fw_run.specs.HalfSteps.{half, said}
-use Rattle.fw_carry.specs.Performing.{TakesHalf}
+use Rattle.fw_cmp.specs.Losses.{after_turn, turn_of}
+use Rattle.fw_cmp.specs.declared.outcome.Next.TheVariants.{Send}
+use Rattle.fw_run.specs.HalfSteps.{half}
+use Rattle.fw_carry.specs.Leaving.{WhereNothing}
+use Rattle.fw_carry.specs.Performing.{TakesHalf, WritesHalf}
 use Rattle.fw_carry.proofs.DeafTurns.{living_node}
-use Rattle.fw_carry.proofs.Doings.{no_faults}
-use Rattle.fw_carry.proofs.HalfTurns.{IsSilent, takes_asks, rests_says, node_numbers}
+use Rattle.fw_carry.proofs.HalfTurns.{node_numbers}
 use Rattle.fw_carry.proofs.ResetTurns.{ready_cycle}
-use Rattle.fw_carry.proofs.HalfWires.{Sends, sends_takes, sends_fits, sends_free, quiet_wire}
+use Rattle.fw_carry.proofs.HalfWires.{Sends, sends_takes, sends_fits, sends_free}
+use Rattle.fw_carry.proofs.Leaves.{gave_not, half_asks, where_not, with_one}
+use Rattle.fw_machine.specs.Giving.{sides_of}
+use Rattle.fw_machine.specs.Halves.{IsHalfFrom}
+use Rattle.fw_machine.specs.Stands.{IsReady, is_living_in}
+use Rattle.fw_machine.specs.Tables.{ControllerTable, IsTable, Listens, count_of, dead_of, states_of}
+use Rattle.fw_machine.specs.declared.machine.Machine.{Machine}
 use Rattle.fw_machine.proofs.Heard.{reached_here}
 use Rattle.fw_machine.proofs.Living.{living_there}
 use Rattle.fw_carry.proofs.half.ask.Goals as goal
 
-pub next-requires : goal.next-requires
-next-requires g c =
+-- a device's controller has asked
+abbrev Asked : Machine → ℕ → ControllerTable → Type 0
+Asked m d k = IsTable k (count_of m.controllers) (update (states_of m.controllers) d (after_turn m.cycle m.directory (states_of m.controllers d))) (dead_of m.controllers)
+
+-- its turn is this request
+abbrev Says : Machine → ℕ → ℕ → Request → Type 0
+Says m d to q = turn_of m.cycle m.directory (states_of m.controllers d) ≡ Send to q
+
+pub ask-requires : goal.ask-requires
+ask-requires g c =
     let r = c.requires.ready in
     record {
       device = (living_there c.args.machine.now c.args.device r c.requires.living).controller;
@@ -36,13 +51,13 @@ number-own-requires g c = living_node c.args.machine.now c.args.device c.require
 
 pub send-requires : goal.send-requires
 send-requires g c =
-    let p = packet_of (request_head c.number-own.result c.in-Send.to Procedure) c.in-Send.request in
-    let low : c.in-Send.to < 63 = subst (λ (x : Next). IfSome (addressee_in x) (λ t. t < 63)) c.in-Send.is c.next.ensures.addressee in
-    let x : Sends c.args.machine.now c.args.device c.in-Send.to c.number-own.result c.next.new.self c.in-Send.request p = record {
+    let m = c.args.machine.now in
+    let low : c.in-Some.to < 63 = subst (λ (x : Option (ℕ × Request)). IfSome x (λ asked. asked.0 < 63)) c.in-Some.is c.ask.ensures.addressee in
+    let x : Sends m c.args.device c.in-Some.to c.number-own.result c.ask.new.self c.in-Some.request (packet_of (request_head c.number-own.result c.in-Some.to Procedure) c.in-Some.request) = record {
       lives = c.requires.living;
       heard = c.requires.heard;
-      table = c.next.ensures.state;
-      says = sym c.next.ensures.answer ∙ c.in-Send.is;
+      table = subst (λ (x : Option (ℕ × Request)). IfSome x (λ asked. Asked m c.args.device c.ask.new.self)) c.in-Some.is c.ask.ensures.state;
+      says = subst (λ (x : Option (ℕ × Request)). IfSome x (λ asked. Says m c.args.device asked.0 asked.1)) c.in-Some.is c.ask.ensures.sends;
       low = low;
       number = c.number-own.ensures.value;
       packet = refl;
@@ -51,68 +66,58 @@ send-requires g c =
 
 pub give_packet-requires : goal.give_packet-requires
 give_packet-requires g c =
-    record { packet = packet_of (request_head c.number-own.result c.in-Send.to Procedure) c.in-Send.request; spells = c.send.ensures.packet }
+    record { packet = packet_of (request_head c.number-own.result c.in-Some.to Procedure) c.in-Some.request; spells = c.send.ensures.packet }
 
-pub returns-in-Send : goal.returns-in-Send
-returns-in-Send g c =
-    let p = packet_of (request_head c.number-own.result c.in-Send.to Procedure) c.in-Send.request in
-    let x : Sends c.args.machine.now c.args.device c.in-Send.to c.number-own.result c.next.new.self c.in-Send.request p = record {
+pub returns-in-Some : goal.returns-in-Some
+returns-in-Some g c =
+    let m = c.args.machine.now in
+    let p = packet_of (request_head c.number-own.result c.in-Some.to Procedure) c.in-Some.request in
+    let table : Asked m c.args.device c.ask.new.self = subst (λ (x : Option (ℕ × Request)). IfSome x (λ asked. Asked m c.args.device c.ask.new.self)) c.in-Some.is c.ask.ensures.state in
+    let x : Sends m c.args.device c.in-Some.to c.number-own.result c.ask.new.self c.in-Some.request p = record {
       lives = c.requires.living;
       heard = c.requires.heard;
-      table = c.next.ensures.state;
-      says = sym c.next.ensures.answer ∙ c.in-Send.is;
-      low = subst (λ (x : Next). IfSome (addressee_in x) (λ t. t < 63)) c.in-Send.is c.next.ensures.addressee;
+      table = table;
+      says = subst (λ (x : Option (ℕ × Request)). IfSome x (λ asked. Says m c.args.device asked.0 asked.1)) c.in-Some.is c.ask.ensures.sends;
+      low = subst (λ (x : Option (ℕ × Request)). IfSome x (λ asked. asked.0 < 63)) c.in-Some.is c.ask.ensures.addressee;
       number = c.number-own.ensures.value;
       packet = refl;
     } in
-    let m = c.args.machine.now in
     record {
       speaks = record {
         entry = Some (Async p);
-        takes = subst (λ (w : Pairs). TakesHalf half m (record m { controllers = c.next.new.self; wire = w }) c.args.device (Some (Async p))) (sym c.send.ensures.wire) (sends_takes x);
+        takes = subst (λ (w : Pairs). TakesHalf half m (record m { controllers = c.ask.new.self; wire = w }) c.args.device (Some (Async p))) (sym c.send.ensures.wire) (sends_takes x);
         gives = (c.give_packet.ensures p c.send.ensures.packet).bytes;
         faults = (c.give_packet.ensures p c.send.ensures.packet).faults;
       };
       same = refl;
-      dead = c.next.ensures.state.dead_are;
+      dead = table.dead_are;
+      half = half_asks m c.ask.new.self c.send.new.wire c.args.device _ (subst (λ (x : Option (ℕ × Request)). IfSome x (λ asked. c.ask.new.self ≡ with_one m.controllers c.args.device (after_turn m.cycle m.directory (states_of m.controllers c.args.device)))) c.in-Some.is c.ask.ensures.list);
+      silent = where_not _ _ c.give_packet.result _ (gave_not _ _ _ _ (c.give_packet.ensures p c.send.ensures.packet));
     }
 
--- ---- the job ends
+-- ---- it is not found at once
 
-pub returns-in-End : goal.returns-in-End
-returns-in-End g c = record {
-  speaks = record {
-    entry = Some c.outcome_entry.result;
-    takes = takes_asks c.args.machine.now c.next.new.self c.args.machine.now.wire c.args.device _ c.requires.living c.requires.heard c.next.ensures.state
-        (λ s g st. ap (λ e. Some e) c.outcome_entry.ensures ∙ sym (ap (said s c.args.device) (sym c.next.ensures.answer ∙ c.in-End.is)))
-        (quiet_wire c.args.machine.now c.args.device c.requires.living c.requires.heard (ap is_sent (sym c.next.ensures.answer ∙ c.in-End.is)));
-    gives = c.give.ensures.bytes;
-    faults = c.give.ensures.faults;
-  };
-  same = refl;
-  dead = c.next.ensures.state.dead_are;
-}
-
--- ---- nothing to do
-
-silent : (x : Next) → IsSilent x → is_sent x ≡ false
-silent x (inl e) = ap is_sent e
-silent x (inr (inl w)) = ap is_sent w.1
-silent x (inr (inr (inl w))) = ap is_sent w.1
-silent x (inr (inr (inr e))) = ap is_sent e
-
-pub returns-in-Idle : goal.returns-in-Idle
-returns-in-Idle g c =
-    let quiet : is_sent c.next.result ≡ false = silent c.next.result c.in-Idle.is in
+pub ask_other-requires : goal.ask_other-requires
+ask_other-requires g c =
+    let m = c.args.machine.now in
+    let none : c.ask.new.self ≡ m.controllers = subst (λ (x : Option (ℕ × Request)). IfNone x (c.ask.new.self ≡ m.controllers)) c.in-None.is c.ask.ensures.none in
+    let same : m ≡ record m { controllers = c.ask.new.self } = λ i. record m { controllers = sym none i } in
     record {
-      speaks = record {
-        entry = None;
-        takes = takes_asks c.args.machine.now c.next.new.self c.args.machine.now.wire c.args.device _ c.requires.living c.requires.heard c.next.ensures.state
-            (λ s g st. subst (λ x. None ≡ said s c.args.device x) c.next.ensures.answer (rests_says s c.args.device c.next.result c.in-Idle.is))
-            (quiet_wire c.args.machine.now c.args.device c.requires.living c.requires.heard (ap is_sent (sym c.next.ensures.answer) ∙ quiet));
-        gives = Grows-nothing (g.K.Sink.held c.args.sink.now);
-        faults = no_faults (g.K.Sink.faults c.args.sink.now) tt;
-      };
-      same = refl;
-      dead = c.next.ensures.state.dead_are;
+      ready = subst IsReady same c.requires.ready;
+      living = subst (λ (z : Machine). IsTrue (is_living_in z c.args.device)) same c.requires.living;
+      heard = subst (λ (z : Machine). Listens (states_of z.controllers c.args.device)) same c.requires.heard;
+    }
+
+pub returns-in-None : goal.returns-in-None
+returns-in-None g c =
+    let m = c.args.machine.now in
+    let none : c.ask.new.self ≡ m.controllers = subst (λ (x : Option (ℕ × Request)). IfNone x (c.ask.new.self ≡ m.controllers)) c.in-None.is c.ask.ensures.none in
+    let same : record m { controllers = c.ask.new.self } ≡ m = λ i. record m { controllers = none i } in
+    let now = c.ask_other.new.machine in
+    record {
+      speaks = subst (λ (z : Machine). WritesHalf half z now c.args.device (sides_of g.K.Sink.held g.K.Sink.faults c.args.sink.now c.ask_other.new.sink) c.ask_other.result) same c.ask_other.ensures.speaks;
+      same = subst (λ (z : Machine). now ≡ record z { controllers = now.controllers; wire = now.wire }) same c.ask_other.ensures.same;
+      dead = subst (λ (z : Machine). dead_of now.controllers ≡ dead_of z.controllers) same c.ask_other.ensures.dead;
+      half = subst (λ (z : Machine). IsHalfFrom c.args.device true z now) same c.ask_other.ensures.half;
+      silent = subst (λ (z : Machine). OnOk c.ask_other.result (WhereNothing (g.K.Sink.held c.args.sink.now) (g.K.Sink.held c.ask_other.new.sink) (now ≡ z))) same c.ask_other.ensures.silent;
     }

@@ -2,6 +2,7 @@ use Rattle.std.proofs.Common.{ap, Some}
 use Rattle.fw_entry.specs.declared.entry.Entry.TheVariants.{Async}
 use Rattle.fw_machine.specs.declared.machine.Machine.{Machine}
 use Rattle.fw_carry.proofs.HalfLives.{living_stays}
+use Rattle.fw_carry.proofs.Leaves.{gave_not, half_hears}
 use Rattle.fw_carry.proofs.Served.{served_within, served_awaits, served_hears}
 use Rattle.fw_carry.proofs.half.hear.Goals as goal
 
@@ -21,7 +22,7 @@ pub returns : goal.returns
 returns g c =
     let m : Machine = c.args.machine.now in
     let s = c.serve_request-reply.ensures in
-    let takes = served_hears m _ c.hear.new.self c.args.device _ _ c.requires.living c.requires.standing s c.hear.ensures in
+    let takes = served_hears m _ c.hear.new.self c.args.device _ _ c.requires.living c.requires.standing s c.hear.ensures.state in
     record {
       speaks = record {
         entry = Some (Async s.response);
@@ -33,4 +34,6 @@ returns g c =
       time = ap (λ (z : Machine). z.cycle) s.after;
       half_steps = ap (λ (z : Machine). z.half_steps) s.after;
       names = ap (λ (z : Machine). z.devices.names) s.after;
+      half = half_hears m _ c.hear.new.self c.args.device _ _ _ s c.hear.ensures.list;
+      written = gave_not _ _ _ _ (c.give_packet.ensures s.response s.spells);
     }

@@ -1,10 +1,11 @@
-use Rattle.std.proofs.Common.{◌∙◌, inl, Some, refl, ap, sym}
+use Rattle.std.proofs.Common.{◌∙◌, ◌+◌, inl, Some, refl, ap, sym, arith}
 use Rattle.std.proofs.lemmas.Bool.{false≢true}
 use Rattle.fw_entry.specs.declared.entry.Entry.TheVariants.{Reset}
 use Rattle.fw_machine.specs.declared.machine.Machine.{Machine}
 use Rattle.fw_carry.proofs.Doings.{does_one, does_silent}
 use Rattle.fw_carry.proofs.DeafTurns.{deaf_forces, deaf_waits, forced_few, living_half, living_node}
 use Rattle.fw_carry.proofs.HalfTurns.{node_numbers}
+use Rattle.fw_carry.proofs.Leaves.{deaf_leaves, half_asks, half_counted, half_either, reset_not, where_not}
 use Rattle.fw_carry.proofs.ResetTurns.{ready_cycle, ready_declared, ready_on}
 use Rattle.fw_machine.proofs.Living.{living_there}
 use Rattle.fw_carry.proofs.steps.deaf_step.Goals as goal
@@ -43,6 +44,8 @@ returns-then-is_force g c =
       living = living_half m c.give_reset.new.machine d _ c.requires.ready turns;
       names = b.reset.names;
       count = ap (λ (z : Machine). z.half_steps) b.after;
+      half = λ same. let rose = b.reset.epoch in absurd (omega (arith, same, rose));
+      silent = where_not _ _ c.give_reset.result _ (reset_not _ _ _ _ _ c.give_reset.ensures);
     }
 
 pub returns-else-is_force : goal.returns-else-is_force
@@ -56,4 +59,8 @@ returns-else-is_force g c =
       living = living_half m _ d _ c.requires.ready turns;
       names = refl;
       count = refl;
+      half = λ same asks may. half_counted d _ asks m _ (half_either d asks m _ (half_asks m c.next.new.self m.wire d _ c.next.ensures.list));
+      silent = λ bytes before after.
+          let stays = deaf_leaves m c.next.new.self d c.requires.deaf c.next.ensures.list in
+          λ i. record m { controllers = stays i; half_steps = m.half_steps + 1 };
     }

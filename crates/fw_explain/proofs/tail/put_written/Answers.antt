@@ -9,4 +9,4 @@ use Rattle.fw_explain.proofs.tail.put_written.Goals as goal
 pub returns : goal.returns
 unfolding written_text
 returns c =
-    on_ok_weaker c.put_at.result (λ piece. stepped _ _ _ (codes " write_response" ++ rcode_text 0) (at_text c.args.place) _ (stepped _ _ _ (codes " write_response") (rcode_text 0) (codes " write_response" ++ rcode_text 0) c.in_ok-put_word.ensures c.in_ok-put_rcode.ensures refl) piece refl) c.put_at.ensures
+    on_ok_weaker c.put_at.result (λ piece. stepped _ _ _ (codes " write_response" ++ rcode_text c.args.rcode) (at_text c.args.place) _ (stepped _ _ _ (codes " write_response") (rcode_text c.args.rcode) (codes " write_response" ++ rcode_text c.args.rcode) c.in_ok-put_word.ensures c.in_ok-put_rcode.ensures refl) piece refl) c.put_at.ensures

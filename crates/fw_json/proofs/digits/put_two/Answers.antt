@@ -1,6 +1,6 @@
 use Rattle.std.proofs.Common.{◌++◌, ◌∙◌, ℕ, List, ap}
 use Rattle.std.proofs.lemmas.Result.{on_ok_weaker}
-use Rattle.fw_json.proofs.Joins.{then}
+use Rattle.fw_json_packets.proofs.Joins.{then}
 use Rattle.fw_json.proofs.digits.put_two.Goals as goal
 
 pub returns : goal.returns

@@ -1,7 +1,7 @@
 use Rattle.std.proofs.Common.{ℕ, Option}
-use Rattle.fw_json.specs.Values.{field, number_value}
+use Rattle.fw_json_packets.specs.Values.{field, number_value}
 use Rattle.std.proofs.lemmas.Result.{on_ok_weaker}
-use Rattle.fw_json.proofs.Joins.{then, coded, moved}
+use Rattle.fw_json_packets.proofs.Joins.{then, coded, moved}
 use Rattle.fw_json.proofs.entry.put_event.Goals as goal
 
 pub returns : goal.returns

@@ -1,5 +1,5 @@
 use Rattle.std.proofs.lemmas.Result.{on_ok_weaker}
-use Rattle.fw_json.proofs.Joins.{then, counted, coded}
+use Rattle.fw_json_packets.proofs.Joins.{then, counted, coded}
 use Rattle.fw_json.proofs.entry.put_inserted.Goals as goal
 
 pub returns : goal.returns

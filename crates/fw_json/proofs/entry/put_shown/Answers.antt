@@ -1,9 +1,9 @@
 use Rattle.std.proofs.Common.{ap, ℕ, ◌+◌, codes}
 use Rattle.fw_csr.specs.declared.offset.TheConstants.{REGISTER_SPACE}
 use Rattle.fw_names.specs.Texts.{hex}
-use Rattle.fw_json.specs.Values.{field, quoted}
+use Rattle.fw_json_packets.specs.Values.{field, quoted}
 use Rattle.std.proofs.lemmas.Result.{on_ok_weaker}
-use Rattle.fw_json.proofs.Joins.{then, counted, moved}
+use Rattle.fw_json_packets.proofs.Joins.{then, counted, moved}
 use Rattle.fw_json.proofs.entry.put_shown.Goals as goal
 
 pub returns : goal.returns

@@ -1,6 +1,6 @@
 use Rattle.std.proofs.lemmas.Result.{on_ok_weaker}
 use Rattle.fw_json.specs.Objects.{front_fields}
-use Rattle.fw_json.proofs.Joins.{then, coded}
+use Rattle.fw_json_packets.proofs.Joins.{then, coded}
 use Rattle.fw_json.proofs.front.put_front.Goals as goal
 
 pub returns : goal.returns

@@ -2,8 +2,8 @@ use Rattle.std.proofs.Common.{◌≡◌, ◌++◌, codes, decimal, ℕ, List, ap
 use Rattle.std.proofs.lemmas.Result.{on_ok_weaker}
 use Rattle.fw_names.specs.Names.{retry_name}
 use Rattle.fw_names.specs.Texts.{hex}
-use Rattle.fw_json.specs.Values.{code, field, quoted}
-use Rattle.fw_json.proofs.Joins.{then, value_behind}
+use Rattle.fw_json_packets.specs.Values.{code, field, quoted}
+use Rattle.fw_json_packets.proofs.Joins.{then, value_after}
 use Rattle.fw_json.proofs.head.put_head.Goals as goal
 
 pub returns : goal.returns
@@ -13,7 +13,7 @@ returns c =
     let priority : List ℕ = field (codes ",\"priority\":") (decimal h.pri) in
     let start : List ℕ = c.put_number.new.text.items in
     let t1 = c.in_ok-put_text.ensures ∙ ap (λ (t : List ℕ). c.args.text.now.items ++ t) c.addressee.ensures in
-    let t2 = value_behind _ _ _ _ _ _ t1 (c.in_ok-put_number.ensures ∙ ap (λ (n : ℕ). c.put_text.new.text.items ++ decimal n) c.from.ensures) in
+    let t2 = value_after _ _ _ _ _ _ t1 (c.in_ok-put_number.ensures ∙ ap (λ (n : ℕ). c.put_text.new.text.items ++ decimal n) c.from.ensures) in
     let t3 = then _ _ (start ++ retry) _ retry t2 refl in
     let t4 = then _ _ (start ++ retry ++ priority) _ priority t3 refl in
     on_ok_weaker c.put_sender.result (λ piece. then _ _ _ _ _ t4 piece) c.put_sender.ensures

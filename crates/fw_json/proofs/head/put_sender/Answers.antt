@@ -2,9 +2,9 @@ use Rattle.std.proofs.Common.{◌≡◌, ◌++◌, OnOk, codes, decimal, ℕ, Li
 use Rattle.std.proofs.lemmas.Result.{on_ok_weaker}
 use Rattle.fw_names.specs.Names.{retry_name}
 use Rattle.fw_names.specs.Texts.{hex}
-use Rattle.fw_json.specs.Values.{code, field, quoted}
-use Rattle.fw_json.proofs.HeadTexts.{usual}
-use Rattle.fw_json.proofs.Joins.{counted}
+use Rattle.fw_json_packets.specs.Values.{code, field, quoted}
+use Rattle.fw_json_packets.proofs.HeadTexts.{usual}
+use Rattle.fw_json_packets.proofs.Joins.{counted}
 use Rattle.fw_json.proofs.head.put_sender.Goals as goal
 
 pub returns-then-is_usual : goal.returns-then-is_usual

@@ -3,7 +3,7 @@ use Rattle.std.proofs.lemmas.Result.{on_ok_weaker}
 use Rattle.std.proofs.Math.ListN.{drop_of_length-le}
 use Rattle.fw_json.specs.Ids.{id_object}
 use Rattle.fw_phy.specs.declared.packet.PhyPacket.{PhyPacket}
-use Rattle.fw_json.proofs.Joins.{row, row_next, closed}
+use Rattle.fw_json.proofs.Rows.{row, row_next, closed}
 use Rattle.fw_json.proofs.ids.put_ids.Goals as goal
 
 pub returns : goal.returns

@@ -1,6 +1,6 @@
 use Rattle.std.proofs.Common.{◌≡◌, ◌++◌, map, drop}
 use Rattle.fw_json.specs.Ids.{id_object}
-use Rattle.fw_json.proofs.Joins.{row}
+use Rattle.fw_json.proofs.Rows.{row}
 use Rattle.fw_json.proofs.ids.put_ids.Given as goal
 
 abbrev pub invariant-loop-place : goal.invariant-loop-place

@@ -2,8 +2,9 @@ use Rattle.std.proofs.Common.{◌≡◌, ◌<◌, ◌++◌, ◌∙◌, ℕ, List
 use Rattle.std.proofs.lemmas.Result.{on_ok_weaker}
 use Rattle.std.proofs.Math.ListN.{drop_of_length-le}
 use Rattle.fw_names.specs.Names.{port_name}
-use Rattle.fw_json.specs.Values.{name_value}
-use Rattle.fw_json.proofs.Joins.{moved, row, row_next, closed}
+use Rattle.fw_json_packets.specs.Values.{name_value}
+use Rattle.fw_json_packets.proofs.Joins.{moved}
+use Rattle.fw_json.proofs.Rows.{row, row_next, closed}
 use Rattle.fw_json.proofs.ids.put_port_names.Goals as goal
 
 pub returns : goal.returns

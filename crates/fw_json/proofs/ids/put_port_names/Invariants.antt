@@ -1,7 +1,7 @@
 use Rattle.std.proofs.Common.{◌≡◌, ◌++◌, map, drop}
 use Rattle.fw_names.specs.Names.{port_name}
-use Rattle.fw_json.specs.Values.{name_value}
-use Rattle.fw_json.proofs.Joins.{row}
+use Rattle.fw_json_packets.specs.Values.{name_value}
+use Rattle.fw_json.proofs.Rows.{row}
 use Rattle.fw_json.proofs.ids.put_port_names.Given as goal
 
 abbrev pub invariant-loop-place : goal.invariant-loop-place

@@ -1,7 +1,8 @@
 use Rattle.std.proofs.Common.{◌≡◌, ◌<◌, ◌++◌, ◌∙◌, ℕ, List, [], ap, sym, arith, length, map, drop, decimal}
 use Rattle.std.proofs.lemmas.Result.{on_ok_weaker}
 use Rattle.std.proofs.Math.ListN.{drop_of_length-le}
-use Rattle.fw_json.proofs.Joins.{moved, row, row_next, closed}
+use Rattle.fw_json_packets.proofs.Joins.{moved}
+use Rattle.fw_json.proofs.Rows.{row, row_next, closed}
 use Rattle.fw_json.proofs.ids.put_port_numbers.Goals as goal
 
 pub returns : goal.returns

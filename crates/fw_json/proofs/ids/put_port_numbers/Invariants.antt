@@ -1,5 +1,5 @@
 use Rattle.std.proofs.Common.{◌≡◌, ◌++◌, map, drop, decimal}
-use Rattle.fw_json.proofs.Joins.{row}
+use Rattle.fw_json.proofs.Rows.{row}
 use Rattle.fw_json.proofs.ids.put_port_numbers.Given as goal
 
 abbrev pub invariant-loop-place : goal.invariant-loop-place

@@ -1,5 +1,5 @@
 use Rattle.std.proofs.lemmas.Result.{on_ok_weaker}
-use Rattle.fw_json.proofs.Joins.{then, keyed}
+use Rattle.fw_json_packets.proofs.Joins.{then, keyed}
 use Rattle.fw_json.proofs.ids.put_ports.Goals as goal
 
 pub returns : goal.returns

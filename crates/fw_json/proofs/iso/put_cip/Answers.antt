@@ -1,8 +1,8 @@
 use Rattle.std.proofs.Common.{◌++◌, refl, ℕ, List, codes, decimal}
 use Rattle.fw_names.specs.Texts.{hex}
-use Rattle.fw_json.specs.Values.{field, quoted}
+use Rattle.fw_json_packets.specs.Values.{field, quoted}
 use Rattle.std.proofs.lemmas.Result.{on_ok_weaker}
-use Rattle.fw_json.proofs.Joins.{then, counted}
+use Rattle.fw_json_packets.proofs.Joins.{then, counted}
 use Rattle.fw_json.proofs.iso.put_cip.Goals as goal
 
 pub returns : goal.returns

@@ -2,9 +2,9 @@ use Rattle.std.proofs.Common.{◌≡◌, ◌++◌, ◌∙◌, Option, codes, dec
 use Rattle.std.proofs.lemmas.Result.{on_ok_weaker}
 use Rattle.fw_names.specs.Names.{format_name}
 use Rattle.fw_names.specs.Texts.{hex}
-use Rattle.fw_json.specs.Values.{field, quoted, name_value}
-use Rattle.fw_json.proofs.Joins.{counted, moved}
-use Rattle.fw_json.proofs.IsoTexts.{untimed_525, untimed_625}
+use Rattle.fw_json_packets.specs.Values.{field, quoted, name_value}
+use Rattle.fw_json_packets.proofs.Joins.{counted, moved}
+use Rattle.fw_json_packets.proofs.IsoTexts.{untimed_525, untimed_625}
 use Rattle.fw_json.proofs.iso.put_format.Goals as goal
 
 pub returns-then-is_untimed_525 : goal.returns-then-is_untimed_525

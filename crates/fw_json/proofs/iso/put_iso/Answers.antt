@@ -1,8 +1,8 @@
 use Rattle.std.proofs.Common.{◌++◌, ◌∙◌, ℕ, List, codes, ap}
 use Rattle.fw_names.specs.Texts.{hex_bytes}
-use Rattle.fw_json.specs.Values.{field, quoted}
+use Rattle.fw_json_packets.specs.Values.{field, quoted}
 use Rattle.std.proofs.lemmas.Result.{on_ok_weaker}
-use Rattle.fw_json.proofs.Joins.{then, counted, moved}
+use Rattle.fw_json_packets.proofs.Joins.{then, counted, moved}
 use Rattle.fw_json.proofs.iso.put_iso.Goals as goal
 
 pub returns : goal.returns

@@ -1,5 +1,5 @@
 use Rattle.std.proofs.lemmas.Result.{on_ok_weaker}
-use Rattle.fw_json.proofs.IsoTexts.{iso_code}
+use Rattle.fw_json_packets.proofs.IsoTexts.{iso_code}
 use Rattle.fw_json.proofs.iso.put_iso_code.Goals as goal
 
 pub returns : goal.returns

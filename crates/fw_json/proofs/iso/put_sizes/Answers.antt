@@ -1,15 +1,15 @@
 use Rattle.std.proofs.Common.{◌≡◌, ◌++◌, ◌∙◌, Bool, OnOk, codes, decimal, ℕ, List, ap, sym, subst}
 use Rattle.std.proofs.lemmas.Result.{on_ok_weaker}
 use Rattle.fw_cip.specs.Iso.{bit}
-use Rattle.fw_json.specs.Values.{field}
-use Rattle.fw_json.proofs.Joins.{counted}
-use Rattle.fw_json.proofs.IsoTexts.{usual_sizes}
+use Rattle.fw_json_packets.specs.Values.{field}
+use Rattle.fw_json_packets.proofs.Joins.{counted}
+use Rattle.fw_json_packets.proofs.IsoTexts.{usual_sizes}
 use Rattle.fw_json.proofs.iso.put_sizes.Goals as goal
 
-pub returns-then-is_usual : goal.returns-then-is_usual
-returns-then-is_usual c =
-    let size = c.is_usual.ensures.size c.if-is_usual.true in
-    let none = c.is_usual.ensures.none c.if-is_usual.true in
+pub returns-then-has_usual_sizes : goal.returns-then-has_usual_sizes
+returns-then-has_usual_sizes c =
+    let size = c.has_usual_sizes.ensures.size c.if-has_usual_sizes.true in
+    let none = c.has_usual_sizes.ensures.none c.if-has_usual_sizes.true in
     let P : ℕ → ℕ → ℕ → Bool → Type 0 = λ dbs fraction qpc sph. OnOk c.put_word.result (c.put_word.new.text.items ≡ c.args.text.now.items
     ++ field (codes ",\"dbs\":") (decimal dbs) ++ field (codes ",\"fn\":") (decimal fraction) ++ field (codes ",\"qpc\":") (decimal qpc) ++ field (codes ",\"sph\":") (decimal (bit sph))) in
     let h = c.args.c.now in

@@ -1,6 +1,6 @@
 use Rattle.std.proofs.lemmas.Result.{on_ok_weaker}
-use Rattle.fw_json.specs.Objects.{head_fields}
-use Rattle.fw_json.proofs.Joins.{then, moved}
+use Rattle.fw_json_packets.specs.Packets.{head_fields}
+use Rattle.fw_json_packets.proofs.Joins.{then, moved}
 use Rattle.fw_json.proofs.packet.put_packet.Goals as goal
 
 pub returns : goal.returns

@@ -1,8 +1,8 @@
 use Rattle.std.proofs.Common.{◌≡◌, ◌++◌, OnOk, codes, ℕ, arith, sym, subst}
 use Rattle.std.proofs.lemmas.Result.{on_ok_weaker}
 use Rattle.fw_names.specs.Names.{retry_name}
-use Rattle.fw_json.specs.Values.{code}
-use Rattle.fw_json.proofs.Joins.{one_text, coded}
+use Rattle.fw_json_packets.specs.Values.{code}
+use Rattle.fw_json_packets.proofs.Joins.{one_text, coded}
 use Rattle.fw_json.proofs.packet.put_retry.Goals as goal
 
 pub returns-in-0-retry_row : goal.returns-in-0-retry_row

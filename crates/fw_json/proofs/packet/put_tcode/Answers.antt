@@ -2,8 +2,8 @@ use Rattle.std.proofs.Common.{◌≡◌, ◌++◌, OnOk, Some, codes, ℕ, List,
 use Rattle.std.proofs.lemmas.Result.{on_ok_weaker}
 use Rattle.fw_async.specs.declared.packet.Packet.{Packet}
 use Rattle.fw_names.specs.Names.{tcode, tcode_name}
-use Rattle.fw_json.specs.Values.{code}
-use Rattle.fw_json.proofs.Joins.{one_text, longer_text}
+use Rattle.fw_json_packets.specs.Values.{code}
+use Rattle.fw_json_packets.proofs.Joins.{one_text, longer_text}
 use Rattle.fw_json.proofs.packet.put_tcode.Goals as goal
 
 -- a text is what is due of a packet

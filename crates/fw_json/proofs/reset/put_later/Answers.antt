@@ -1,5 +1,5 @@
 use Rattle.std.proofs.lemmas.Result.{on_ok_weaker}
-use Rattle.fw_json.proofs.Joins.{then, counted}
+use Rattle.fw_json_packets.proofs.Joins.{then, counted}
 use Rattle.fw_json.proofs.reset.put_later.Goals as goal
 
 pub returns : goal.returns

@@ -2,9 +2,9 @@ use Rattle.std.proofs.Common.{List, map}
 use Rattle.std.proofs.lemmas.Result.{on_ok_weaker}
 use Rattle.fw_phy.specs.declared.packet.PhyPacket.{PhyPacket}
 use Rattle.fw_entry.specs.declared.nodes.NodeRow.{NodeRow}
-use Rattle.fw_json.specs.Values.{array}
+use Rattle.fw_json_packets.specs.Values.{array}
 use Rattle.fw_json.specs.Ids.{id_object, node_objects}
-use Rattle.fw_json.proofs.Joins.{then, keyed, moved}
+use Rattle.fw_json_packets.proofs.Joins.{then, keyed, moved}
 use Rattle.fw_json.proofs.reset.put_lists.Goals as goal
 
 pub returns : goal.returns

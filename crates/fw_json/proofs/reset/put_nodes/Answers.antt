@@ -3,7 +3,7 @@ use Rattle.std.proofs.lemmas.Result.{on_ok_weaker}
 use Rattle.std.proofs.Math.ListN.{drop_of_length-le}
 use Rattle.fw_json.specs.Ids.{node_objects}
 use Rattle.fw_entry.specs.declared.nodes.NodeRow.{NodeRow}
-use Rattle.fw_json.proofs.Joins.{row, node_next, closed}
+use Rattle.fw_json.proofs.Rows.{row, node_next, closed}
 use Rattle.fw_json.proofs.reset.put_nodes.Goals as goal
 
 pub returns : goal.returns

@@ -1,6 +1,6 @@
 use Rattle.std.proofs.Common.{◌≡◌, ◌++◌, drop}
 use Rattle.fw_json.specs.Ids.{node_objects}
-use Rattle.fw_json.proofs.Joins.{row}
+use Rattle.fw_json.proofs.Rows.{row}
 use Rattle.fw_json.proofs.reset.put_nodes.Given as goal
 
 abbrev pub invariant-loop-node : goal.invariant-loop-node

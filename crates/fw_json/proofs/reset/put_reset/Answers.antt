@@ -1,6 +1,6 @@
 use Rattle.std.proofs.Common.{◌++◌, ◌∙◌, List, ℕ, ap}
 use Rattle.std.proofs.lemmas.Result.{on_ok_weaker}
-use Rattle.fw_json.proofs.Joins.{then, counted}
+use Rattle.fw_json_packets.proofs.Joins.{then, counted}
 use Rattle.fw_json.proofs.LaterLaws.{whole_fields}
 use Rattle.fw_json.proofs.reset.put_reset.Goals as goal
 

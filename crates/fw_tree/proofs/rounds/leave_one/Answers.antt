@@ -1,6 +1,9 @@
-use Rattle.std.proofs.Common.{None, refl, sym, ◌∙◌, get_or-set_same, arith}
+use Rattle.std.proofs.Common.{◌<◌, None, refl, sym, ◌∙◌, get_or-set_same, arith}
 use Rattle.fw_tree.specs.Cables.{is_seen}
 use Rattle.fw_tree.specs.Parents.{Notes}
+use Rattle.fw_tree.proofs.DueLaws.{open_marked}
+use Rattle.fw_tree.proofs.RoundLaws.{in_range}
+use Rattle.fw_tree.proofs.SeenLaws.{seen_same}
 use Rattle.fw_tree.proofs.ParentLaws.{left_first, none_left}
 use Rattle.fw_tree.proofs.rounds.leave_one.Goals as goal
 use Rattle.fw_tree.proofs.rounds.leave_one.Goals.{then-has_left, else-has_left}
@@ -17,3 +20,10 @@ returns-clause-notes c = λ _.
       | else-has_left w ↦ rw (w.parents-is) (refl, e.port, e.leaves, none_left g s t c.args.d cable.port cable.end e.leaves e.end c.requires.before (sym c.has_left.ensures ∙ w.if-has_left.false))
     ] in
     rw (get_or-set_same c.args.parents.now c.args.d c.if-has_left.parents None (omega arith)) noted
+
+pub returns-clause-marked : goal.returns-clause-marked
+returns-clause-marked c = λ _.
+    let cable = c.in-Some.cable in
+    let e = c.in-Some.ensures in
+    let low : cable.end.device < 63 = in_range c.args.g.now c.requires.range c.args.d cable.port cable.end e.end in
+    open_marked c.args.g.now (is_seen c.args.before.now) c.args.d cable.port cable.end _ e.leaves e.end (seen_same c.args.after.now.due cable.end.device (omega arith))

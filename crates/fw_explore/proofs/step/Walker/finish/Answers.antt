@@ -29,7 +29,7 @@ returns-clause-finished g c script w l =
     let pasts = c.args.self.now.pasts in
     let Kept = g.P.Keeper.Kept c.args.self.now.kept.places in
     let here = c.args.self.now.here.items in
-    let stands = c.give_back.ensures.stands l.machine l.leads.state (kept_at Kept here c.deref.result.now c.deref.ensures.value l.machine
+    let stands = c.in_ok-give_back.ensures.stands l.machine l.leads.state (kept_at Kept here c.deref.result.now c.deref.ensures.value l.machine
     (kept_led D script x pasts Kept w here l)) l.leads.stands in
     let behind = c.in_ok-carry_behind.ensures.carried script (commands_of x w) l.leads.out l.leads.state l.leads.behind stands in
     let same = c.in_ok-past.ensures ∙ c.past.ensures l.past (had_led D script x pasts Kept w here l) in

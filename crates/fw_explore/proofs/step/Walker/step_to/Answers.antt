@@ -51,7 +51,7 @@ returns-then-is_some-clause-steps g c script w only l =
     let is = mover_read x c.args.mover m c.requires.mover c.index-this.ensures in
     let some = ruled c.in_ok-carry.field-0 (sym c.is_some.ensures ∙ c.if-is_some.true) in
     none_ruled D script x c.args.self.now.pasts (g.P.Keeper.Kept c.args.self.now.kept.places) w c.args.self.now.here.items l c.args.mover m is only c.give_back.new.self.bus.machine
-    (λ n s kept. c.give_back.ensures.stands n s (kept_at (g.P.Keeper.Kept c.args.self.now.kept.places) c.args.self.now.here.items c.deref.result.now c.deref.ensures.value n kept))
+    (λ n s kept. c.in_ok-give_back.ensures.stands n s (kept_at (g.P.Keeper.Kept c.args.self.now.kept.places) c.args.self.now.here.items c.deref.result.now c.deref.ensures.value n kept))
     c.carry.new.self.bus c.carry.new.sink.held c.in_ok-carry.field-0 c.in_ok-carry.ensures.carries some.0 some.1
 
 pub returns-then-is_silent-clause-steps : goal.returns-then-is_silent-clause-steps
@@ -63,7 +63,7 @@ returns-then-is_silent-clause-steps g c script w only l =
     let none = not_ruled c.in_ok-carry.field-0 (sym c.is_some.ensures ∙ c.if-is_some.false) in
     let silent = c.is_silent.ensures.silent c.if-is_silent.true in
     none_silent D script x c.args.self.now.pasts (g.P.Keeper.Kept c.args.self.now.kept.places) w c.args.self.now.here.items l c.args.mover m is only c.give_back.new.self.bus.machine
-    (λ n s kept. c.give_back.ensures.stands n s (kept_at (g.P.Keeper.Kept c.args.self.now.kept.places) c.args.self.now.here.items c.deref.result.now c.deref.ensures.value n kept))
+    (λ n s kept. c.in_ok-give_back.ensures.stands n s (kept_at (g.P.Keeper.Kept c.args.self.now.kept.places) c.args.self.now.here.items c.deref.result.now c.deref.ensures.value n kept))
     c.carry.new.self.bus c.carry.new.sink.held c.in_ok-carry.field-0 c.in_ok-carry.ensures.carries none silent.0 (sym c.as_slice.ensures ∙ silent.1)
 
 pub returns-clause-steps : goal.returns-clause-steps
@@ -79,7 +79,7 @@ returns-clause-steps g c script w only l =
     let few = c.requires.explored.few in
     let there = there_led D script x pasts Kept w here l c.done.result.now c.args.mover m true c.is_there.result (λ past had. c.done.ensures.value ∙ ap (λ (h : History). h.done)
     (c.past.ensures past had)) c.if-not-is_there.false (c.is_there.ensures m is) in
-    steps_on D script x pasts Kept w here l c.args.mover m is only c.give_back.new.self.bus.machine (λ n s kept. c.give_back.ensures.stands n s (kept_at
+    steps_on D script x pasts Kept w here l c.args.mover m is only c.give_back.new.self.bus.machine (λ n s kept. c.in_ok-give_back.ensures.stands n s (kept_at
     (g.P.Keeper.Kept c.args.self.now.kept.places) c.args.self.now.here.items c.deref.result.now c.deref.ensures.value n kept)) c.carry.new.self.bus c.carry.new.sink.held c.in_ok-carry.field-0
     c.in_ok-carry.ensures.carries _ _ _ none (size_led D script x pasts Kept w here l c.done.result.now (λ past had. c.done.ensures.value ∙ ap (λ (h : History). h.done)
     (c.past.ensures past had)) (ap length c.done.ensures.value ∙ c.done.ensures.size)) (omega (arith, few)) there

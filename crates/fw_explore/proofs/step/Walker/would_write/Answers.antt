@@ -36,7 +36,7 @@ returns-then-is_some-clause-writes g c script w only l =
     let is = mover_read x c.args.mover m c.requires.mover c.index-this.ensures in
     let some = ruled c.in_ok-carry.field-0 (sym c.is_some.ensures ∙ c.if-is_some.true) in
     never_ruled D script x c.args.self.now.pasts (g.P.Keeper.Kept c.args.self.now.kept.places) w c.args.self.now.here.items l c.args.mover m is only c.give_back.new.self.bus.machine
-    (λ n s kept. c.give_back.ensures.stands n s (kept_at (g.P.Keeper.Kept c.args.self.now.kept.places) c.args.self.now.here.items c.deref.result.now c.deref.ensures.value n kept))
+    (λ n s kept. c.in_ok-give_back.ensures.stands n s (kept_at (g.P.Keeper.Kept c.args.self.now.kept.places) c.args.self.now.here.items c.deref.result.now c.deref.ensures.value n kept))
     c.carry.new.self.bus c.carry.new.sink.held c.in_ok-carry.field-0 c.in_ok-carry.ensures.carries some.0 some.1
 
 pub returns-clause-writes : goal.returns-clause-writes
@@ -48,9 +48,9 @@ returns-clause-writes g c script w only l =
     let none = not_ruled c.in_ok-carry.field-0 (sym c.is_some.ensures ∙ c.if-is_some.false) in
     writes_by D script x w c.args.mover c.is_silent.result
     (λ silent. never_silent D script x c.args.self.now.pasts (g.P.Keeper.Kept c.args.self.now.kept.places) w c.args.self.now.here.items l c.args.mover m is only c.give_back.new.self.bus.machine
-    (λ n s kept. c.give_back.ensures.stands n s (kept_at (g.P.Keeper.Kept c.args.self.now.kept.places) c.args.self.now.here.items c.deref.result.now c.deref.ensures.value n kept))
+    (λ n s kept. c.in_ok-give_back.ensures.stands n s (kept_at (g.P.Keeper.Kept c.args.self.now.kept.places) c.args.self.now.here.items c.deref.result.now c.deref.ensures.value n kept))
     c.carry.new.self.bus c.carry.new.sink.held c.in_ok-carry.field-0 c.in_ok-carry.ensures.carries none (sym c.as_slice.ensures ∙ (c.is_silent.ensures.silent silent).1))
     (λ wrote. writes_more D script x c.args.self.now.pasts (g.P.Keeper.Kept c.args.self.now.kept.places) w c.args.self.now.here.items l c.args.mover m is only c.give_back.new.self.bus.machine
-    (λ n s kept. c.give_back.ensures.stands n s (kept_at (g.P.Keeper.Kept c.args.self.now.kept.places) c.args.self.now.here.items c.deref.result.now c.deref.ensures.value n kept))
+    (λ n s kept. c.in_ok-give_back.ensures.stands n s (kept_at (g.P.Keeper.Kept c.args.self.now.kept.places) c.args.self.now.here.items c.deref.result.now c.deref.ensures.value n kept))
     c.carry.new.self.bus c.carry.new.sink.held c.in_ok-carry.field-0 c.in_ok-carry.ensures.carries none c.in-HalfSteps.is
     (λ nothing. c.is_silent.ensures.wrote wrote c.in-HalfSteps.is (c.as_slice.ensures ∙ nothing)))

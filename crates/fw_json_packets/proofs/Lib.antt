@@ -1,0 +1,8 @@
+pub mod Joins
+pub mod IsoTexts
+pub mod SwapTexts
+pub mod HeadTexts
+pub mod CipTexts
+pub mod StandingLaws
+pub mod StandingKinds
+pub mod UsualTexts

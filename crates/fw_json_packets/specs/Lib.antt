@@ -1,0 +1,4 @@
+pub mod Values
+pub mod Packets
+pub mod Usual
+pub mod Standing
