@@ -9,7 +9,7 @@ use std::env;
 use std::io::ErrorKind;
 use std::process::ExitCode;
 
-/// The words of the command line, behind the program's name.
+/// The words of the command line, after the program's name.
 fn words(rt: &HostRuntime) -> Result<Vec<String>, Ending>
     ensures { IfErr result (λ e. (e ≡ Ending.Usage) ⊎ (e ≡ Ending.Stopped Stop.NoMemory)) }
 {
@@ -34,7 +34,7 @@ fn main(rt: HostRuntime) -> ExitCode {
         Ok(words) => words,
         Err(ending) => return ExitCode::from(tell(ending, &mut errors)),
     };
-    // The source is asked for whole pieces, and needs no buffer in front of it.
+    // The source is asked for whole pieces, and needs no buffer before it.
     let mut source = StdSource::new(rt.reader());
     let mut sink = BufferedSink::new(rt.stdout());
     ExitCode::from(program(alloc, &words, &mut source, &mut sink, &mut errors))

@@ -21,7 +21,7 @@ fn same_version(log: &[u8]) -> &'static str {
     }
 }
 
-/// What is to be written of a log in its own version: a front of it, and all of it if there is no note.
+/// What is to be written of a log in its own version: a prefix of it, and all of it if there is no note.
 fn converted<'a>(log: &'a [u8], note: &'a str) -> Due<'a> {
     Due {
         status: status_of(note),

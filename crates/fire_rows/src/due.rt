@@ -65,7 +65,7 @@ impl Written<'_> {
         }
     }
 
-    /// The first place at which bytes differ from these, with the byte that is to stand there. None if one is a front of the other.
+    /// The first place at which bytes differ from these, with the byte that is to stand there. None if one is a prefix of the other.
     pub(crate) fn first_other(self, bytes: &[u8]) -> Option<(usize, u8)> {
         let due = match self {
             Written::Whole(due) | Written::Front(due) => due,

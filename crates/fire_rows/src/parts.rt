@@ -23,7 +23,7 @@ impl Parts {
         }
     }
 
-    /// Where the part ends that begins at a place. None where none ends.
+    /// Where the part ends that begins at a place. None if none ends.
     fn end_of(self, bytes: &[u8], start: usize) -> Option<usize> {
         let rest = bytes.get(start..)?;
         let length = match self {
@@ -40,7 +40,7 @@ impl Parts {
         }
     }
 
-    /// Where the first so many parts end. None where there are fewer.
+    /// Where the first so many parts end. None if there are fewer.
     pub(crate) fn end_behind(self, bytes: &[u8], count: usize) -> Option<usize> {
         let mut end = 0;
         for _ in 0..count {

@@ -4,7 +4,7 @@ ghost use Rattle.std.specs.Prelude.{None};
 
 use fw_outside::{Failed, Source, copy_front};
 
-/// A source that gives at most so many bytes at a time. Where it is to fail, the read behind its last byte does.
+/// A source that gives at most so many bytes at a time. If it is to fail, the read after its last byte does.
 #[derive(Drop)]
 pub struct Portions<'a> {
     left: &'a [u8],
@@ -29,7 +29,7 @@ impl<'a> Portions<'a> {
         }
     }
 
-    /// One byte at a time, and a read behind the last that fails.
+    /// One byte at a time, and a read after the last that fails.
     pub(crate) fn failing(bytes: &'a [u8]) -> Portions<'a> {
         Portions {
             left: bytes,

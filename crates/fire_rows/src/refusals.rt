@@ -59,7 +59,7 @@ fn is_same_untold<P: Program>(
     Ok(())
 }
 
-/// That what was written is the front of a log, `LOG LENGTH`: so many of its first bytes.
+/// That what was written is the beginning of a log, `LOG LENGTH`: so many of its first bytes.
 fn is_front(rt: &HostRuntime, told: &Ended, note: &str, front: &str) -> Result<(), Miss> {
     let Some((log, length)) = front.split_once(" ") else {
         return Err(Miss::NoRow("a log and how many of its bytes"));

@@ -1,12 +1,9 @@
 -- What a reader makes of a piece is the only thing that it can be.
-use Rattle.std.proofs.Common.{◌≡◌, inl, inr, ℕ, ◌+◌, ◌-◌, ◌≤◌, ◌<◌, List, [], ◌++◌, length, take, drop, Option, Some, None, Result, Ok, Err, IfErr, arith, refl, ap, sym, subst, ◌∙◌, append-nil, length-append}
-use Rattle.std.proofs.lemmas.Bool.{cases_lt}
-use Rattle.std.proofs.lemmas.List.{take_all, length-take-le}
-use Rattle.fw_async.specs.Async.{spelling, Fits}
-use Rattle.fw_async.specs.Reading.{IsPending, fault_of, need}
-use Rattle.fw_async.specs.Reader.{State, Feeds, FeedsTo, Spells, EndsPacket, ShowsFault, EndsNothing, IsRefused}
-use Rattle.fw_async.specs.declared.PacketFault.{PacketFault}
-use Rattle.fw_async.specs.declared.packet.Packet.{Packet}
+use Rattle.fw_async.proofs.Common.{◌≡◌, inl, inr, ℕ, ◌+◌, ◌-◌, ◌≤◌, ◌<◌, List, [], ◌++◌, length, take, drop, Option, Some, None, arith, refl, ap, sym, subst, ◌∙◌, length-append, cases_lt}
+use Rattle.fw_async.proofs.Common.{length-take-le, spelling, Fits, IsPending, fault_of, need, State, Spells, ShowsFault, PacketFault, Packet}
+use Rattle.std.proofs.Common.{Result, Ok, Err, IfErr, append-nil}
+use Rattle.std.proofs.lemmas.List.{take_all}
+use Rattle.fw_async.specs.Reader.{Feeds, FeedsTo, EndsPacket, EndsNothing, IsRefused}
 use Rattle.fw_async.specs.declared.reader.Fed.{Fed}
 use Rattle.fw_async.proofs.NeedLaws.{need_done, no_whole_front, fault_stays}
 use Rattle.fw_async.proofs.FeedLaws.{further, stays}
@@ -22,7 +19,7 @@ clear_from_spells p bytes s = ap fault_of (sym s.same) ∙ spelled_none p s.fits
 abbrev between : List ℕ → ℕ → ℕ → List ℕ
 between piece i k = take (k - i) (drop i piece)
 
--- a whole packet has no front that is whole, pending bytes have none, and a fault stays
+-- a whole packet has no prefix that is whole, pending bytes have none, and a fault stays
 whole_once : (old piece : List ℕ) (i k : ℕ) → i ≤ k → k ≤ length piece → length (old ++ take i piece) ≡ need (old ++ take i piece) → length (old ++ take k piece) ≡ need (old ++ take k piece) → i ≡ k
 whole_once old piece i k le within a b =
     let done : need (old ++ take k piece) ≡ length (old ++ take i piece) = ap need (further old piece i k le) ∙ need_done (old ++ take i piece) (between piece i k) a in
@@ -52,11 +49,13 @@ gave_to old piece used (Some q) new k p h e =
     let same : spelling q ≡ spelling p = h.0.spells.same ∙ ap (λ (n : ℕ). old ++ take n piece) count ∙ sym e.spells.same in
     record { count = count; this = ap Some (same_packet q p h.0.spells.fits e.spells.fits same) }
 
--- where a front of the piece ends a packet, that packet is given
-pub gives_packet : (old piece : List ℕ) (r : Result Fed PacketFault) (new : State) → Feeds old piece r new → (k : ℕ) (p : Packet) → k ≤ length piece → Spells p (old ++ take k piece) → r ≡ Ok (record { used = k; packet = Some p })
+-- if a prefix of the piece ends a packet, that packet is given
+pub gives_packet : (old piece : List ℕ) (r : Result Fed PacketFault) (new : State) → Feeds old piece r new → (k : ℕ) (p : Packet) → k ≤ length piece → Spells p (old ++ take k piece)
+    → r ≡ Ok (record { used = k; packet = Some p })
 gives_packet old piece (Ok fed) new h k p within s =
     let g = gave_to old piece fed.used fed.packet new k p h (record { within = within; spells = s }) in
-    ap (λ (n : ℕ). let r : Result Fed PacketFault = Ok (record { used = n; packet = fed.packet }) in r) g.count ∙ ap (λ (o : Option Packet). let r : Result Fed PacketFault = Ok (record { used = k; packet = o }) in r) g.this
+    ap (λ (n : ℕ). let r : Result Fed PacketFault = Ok (record { used = n; packet = fed.packet }) in r) g.count
+    ∙ ap (λ (o : Option Packet). let r : Result Fed PacketFault = Ok (record { used = k; packet = o }) in r) g.this
 gives_packet old piece (Err f) new h k p within s =
     elim (cases_lt h.0.0 k) [
       | inl less ↦ cc (stays old piece (h.0.0 + 1) k f (omega arith) h.0.1.shown, clear_from_spells p (old ++ take k piece) s)
@@ -71,8 +70,9 @@ fault_to old piece used (Some q) new k f h s =
       | inr more ↦ never_whole old piece used k more (whole_from_spells q (old ++ take used piece) h.0.spells) s.before
     ]
 
--- where a byte of the piece shows a fault, that fault is answered
-pub gives_fault : (old piece : List ℕ) (r : Result Fed PacketFault) (new : State) → Feeds old piece r new → (k : ℕ) (f : PacketFault) → k < length piece → IsPending (old ++ take k piece) → fault_of (old ++ take (k + 1) piece) ≡ Some f → r ≡ Err f
+-- if a byte of the piece shows a fault, that fault is answered
+pub gives_fault : (old piece : List ℕ) (r : Result Fed PacketFault) (new : State) → Feeds old piece r new → (k : ℕ) (f : PacketFault) → k < length piece → IsPending (old ++ take k piece)
+    → fault_of (old ++ take (k + 1) piece) ≡ Some f → r ≡ Err f
 gives_fault old piece (Ok fed) new h k f within before shown = fault_to old piece fed.used fed.packet new k f h (record { within = within; before = before; shown = shown })
 gives_fault old piece (Err g) new h k f within before shown =
     elim (cases_lt k h.0.0) [
@@ -87,16 +87,17 @@ none_to : (old piece : List ℕ) (used : ℕ) (packet : Option Packet) (new : St
 none_to old piece used None new h n = (h.0, refl)
 none_to old piece used (Some q) new h n = absurd (n.no_packet used q h.0.within h.0.spells)
 
--- where nothing ends in the piece, all of it is used
+-- if nothing ends in the piece, all of it is used
 pub gives_none : (old piece : List ℕ) (r : Result Fed PacketFault) (new : State) → Feeds old piece r new → EndsNothing old piece → r ≡ Ok (record { used = length piece; packet = None })
 gives_none old piece (Ok fed) new h n =
     let g = none_to old piece fed.used fed.packet new h n in
-    ap (λ (n : ℕ). let r : Result Fed PacketFault = Ok (record { used = n; packet = fed.packet }) in r) g.0 ∙ ap (λ (o : Option Packet). let r : Result Fed PacketFault = Ok (record { used = length piece; packet = o }) in r) g.1
+    ap (λ (n : ℕ). let r : Result Fed PacketFault = Ok (record { used = n; packet = fed.packet }) in r) g.0
+    ∙ ap (λ (o : Option Packet). let r : Result Fed PacketFault = Ok (record { used = length piece; packet = o }) in r) g.1
 gives_none old piece (Err f) new h n =
     let clear : fault_of (old ++ take (h.0.0 + 1) piece) ≡ None = n.no_fault (h.0.0 + 1) (omega (arith, h.0.1.within)) in
     cc (h.0.1.shown)
 
--- where a fault is answered, no packet begins with the bytes up to the one that shows it
+-- if a fault is answered, no packet begins with the bytes up to the one that shows it
 pub gives_no_packet : (old piece : List ℕ) (r : Result Fed PacketFault) (new : State) → Feeds old piece r new → IfErr r (IsRefused old piece)
 gives_no_packet old piece (Ok fed) new h = tt
 gives_no_packet old piece (Err f) new h = record {

@@ -1,9 +1,8 @@
 -- Fronts of a piece.
-use Rattle.std.proofs.Common.{◌≡◌, ℕ, zero, suc, ◌+◌, ◌-◌, ◌≤◌, ◌<◌, List, ◌++◌, length, take, drop, Option, Some, None, IfNone, arith, refl, ap, sym, ◌∙◌, append_assoc, length-append, take-add}
-use Rattle.std.proofs.lemmas.List.{length-take-le}
-use Rattle.fw_async.specs.Reading.{IsPending, fault_of, need}
-use Rattle.fw_async.specs.Reader.{State, HoldsPending, ShowsFault}
-use Rattle.fw_async.specs.declared.PacketFault.{PacketFault}
+use Rattle.fw_async.proofs.Common.{◌≡◌, ℕ, zero, suc, ◌+◌, ◌-◌, ◌≤◌, ◌<◌, List, ◌++◌, length, take, drop, Option, Some, None, arith, refl, ap, sym, ◌∙◌, length-append, length-take-le, IsPending}
+use Rattle.fw_async.proofs.Common.{fault_of, need, State, ShowsFault, PacketFault}
+use Rattle.std.proofs.Common.{IfNone, append_assoc, take-add}
+use Rattle.fw_async.specs.Reader.{HoldsPending}
 use Rattle.fw_async.proofs.NeedLaws.{need_grows, fault_stays}
 
 pub pending_of : (taken : List ℕ) (fault : Option PacketFault) → fault ≡ None → HoldsPending taken fault → IsPending taken
@@ -20,11 +19,16 @@ pub stays : (old piece : List ℕ) (i k : ℕ) (f : PacketFault) → i ≤ k →
 stays old piece i k f le h = ap fault_of (further old piece i k le) ∙ fault_stays (old ++ take i piece) (take (k - i) (drop i piece)) f h
 
 -- less than a packet with a part more that does not go past its end, and that shows no fault, is still less
-pub pending_on : (old piece : List ℕ) (i k : ℕ) → IsPending (old ++ take i piece) → i ≤ k → k ≤ length piece → length old + k < need (old ++ take i piece) → fault_of (old ++ take k piece) ≡ None → IsPending (old ++ take k piece)
+pub pending_on : (old piece : List ℕ) (i k : ℕ) → IsPending (old ++ take i piece) → i ≤ k → k ≤ length piece → length old + k < need (old ++ take i piece) → fault_of (old ++ take k piece) ≡ None
+    → IsPending (old ++ take k piece)
 pending_on old piece i k pending le within few clear =
     let grows : need (old ++ take i piece) ≤ need ((old ++ take i piece) ++ take (k - i) (drop i piece)) = need_grows (old ++ take i piece) (take (k - i) (drop i piece)) in
     let same : need (old ++ take k piece) ≡ need ((old ++ take i piece) ++ take (k - i) (drop i piece)) = ap need (further old piece i k le) in
-    record { no_fault = clear; not_whole = less (length (old ++ take k piece)) (length old) k (need (old ++ take i piece)) (need ((old ++ take i piece) ++ take (k - i) (drop i piece))) (need (old ++ take k piece)) (length-append old (take k piece) ∙ ap (λ n. length old + n) (length-take-le k piece within)) few grows same }
+    record {
+      no_fault = clear;
+      not_whole = less (length (old ++ take k piece)) (length old) k (need (old ++ take i piece)) (need ((old ++ take i piece) ++ take (k - i) (drop i piece)))
+          (need (old ++ take k piece)) (length-append old (take k piece) ∙ ap (λ n. length old + n) (length-take-le k piece within)) few grows same;
+    }
   where
     less : (n a k x y z : ℕ) → n ≡ a + k → a + k < x → x ≤ y → z ≡ y → n < z
     less n a k x y z e p q r = omega arith
@@ -34,13 +38,20 @@ shown_by : (old piece : List ℕ) (i n : ℕ) (f : PacketFault) (o : Option Pack
     → IsPending (old ++ take i piece) → i + suc n ≤ length piece → length old + (i + suc n) ≤ need (old ++ take i piece) → fault_of (old ++ take (i + suc n) piece) ≡ Some f
     → (fault_of (old ++ take (i + n) piece) ≡ Some f → (k : ℕ) × ShowsFault old piece k f) → (k : ℕ) × ShowsFault old piece k f
 shown_by old piece i n f None e pending within few h earlier =
-    let same : i + suc n ≡ i + n + 1 = omega arith in
-    (i + n, record { within = omega arith; before = pending_on old piece i (i + n) pending (omega arith) (omega arith) (omega arith) e; shown = ap (λ (k : ℕ). fault_of (old ++ take k piece)) (sym same) ∙ h })
+    let same : i + suc n ≡ i + n + 1 = omega arith in (
+      i + n,
+      record {
+        within = omega arith;
+        before = pending_on old piece i (i + n) pending (omega arith) (omega arith) (omega arith) e;
+        shown = ap (λ (k : ℕ). fault_of (old ++ take k piece)) (sym same) ∙ h;
+      },
+    )
 shown_by old piece i n f (Some g) e pending within few h earlier =
     let same : g ≡ f = cc (stays old piece (i + n) (i + suc n) g (omega arith) e) in
     earlier (e ∙ ap Some same)
 
-pub first_shown : (old piece : List ℕ) (i n : ℕ) (f : PacketFault) → IsPending (old ++ take i piece) → i + n ≤ length piece → length old + (i + n) ≤ need (old ++ take i piece) → fault_of (old ++ take (i + n) piece) ≡ Some f → (k : ℕ) × ShowsFault old piece k f
+pub first_shown : (old piece : List ℕ) (i n : ℕ) (f : PacketFault) → IsPending (old ++ take i piece) → i + n ≤ length piece → length old + (i + n) ≤ need (old ++ take i piece)
+    → fault_of (old ++ take (i + n) piece) ≡ Some f → (k : ℕ) × ShowsFault old piece k f
 first_shown old piece i zero f pending within few h =
     let same : i + 0 ≡ i = omega arith in
     cc (pending.no_fault, ap (λ (k : ℕ). fault_of (old ++ take k piece)) same)

@@ -1,30 +1,30 @@
 -- Fronts of bytes that are at hand.
-use Rattle.std.proofs.Common.{◌≡◌, ℕ, ◌+◌, ◌-◌, ◌≤◌, ◌<◌, ◌^◌, List, [], ◌∷◌, ◌++◌, length, take, drop, Option, Some, None, Result, Ok, Err, arith, refl, ap, subst, ◌∙◌}
-use Rattle.std.proofs.lemmas.List.{take_all, length-take-le}
-use Rattle.fw_async.specs.Reading.{IsPending, fault_of, need}
-use Rattle.fw_async.specs.Reader.{State, Spells, ShowsFault, Reads, ReadsTo, Feeds, FeedsTo}
-use Rattle.fw_async.specs.declared.PacketFault.{PacketFault}
-use Rattle.fw_async.specs.declared.packet.Packet.{Packet}
+use Rattle.fw_async.proofs.Common.{◌≡◌, ℕ, ◌+◌, ◌-◌, ◌≤◌, ◌<◌, ◌^◌, List, [], ◌∷◌, ◌++◌, length, take, drop, Option, Some, None, arith, refl, ap, subst, ◌∙◌, length-take-le, IsPending, fault_of, need}
+use Rattle.fw_async.proofs.Common.{State, Spells, ShowsFault, PacketFault, Packet}
+use Rattle.std.proofs.Common.{Result, Ok, Err}
+use Rattle.std.proofs.lemmas.List.{take_all}
+use Rattle.fw_async.specs.Reader.{Reads, ReadsTo, Feeds, FeedsTo}
 use Rattle.fw_async.specs.declared.reader.Fed.{Fed}
 use Rattle.fw_async.proofs.NeedLaws.{need_grows, need_most}
 use Rattle.fw_async.proofs.FeedLaws.{further, first_shown}
 use Rattle.fw_async.proofs.ExactLaws.{gives_packet, gives_fault}
 
--- what a longer front needs is no less
+-- what a longer prefix needs is no less
 pub needs_more : (bytes : List ℕ) (i k : ℕ) → i ≤ k → need (take i bytes) ≤ need (take k bytes)
 needs_more bytes i k le =
     let e : take k bytes ≡ take i bytes ++ take (k - i) (drop i bytes) = further [] bytes i k le in
     rw e (need_grows (take i bytes) (take (k - i) (drop i bytes)))
 
--- a front that is as long as what was seen of it asks for, and asks for no more, is whole
+-- a prefix that is as long as what was seen of it asks for, and asks for no more, is whole
 pub front_whole : (bytes : List ℕ) (i k m n : ℕ) → i ≤ k → k ≤ length bytes → k ≤ m → m ≡ need (take i bytes) → n ≡ need (take k bytes) → n ≤ k → length (take k bytes) ≡ need (take k bytes)
 front_whole bytes i k m n le within most before after done = omega (arith, length-take-le k bytes within, needs_more bytes i k le)
 
 pub front_pending : (bytes : List ℕ) (k n : ℕ) → k ≤ length bytes → n ≡ need (take k bytes) → k < n → fault_of (take k bytes) ≡ None → IsPending (take k bytes)
 front_pending bytes k n within after more clear = record { no_fault = clear; not_whole = omega (arith, length-take-le k bytes within) }
 
--- a fault that a front shows comes with one of its bytes
-pub front_fault : (bytes : List ℕ) (i k m : ℕ) (f : PacketFault) → i ≤ k → k ≤ length bytes → k ≤ m → m ≡ need (take i bytes) → IsPending (take i bytes) → fault_of (take k bytes) ≡ Some f → (j : ℕ) × ShowsFault [] bytes j f
+-- a fault that a prefix shows comes with one of its bytes
+pub front_fault : (bytes : List ℕ) (i k m : ℕ) (f : PacketFault) → i ≤ k → k ≤ length bytes → k ≤ m → m ≡ need (take i bytes) → IsPending (take i bytes) → fault_of (take k bytes) ≡ Some f → (j : ℕ)
+    × ShowsFault [] bytes j f
 front_fault bytes i k m f le within most same pending h =
     let e : i + (k - i) ≡ k = omega arith in
     first_shown [] bytes i (k - i) f pending (omega arith) (omega arith) (ap (λ (n : ℕ). fault_of (take n bytes)) e ∙ h)
@@ -56,5 +56,6 @@ as_fed bytes (Err f) h = (record { taken = 0 ∷ []; fault = Some f }, (h, refl,
 pub reads_packet : (bytes : List ℕ) (r : Result Fed PacketFault) → Reads bytes r → (k : ℕ) (p : Packet) → k ≤ length bytes → Spells p (take k bytes) → r ≡ Ok (record { used = k; packet = Some p })
 reads_packet bytes r h = let fed = as_fed bytes r h in gives_packet [] bytes r fed.0 fed.1
 
-pub reads_fault : (bytes : List ℕ) (r : Result Fed PacketFault) → Reads bytes r → (k : ℕ) (f : PacketFault) → k < length bytes → IsPending (take k bytes) → fault_of (take (k + 1) bytes) ≡ Some f → r ≡ Err f
+pub reads_fault : (bytes : List ℕ) (r : Result Fed PacketFault) → Reads bytes r → (k : ℕ) (f : PacketFault) → k < length bytes → IsPending (take k bytes) → fault_of (take (k + 1) bytes) ≡ Some f
+    → r ≡ Err f
 reads_fault bytes r h = let fed = as_fed bytes r h in gives_fault [] bytes r fed.0 fed.1

@@ -1,14 +1,8 @@
 -- The destination that stands in the bytes of a packet.
-use Rattle.std.proofs.Common.{◌≡◌, ℕ, ◌<◌, List, ◌++◌, drop, arith, ap, sym, ◌∙◌}
-use Rattle.std.specs.Int.{to_be_bytes, w32}
-use Rattle.fw_words.specs.Quadlet.{field, quadlet_at}
-use Rattle.fw_words.specs.Layout.{packed}
-use Rattle.fw_async.specs.Async.{HeadFits, Fits, spelling, head_fields}
+use Rattle.fw_async.proofs.Common.{◌≡◌, ℕ, ◌<◌, List, ◌++◌, drop, arith, ap, sym, ◌∙◌, to_be_bytes, w32, field, quadlet_at, packed, HeadFits, Fits, spelling, head_fields, Spells, Head, Packet}
+use Rattle.fw_async.proofs.Common.{WriteQuadlet, WriteBlock, WriteReply, ReadQuadlet, ReadQuadletReply, CycleStart, Lock, LockReply}
 use Rattle.fw_async.specs.Heads.{head_of}
-use Rattle.fw_async.specs.Reader.{Spells}
-use Rattle.fw_async.specs.declared.packet.Head.{Head}
-use Rattle.fw_async.specs.declared.packet.Packet.{Packet}
-use Rattle.fw_async.specs.declared.packet.Packet.TheVariants.{WriteQuadlet, WriteBlock, WriteReply, ReadQuadlet, ReadBlock, ReadQuadletReply, ReadBlockReply, CycleStart, Lock, LockReply}
+use Rattle.fw_async.specs.declared.packet.Packet.TheVariants.{ReadBlock, ReadBlockReply}
 use Rattle.fw_async.proofs.SpelledLaws.{back, first_fits}
 
 first : (t : ℕ) (h : Head) → t < 16 → HeadFits h → field (packed (head_fields t h) 0) 0 15 ≡ h.destination

@@ -1,12 +1,10 @@
--- A piece behind the bytes that were kept.
-use Rattle.std.proofs.Common.{◌≡◌, inl, inr, ℕ, ◌+◌, ◌-◌, ◌≤◌, ◌<◌, List, [], ◌++◌, length, take, drop, Option, Some, None, arith, ap, sym, subst, ◌∙◌, length-append, length-take}
-use Rattle.std.proofs.lemmas.Bool.{cases_lt}
-use Rattle.std.proofs.lemmas.List.{take_all, take-take, take-append-le, take-append-drop, length-take-le}
+-- A piece after the bytes that were kept.
+use Rattle.fw_async.proofs.Common.{◌≡◌, inl, inr, ℕ, ◌+◌, ◌-◌, ◌≤◌, ◌<◌, List, [], ◌++◌, length, take, drop, Option, Some, None, arith, ap, sym, subst, ◌∙◌, length-append, cases_lt, length-take-le}
+use Rattle.fw_async.proofs.Common.{IsPending, fault_of, Spells, ShowsFault, PacketFault, Packet}
+use Rattle.std.proofs.Common.{length-take}
+use Rattle.std.proofs.lemmas.List.{take_all, take-take, take-append-le, take-append-drop}
 use Rattle.std.proofs.Math.Seq.{take-append-add, drop-append_seam}
-use Rattle.fw_async.specs.Reading.{IsPending, fault_of}
-use Rattle.fw_async.specs.Reader.{HoldsPending, Spells, EndsPacket, ShowsFault, ReadsTo}
-use Rattle.fw_async.specs.declared.PacketFault.{PacketFault}
-use Rattle.fw_async.specs.declared.packet.Packet.{Packet}
+use Rattle.fw_async.specs.Reader.{HoldsPending, EndsPacket, ReadsTo}
 use Rattle.fw_async.proofs.NeedLaws.{need_most, fault_stays, no_whole_front}
 use Rattle.fw_async.proofs.FeedLaws.{stays}
 use Rattle.fw_async.proofs.ExactLaws.{whole_from_spells}
@@ -15,13 +13,22 @@ use Rattle.fw_async.proofs.ExactLaws.{whole_from_spells}
 pub none_lost : (piece kept before bytes : List ℕ) → before ≡ kept → bytes ≡ kept ++ take (528 - length kept) piece → length before ≤ length bytes
 none_lost piece kept before bytes same all = omega (arith, ap length same, ap length all, length-append kept (take (528 - length kept) piece))
 
--- What stands behind the kept bytes has room behind them.
+-- What stands after the kept bytes has room after them.
 pub has_room : (old piece kept before bytes : List ℕ) → kept ≡ old → length old ≤ 528 → before ≡ kept → bytes ≡ kept ++ take (528 - length kept) piece
     → length old + length (take (length bytes - length before) (drop (length before) bytes)) ≤ 528
 has_room old piece kept before bytes is few same all =
-    omega (arith, few, ap length is, ap length same, ap length all, length-append kept (take (528 - length kept) piece), length-take (528 - length kept) piece, length-take (length bytes - length before) (drop (length before) bytes))
+    omega (
+      arith,
+      few,
+      ap length is,
+      ap length same,
+      ap length all,
+      length-append kept (take (528 - length kept) piece),
+      length-take (528 - length kept) piece,
+      length-take (length bytes - length before) (drop (length before) bytes),
+    )
 
--- What was kept, and a front of the piece.
+-- What was kept, and a prefix of the piece.
 joined : (old piece : List ℕ) (m k : ℕ) → length old ≤ k → k ≤ length old + m → take k (old ++ take m piece) ≡ old ++ take (k - length old) piece
 joined old piece m k from to =
     let e : k ≡ length old + (k - length old) = omega arith in
@@ -30,7 +37,7 @@ joined old piece m k from to =
 length_joined : (old piece : List ℕ) (m : ℕ) → m ≤ length piece → length (old ++ take m piece) ≡ length old + m
 length_joined old piece m within = length-append old (take m piece) ∙ ap (λ n. length old + n) (length-take-le m piece within)
 
--- The bytes are those that were kept and, behind them, as many of a piece as there is room for.
+-- The bytes are those that were kept and, after them, as many of a piece as there is room for.
 pub record IsJoined (old piece bytes : List ℕ) : Type 0 where
   pub count : ℕ
   pub within : count ≤ length piece
@@ -51,7 +58,7 @@ is_joined old piece bytes e = record {
       | inr more ↦ take_all n xs more ∙ sym (take_all (length xs - (length xs - n)) xs (omega arith))
     ]
 
--- a front of what is pending shows no fault, and is not whole
+-- a prefix of what is pending shows no fault, and is not whole
 pending_front : (old piece : List ℕ) (m k : ℕ) → IsPending old → k ≤ length old → IsPending (take k (old ++ take m piece) ++ drop k old)
 pending_front old piece m k pending within =
     let P : List ℕ → Type 0 = IsPending in
@@ -85,7 +92,7 @@ pub shown_whole : (bytes : List ℕ) (f : PacketFault) → (k : ℕ) × ShowsFau
 shown_whole bytes f h =
     ap fault_of (sym (take_all (length bytes) bytes (omega arith))) ∙ stays [] bytes (h.0 + 1) (length bytes) f (omega (arith, h.1.within)) h.1.shown
 
--- A packet that the bytes begin with ends behind those that were kept.
+-- A packet that the bytes begin with ends after those that were kept.
 pub record KeptPacket (old piece : List ℕ) (used : ℕ) (p : Packet) : Type 0 where
   pub past : length old ≤ used
   pub ends : EndsPacket old piece (used - length old) p
@@ -108,7 +115,7 @@ kept_packet old piece bytes used p pending joint h =
     let P : List ℕ → Type 0 = λ t. EndsPacket [] t used p in
     packet_in old piece joint.count used p pending joint.within (subst P joint.same h)
 
--- Where the bytes are a part of a packet, they are all of the piece.
+-- If the bytes are a part of a packet, they are all of the piece.
 pub kept_part : (old piece bytes : List ℕ) → IsJoined old piece bytes → IsPending bytes → bytes ≡ old ++ piece
 kept_part old piece bytes joint pending =
     let size : length bytes ≡ length old + joint.count = ap length joint.same ∙ length_joined old piece joint.count joint.within in
@@ -119,7 +126,7 @@ kept_part old piece bytes joint pending =
     ] in
     joint.same ∙ ap (λ t. old ++ t) (take_all joint.count piece (omega arith))
 
--- what was kept, and what stands behind it in the bytes
+-- what was kept, and what stands after it in the bytes
 pub kept_all : (old piece bytes : List ℕ) (n : ℕ) → n ≡ length old → IsJoined old piece bytes → old ++ take (length bytes - n) (drop n bytes) ≡ bytes
 kept_all old piece bytes n count joint =
     let behind : drop n bytes ≡ take joint.count piece = ap (λ (k : ℕ). drop k bytes) count ∙ ap (drop (length old)) joint.same ∙ drop-append_seam old (take joint.count piece) in

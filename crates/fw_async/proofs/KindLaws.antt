@@ -1,12 +1,7 @@
 -- The quadlets of a packet whose fields were read from them.
-use Rattle.std.proofs.Common.{◌≡◌, ℕ, ◌+◌, ◌/◌, ◌%◌, ◌^◌, ◌≤◌, ◌<◌, List, [], ◌∷◌, arith, ap, sym, ◌∙◌}
+use Rattle.fw_async.proofs.Common.{◌≡◌, ℕ, ◌+◌, ◌/◌, ◌%◌, ◌^◌, ◌≤◌, ◌<◌, List, [], ◌∷◌, arith, ap, sym, ◌∙◌, nat_tests, field, quadlet_at, packed, head_fields, size, padding, is_lock_size}
+use Rattle.fw_async.proofs.Common.{is_reply_size, AreBytes, tcode_of, Head}
 use Rattle.std.specs.Prelude.{IsTrue, if◌then◌else◌, nat_lt}
-use Rattle.std.proofs.lemmas.Bool.Decides.{nat_tests}
-use Rattle.fw_words.specs.Quadlet.{field, quadlet_at}
-use Rattle.fw_words.specs.Layout.{packed}
-use Rattle.fw_async.specs.Async.{head_fields, size, padding, is_lock_size, is_reply_size, AreBytes}
-use Rattle.fw_async.specs.Reading.{tcode_of}
-use Rattle.fw_async.specs.declared.packet.Head.{Head}
 use Rattle.fw_async.proofs.WholeLaws.{below}
 
 first_at : (t : ℕ) (bytes : List ℕ) (h : Head) → tcode_of bytes ≡ t → packed (head_fields (tcode_of bytes) h) 0 ≡ quadlet_at bytes 0 → packed (head_fields t h) 0 ≡ quadlet_at bytes 0

@@ -1,11 +1,12 @@
 -- What stands on a wire, by node.
-use Rattle.std.proofs.Common.{◌≡◌, ◌≢◌, ◌<◌, ◌≤◌, ◌+◌, inl, inr, ℕ, List, [], ◌∷◌, ◌++◌, Bool, true, false, cond, eqb, length, slice_index_or, Option, Some, None, ap, sym, refl, subst, ◌∙◌, arith}
-use Rattle.std.proofs.lemmas.Bool.{eq-eqb, eqb-true, cases_Bool, cases_lt}
-use Rattle.std.proofs.lemmas.Grind.{common_steps}
+use Rattle.fw_async.proofs.Common.{◌≡◌, ◌≢◌, ◌<◌, ◌≤◌, ◌+◌, inl, inr, ℕ, List, [], ◌∷◌, ◌++◌, Bool, true, false, eqb, length, Option, Some, None, ap, sym, refl, subst, ◌∙◌, arith, cases_lt}
+use Rattle.fw_async.proofs.Common.{common_steps, bytes_from}
+use Rattle.std.proofs.Common.{cond, slice_index_or}
+use Rattle.std.proofs.lemmas.Bool.{eq-eqb, eqb-true, cases_Bool}
 use Rattle.std.proofs.Math.ListN.{get_or-eq_default}
 use Rattle.std.proofs.lemmas.Option.{none-some}
 use Rattle.fw_async.specs.Letters.{HasLetters}
-use Rattle.fw_async.specs.Wire.{Pairs, bytes_from}
+use Rattle.fw_async.specs.Wire.{Pairs}
 
 apart : (a b : ℕ) → a ≢ b → eqb a b ≡ false
 apart a b ne = elim (cases_Bool (eqb a b)) [ inl y ↦ absurd (ne (eqb-true a b y)) | inr n ↦ n ]
@@ -44,7 +45,7 @@ told_next w letters node is told m less = elim (cases_lt m node) [
   | inr last ↦ let same : m ≡ node = omega arith in subst (λ k. bytes_from k w ≡ slice_index_or letters k None) (sym same) is
 ]
 
--- where nothing stands further on
+-- if nothing stands further on
 pub told_all : (w : Pairs) (letters : Letters) (node : ℕ) → length letters ≡ node → ((m : ℕ) → node ≤ m → bytes_from m w ≡ None) → AreTold w letters node → HasLetters w letters
 told_all w letters node size none told m = elim (cases_lt m node) [
   | inl less ↦ told m less

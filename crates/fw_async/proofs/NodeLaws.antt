@@ -1,6 +1,5 @@
 -- Node IDs and numbers, there and back.
-use Rattle.std.proofs.Common.{◌≡◌, ℕ, ◌≤◌, ◌<◌, ◌^◌, Some, arith}
-use Rattle.std.proofs.lemmas.Bool.Decides.{nat_tests}
+use Rattle.fw_async.proofs.Common.{◌≡◌, ℕ, ◌≤◌, ◌<◌, ◌^◌, Some, arith, nat_tests}
 use Rattle.fw_async.specs.NodeIds.{first_id, node_id, number_of, local_number}
 
 pub number_back : (n : ℕ) → n ≤ 63 → number_of (node_id n) ≡ n

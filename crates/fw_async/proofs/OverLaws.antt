@@ -1,9 +1,8 @@
--- The parts of a packet, written one behind the other.
-use Rattle.std.proofs.Common.{◌≡◌, ℕ, ◌+◌, List, [], ◌∷◌, ◌++◌, length, take, replicate, arith, ap, refl, sym, ◌∙◌, append_assoc, append-nil, length-append}
+-- The parts of a packet, written one after the other.
+use Rattle.fw_async.proofs.Common.{◌≡◌, ℕ, ◌+◌, List, [], ◌∷◌, ◌++◌, length, take, replicate, arith, ap, refl, sym, ◌∙◌, length-append, to_be_bytes, w32, padding, spelling, Packet}
+use Rattle.std.proofs.Common.{append_assoc, append-nil}
 use Rattle.std.specs.Prelude.{flat_map}
-use Rattle.std.specs.Int.{to_be_bytes, w32}
-use Rattle.fw_async.specs.Async.{parts, padding, spelling}
-use Rattle.fw_async.specs.declared.packet.Packet.{Packet}
+use Rattle.fw_async.specs.Async.{parts}
 
 -- The three parts are the packet's.
 pub record ArePartsOf (p : Packet) (front block zeros : List ℕ) : Type 0 where
@@ -17,7 +16,7 @@ together p front block zeros h = cc
 pub size_together : (p : Packet) (front block zeros : List ℕ) → ArePartsOf p front block zeros → length (spelling p) ≡ length front + length block + length zeros
 size_together p front block zeros h = omega (arith, ap length (together p front block zeros h), length-append front (block ++ zeros), length-append block zeros)
 
--- Without data the front is all.
+-- Without data the beginning is all.
 pub front_alone : (p : Packet) (front block : List ℕ) → front ≡ flat_map (to_be_bytes w32) (parts p).quadlets → block ≡ (parts p).bytes → length block ≡ 0 → front ≡ spelling p
 front_alone p front [] e f none = sym (append-nil front) ∙ together p front [] [] (record { quadlets = e; bytes = f; padding = refl })
 front_alone p front (x ∷ xs) e f none = absurd (omega arith)

@@ -1,16 +1,12 @@
 -- Bytes that are a packet at the first look.
-use Rattle.std.proofs.Common.{◌≡◌, ℕ, ◌+◌, ◌-◌, ◌*◌, ◌%◌, ◌^◌, ◌≤◌, ◌<◌, List, [], ◌∷◌, ◌++◌, ◌==◌, ◌||◌, ◌&&◌, nat_le, length, drop, replicate, flat_map}
-use Rattle.std.proofs.Common.{Bool, true, false, arith, refl, ap, sym, ◌∙◌, length-drop}
+use Rattle.fw_async.proofs.Common.{◌≡◌, ℕ, ◌+◌, ◌-◌, ◌%◌, ◌^◌, ◌≤◌, ◌<◌, List, [], ◌∷◌, ◌++◌, ◌==◌, ◌||◌, length, drop, replicate, Bool, true, false, arith, refl, ap, sym, ◌∙◌, to_be_bytes, w32}
+use Rattle.fw_async.proofs.Common.{field, quadlet_at, packed, AreBytes, HeadFits, head_fields, size, padding, padded, tcode_of, Spells, Head, Packet, WriteQuadlet, WriteBlock, WriteReply, ReadQuadlet}
+use Rattle.fw_async.proofs.Common.{ReadQuadletReply, CycleStart, Lock, LockReply}
+use Rattle.std.proofs.Common.{◌*◌, ◌&&◌, nat_le, flat_map}
+use Rattle.std.proofs.Common.{length-drop}
 use Rattle.std.proofs.lemmas.List.{append-nil, drop_all, get_or-drop}
-use Rattle.std.specs.Int.{to_be_bytes, w32}
-use Rattle.fw_words.specs.Quadlet.{field, quadlet_at}
-use Rattle.fw_words.specs.Layout.{packed}
-use Rattle.fw_async.specs.Async.{AreBytes, HeadFits, head_fields, size, padding, padded, request, response}
-use Rattle.fw_async.specs.Reading.{tcode_of}
-use Rattle.fw_async.specs.Reader.{IsPacket, Spells}
-use Rattle.fw_async.specs.declared.packet.Head.{Head}
-use Rattle.fw_async.specs.declared.packet.Packet.{Packet}
-use Rattle.fw_async.specs.declared.packet.Packet.TheVariants.{WriteQuadlet, WriteBlock, WriteReply, ReadQuadlet, ReadQuadletReply, CycleStart, Lock, LockReply}
+use Rattle.fw_async.specs.Async.{request, response}
+use Rattle.fw_async.specs.Reader.{IsPacket}
 use Rattle.fw_async.proofs.KindLaws.{request_at, response_at}
 use Rattle.fw_async.proofs.WholeLaws.{peel, below}
 use Rattle.fw_async.specs.Plain.{has_zeros, is_whole_block, is_plain_packet}
@@ -38,7 +34,7 @@ offset_at bytes = field (quadlet_at bytes 4) 16 31 * 2 ^ 32 + quadlet_at bytes 8
 abbrev rcode_at : List ℕ → ℕ
 rcode_at bytes = field (quadlet_at bytes 4) 16 19
 
--- quadlets 0 to 2, and others behind them
+-- quadlets 0 to 2, and others after them
 abbrev from_2 : List ℕ → List ℕ → List ℕ
 from_2 bytes more = quadlet_at bytes 0 ∷ quadlet_at bytes 4 ∷ quadlet_at bytes 8 ∷ more
 

@@ -1,13 +1,9 @@
 -- A packet of a transaction of one quadlet, read at once from its bytes.
-use Rattle.std.proofs.Common.{◌≡◌, ℕ, ◌+◌, ◌≤◌, List, ◌++◌, length, take, drop, true, IsTrue, nat_lt, if◌then◌else◌, arith, refl, ap, sym, subst, ◌∙◌}
+use Rattle.fw_async.proofs.Common.{◌≡◌, ℕ, ◌+◌, ◌≤◌, List, ◌++◌, length, take, drop, true, IsTrue, nat_lt, if◌then◌else◌, arith, refl, ap, sym, subst, ◌∙◌, nat_tests, length-take-le, field}
+use Rattle.fw_async.proofs.Common.{quadlet_at, AreBytes, is_lock_size, padding, tcode_of, Spells, Packet}
 use Rattle.std.proofs.Math.Seq.{take-add}
-use Rattle.std.proofs.lemmas.Bool.Decides.{nat_tests}
-use Rattle.std.proofs.lemmas.List.{drop-drop, length-take-le, length-drop}
-use Rattle.fw_words.specs.Quadlet.{field, quadlet_at}
-use Rattle.fw_async.specs.Async.{AreBytes, is_lock_size, padding}
-use Rattle.fw_async.specs.Reading.{IsComplete, ReadsAs, tcode_of}
-use Rattle.fw_async.specs.Reader.{Spells}
-use Rattle.fw_async.specs.declared.packet.Packet.{Packet}
+use Rattle.std.proofs.lemmas.List.{drop-drop, length-drop}
+use Rattle.fw_async.specs.Reading.{IsComplete, ReadsAs}
 use Rattle.fw_async.proofs.ExactLaws.{whole_from_spells, clear_from_spells}
 use Rattle.fw_async.proofs.NeedLaws.{need_least}
 use Rattle.fw_async.proofs.ReadingLaws.{are_bytes_part}

@@ -1,9 +1,9 @@
--- The bytes of a packet in its room, behind sixteen others.
-use Rattle.std.proofs.Common.{◌≡◌, ℕ, ◌+◌, ◌≤◌, List, ◌++◌, length, take, drop, arith, ap, sym, ◌∙◌}
+-- The bytes of a packet in its room, after sixteen others.
+use Rattle.fw_async.proofs.Common.{◌≡◌, ℕ, ◌+◌, ◌≤◌, List, ◌++◌, length, take, drop, arith, ap, sym, ◌∙◌, length-take-le}
 use Rattle.std.proofs.Math.Seq.{take-take, take-append-add, take-append_seam}
-use Rattle.std.proofs.lemmas.List.{drop-take, drop-append-le, length-take-le, length-drop}
+use Rattle.std.proofs.lemmas.List.{drop-take, drop-append-le, length-drop}
 
--- more bytes stand behind those that were there
+-- more bytes stand after those that were there
 pub appended : (n : ℕ) (old now more : List ℕ) → 16 + n ≤ length old → take (16 + n + length more) now ≡ take (16 + n) old ++ more
     → take (n + length more) (drop 16 now) ≡ take n (drop 16 old) ++ more
 appended n old now more within e =
@@ -17,14 +17,14 @@ appended n old now more within e =
 pub copied : (n m : ℕ) (from to : List ℕ) → n ≤ m → take m to ≡ take m from → take n to ≡ take n from
 copied n m from to few e = sym (take-take n m to few) ∙ (ap (take n) e ∙ take-take n m from few)
 
--- the front of what is put together is what was put there
+-- the beginning of what is put together is what was put there
 pub front_whole : (n : ℕ) (xs ys : List ℕ) → length xs ≡ n → take n (xs ++ ys) ≡ xs
 front_whole n xs ys size = ap (λ k. take k (xs ++ ys)) (sym size) ∙ take-append_seam xs ys
 
 pub stood : (n : ℕ) (bytes : List ℕ) → 16 + n ≤ length bytes → length (take n (drop 16 bytes)) ≡ n
 stood n bytes within = length-take-le n (drop 16 bytes) (omega (arith, length-drop 16 bytes))
 
--- the first bytes, which were put in front of a packet, and that packet
+-- the first bytes, which were put before a packet, and that packet
 pub row_is : (n : ℕ) (put front behind packet : List ℕ) → length put ≡ 16 → put ≡ front → take n behind ≡ packet → take (16 + n) (put ++ behind) ≡ front ++ packet
 row_is n put front behind packet size same is =
     ap (λ k. take (k + n) (put ++ behind)) (sym size) ∙ (take-append-add put behind n ∙ (ap (λ t. t ++ take n behind) same ∙ ap (λ t. front ++ t) is))

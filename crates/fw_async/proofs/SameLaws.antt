@@ -1,14 +1,10 @@
 -- One list of bytes is the spelling of one packet.
-use Rattle.std.proofs.Common.{◌≡◌, ℕ, ◌+◌, ◌*◌, ◌/◌, ◌%◌, ◌^◌, ◌<◌, List, [], ◌∷◌, ◌++◌, length, take, drop, replicate, arith, refl, ap, sym, ◌∙◌, ◌==◌, if◌then◌else◌}
+use Rattle.fw_async.proofs.Common.{◌≡◌, ℕ, ◌+◌, ◌/◌, ◌%◌, ◌^◌, ◌<◌, List, [], ◌∷◌, ◌++◌, length, take, drop, replicate, arith, refl, ap, sym, ◌∙◌, ◌==◌, if◌then◌else◌, to_be_bytes, w32, field}
+use Rattle.fw_async.proofs.Common.{quadlet_at, packed, HeadFits, Fits, spelling, head_fields, size, padding, padded, tcode_of, Head, Packet, WriteQuadlet, WriteBlock, WriteReply, ReadQuadlet}
+use Rattle.fw_async.proofs.Common.{ReadQuadletReply, CycleStart, Lock, LockReply}
+use Rattle.std.proofs.Common.{◌*◌}
 use Rattle.std.proofs.Math.Seq.{take-append_seam}
-use Rattle.std.specs.Int.{to_be_bytes, w32}
-use Rattle.fw_words.specs.Quadlet.{field, quadlet_at}
-use Rattle.fw_words.specs.Layout.{packed}
-use Rattle.fw_async.specs.Async.{HeadFits, Fits, spelling, head_fields, size, padding, padded}
-use Rattle.fw_async.specs.Reading.{tcode_of}
-use Rattle.fw_async.specs.declared.packet.Head.{Head}
-use Rattle.fw_async.specs.declared.packet.Packet.{Packet}
-use Rattle.fw_async.specs.declared.packet.Packet.TheVariants.{WriteQuadlet, WriteBlock, WriteReply, ReadQuadlet, ReadBlock, ReadQuadletReply, ReadBlockReply, CycleStart, Lock, LockReply}
+use Rattle.fw_async.specs.declared.packet.Packet.TheVariants.{ReadBlock, ReadBlockReply}
 use Rattle.fw_async.proofs.SpelledLaws.{back, first_fits, spelled_tcode, size_in, lock_few, reply_few}
 
 -- the head that stands in quadlets 0 and 1
@@ -51,7 +47,7 @@ packet_by t h o r v len low bytes =
     else if t == 9 then Lock h o low bytes
     else LockReply h r low bytes
 
--- the packet that the bytes are, where they are one
+-- the packet that the bytes are, if they are one
 abbrev packet_at : List ℕ → Packet
 packet_at bytes =
     packet_by (tcode_of bytes) (head_at (quadlet_at bytes 0) (quadlet_at bytes 4)) (offset_at (quadlet_at bytes 4) (quadlet_at bytes 8))
@@ -102,7 +98,8 @@ request_of t h offset rest small f o =
     let q = request_fields h.source offset third f.4 o in
     record {
       kind = spelled_tcode t h second small f;
-      head = head_back t h (quadlet_at (to_be_bytes w32 (packed (head_fields t h) 0) ++ second) 0) (quadlet_at second 0) small f (back (packed (head_fields t h) 0) second (first_fits t h small f)) q.0;
+      head = head_back t h (quadlet_at (to_be_bytes w32 (packed (head_fields t h) 0) ++ second) 0) (quadlet_at second 0) small f
+          (back (packed (head_fields t h) 0) second (first_fits t h small f)) q.0;
       place = offset_back offset (field (quadlet_at second 0) 16 31) (quadlet_at third 0) q.1 (back (offset % 2 ^ 32) rest (omega arith));
     }
 
@@ -119,11 +116,12 @@ response_of t h rcode rest small f r =
     let q = response_fields h.source rcode rest f.4 r in
     record {
       kind = spelled_tcode t h second small f;
-      head = head_back t h (quadlet_at (to_be_bytes w32 (packed (head_fields t h) 0) ++ second) 0) (quadlet_at second 0) small f (back (packed (head_fields t h) 0) second (first_fits t h small f)) q.0;
+      head = head_back t h (quadlet_at (to_be_bytes w32 (packed (head_fields t h) 0) ++ second) 0) (quadlet_at second 0) small f
+          (back (packed (head_fields t h) 0) second (first_fits t h small f)) q.0;
       code = q.1;
     }
 
--- what quadlet 3 and the data behind it have
+-- what quadlet 3 and the data after it have
 record HasData (len low : ℕ) (bytes more : List ℕ) : Type 0 where
   pub count : field (quadlet_at more 0) 0 15 ≡ len
   pub function : field (quadlet_at more 0) 16 31 ≡ low

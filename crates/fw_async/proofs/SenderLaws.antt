@@ -1,8 +1,8 @@
 -- A list without one of its numbers, none of which stands twice.
-use Rattle.std.proofs.Common.{◌≡◌, ◌≢◌, ℕ, zero, suc, ◌+◌, ◌-◌, ◌<◌, ◌≤◌, List, [], ◌∷◌, ◌++◌, length, take, drop, get_or, Bool, true, false, not, eqb, ◌||◌, arith, refl, ap, sym, ◌∙◌}
+use Rattle.fw_async.proofs.Common.{◌≡◌, ◌≢◌, ℕ, zero, suc, ◌+◌, ◌-◌, ◌<◌, ◌≤◌, List, [], ◌∷◌, ◌++◌, length, take, drop, get_or, Bool, true, false, eqb, ◌||◌, arith, refl, ap, sym, ◌∙◌, common_steps}
+use Rattle.std.proofs.Common.{not}
 use Rattle.std.specs.List.{filter, list_any, IsDistinct, AllByRecursion, remove}
 use Rattle.std.proofs.lemmas.Bool.{eq-eqb, eqb-true}
-use Rattle.std.proofs.lemmas.Grind.{common_steps}
 use Rattle.std.proofs.lemmas.List.{drop-append-le, drop-take, drop-drop, get_or-drop}
 
 abbrev pub others : ℕ → List ℕ → List ℕ

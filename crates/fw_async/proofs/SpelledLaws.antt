@@ -1,21 +1,19 @@
 -- A spelling shows no fault, and is as long as it needs.
-use Rattle.std.proofs.Common.{◌≡◌, ℕ, zero, suc, ◌+◌, ◌-◌, ◌/◌, ◌%◌, ◌^◌, ◌≤◌, ◌<◌, List, [], ◌∷◌, ◌++◌, get_or, length, drop, replicate, nat_lt, Bool, true, false, IsTrue, Option, Some, None, arith, refl, ap, sym, subst, ◌∙◌, ◌==◌, ◌||◌, if◌then◌else◌, length-append, add_assoc, add-zero}
-use Rattle.std.proofs.lemmas.Bool.Decides.{nat_tests}
+use Rattle.fw_async.proofs.Common.{◌≡◌, ℕ, zero, suc, ◌+◌, ◌-◌, ◌/◌, ◌%◌, ◌^◌, ◌≤◌, ◌<◌, List, [], ◌∷◌, ◌++◌, get_or, length, drop, replicate, nat_lt, Bool, true, false, IsTrue, Option, Some, None}
+use Rattle.fw_async.proofs.Common.{arith, refl, ap, sym, subst, ◌∙◌, ◌==◌, ◌||◌, if◌then◌else◌, length-append, nat_tests, to_be_bytes, w32, field, quadlet_at, packed, HeadFits, Fits, spelling}
+use Rattle.fw_async.proofs.Common.{head_fields, size, padding, padded, is_lock_size, is_reply_size, has_data, fault_in_quadlet_0, fault_in_quadlet_1, fault_in_quadlet_2, fault_in_quadlet_3}
+use Rattle.fw_async.proofs.Common.{fault_in_padding, fault_of, need, tcode_of, end_of_data, PacketFault, Head, Packet, WriteQuadlet, WriteBlock, WriteReply, ReadQuadlet, ReadQuadletReply, CycleStart}
+use Rattle.fw_async.proofs.Common.{Lock, LockReply}
+use Rattle.std.proofs.Common.{add_assoc, add-zero}
 use Rattle.std.proofs.lemmas.List.{get_or-append-add, get_or-replicate, length-replicate, nil_from_length}
 use Rattle.std.proofs.lemmas.Nat.{from_be_bytes-to_be_bytes_4}
-use Rattle.std.specs.Int.{to_be_bytes, w32}
 use Rattle.std.specs.Option.{option_map}
-use Rattle.fw_words.specs.Quadlet.{field, quadlet_at, first_set}
-use Rattle.fw_words.specs.Layout.{packed}
+use Rattle.fw_words.specs.Quadlet.{first_set}
 use Rattle.fw_words.proofs.FirstSet.{first_set_zero}
-use Rattle.fw_async.specs.Async.{HeadFits, Fits, spelling, head_fields, size, padding, padded, is_lock_size, is_reply_size}
-use Rattle.fw_async.specs.Tcode.{has_data, has_quadlet_3, is_response, is_block, is_lock}
-use Rattle.fw_async.specs.Reading.{fault_in_quadlet_0, fault_in_quadlet_1, fault_in_quadlet_2, fault_in_quadlet_3, fault_in_padding, fault_of, need, tcode_of, or_else, end_of_data}
-use Rattle.fw_async.specs.declared.PacketFault.{PacketFault}
+use Rattle.fw_async.specs.Tcode.{has_quadlet_3, is_response, is_block, is_lock}
+use Rattle.fw_async.specs.Reading.{or_else}
 use Rattle.fw_async.specs.declared.PacketFault.TheVariants.{Reserved, TooLong, BadLength}
-use Rattle.fw_async.specs.declared.packet.Head.{Head}
-use Rattle.fw_async.specs.declared.packet.Packet.{Packet}
-use Rattle.fw_async.specs.declared.packet.Packet.TheVariants.{WriteQuadlet, WriteBlock, WriteReply, ReadQuadlet, ReadBlock, ReadQuadletReply, ReadBlockReply, CycleStart, Lock, LockReply}
+use Rattle.fw_async.specs.declared.packet.Packet.TheVariants.{ReadBlock, ReadBlockReply}
 use Rattle.fw_async.proofs.ReadingLaws.{padding_next}
 use Rattle.fw_async.proofs.NeedLaws.{need_of, need_done, need_most}
 
@@ -34,20 +32,28 @@ spelled_tcode tcode h rest t f = ap (λ q. field q 24 27) (back (packed (head_fi
 
 -- no quadlet shows a fault, nor does the padding
 clear_by : (n : ℕ) (w x y z p : Option PacketFault) (b : Bool) → w ≡ None → x ≡ None → y ≡ None → z ≡ None → (IsTrue b → p ≡ None)
-    → (if nat_lt n 4 then None else or_else w (if nat_lt n 8 then None else or_else x (if nat_lt n 12 then None else or_else y (if nat_lt n 16 then None else or_else z (if b then p else None))))) ≡ None
+    → (if nat_lt n 4 then None else or_else w (if nat_lt n 8 then None else or_else x (if nat_lt n 12 then None else or_else y (if nat_lt n 16 then None else or_else z (if b then p else None)))))
+    ≡ None
 clear_by n w x y z p true e f g h i = rw (e, f, g, h, i refl) (grind (arith, nat_tests))
 clear_by n w x y z p false e f g h i = rw (e, f, g, h) (grind (arith, nat_tests))
 
-clear : (bytes : List ℕ) (t : ℕ) → tcode_of bytes ≡ t → fault_in_quadlet_0 t ≡ None → fault_in_quadlet_1 t (quadlet_at bytes 4) ≡ None → fault_in_quadlet_2 t (quadlet_at bytes 8) ≡ None → fault_in_quadlet_3 t (quadlet_at bytes 12) ≡ None
+clear : (bytes : List ℕ) (t : ℕ) → tcode_of bytes ≡ t → fault_in_quadlet_0 t ≡ None → fault_in_quadlet_1 t (quadlet_at bytes 4) ≡ None → fault_in_quadlet_2 t (quadlet_at bytes 8) ≡ None
+    → fault_in_quadlet_3 t (quadlet_at bytes 12) ≡ None
     → (IsTrue (has_data t) → fault_in_padding bytes (end_of_data bytes) (length bytes - end_of_data bytes) ≡ None) → fault_of bytes ≡ None
 clear bytes t e w x y z p =
-    let P : ℕ → Type 0 = λ k. (if nat_lt (length bytes) 4 then None else or_else (fault_in_quadlet_0 k) (if nat_lt (length bytes) 8 then None else or_else (fault_in_quadlet_1 k (quadlet_at bytes 4)) (if nat_lt (length bytes) 12 then None else or_else (fault_in_quadlet_2 k (quadlet_at bytes 8)) (if nat_lt (length bytes) 16 then None else or_else (fault_in_quadlet_3 k (quadlet_at bytes 12)) (if has_data k then fault_in_padding bytes (end_of_data bytes) (length bytes - end_of_data bytes) else None))))) ≡ None in
-    subst P (sym e) (clear_by (length bytes) (fault_in_quadlet_0 t) (fault_in_quadlet_1 t (quadlet_at bytes 4)) (fault_in_quadlet_2 t (quadlet_at bytes 8)) (fault_in_quadlet_3 t (quadlet_at bytes 12)) (fault_in_padding bytes (end_of_data bytes) (length bytes - end_of_data bytes)) (has_data t) w x y z p)
+    let P : ℕ → Type 0 = λ k. (if nat_lt (length bytes) 4 then None
+    else or_else (fault_in_quadlet_0 k) (if nat_lt (length bytes) 8 then None
+    else or_else (fault_in_quadlet_1 k (quadlet_at bytes 4)) (if nat_lt (length bytes) 12 then None
+    else or_else (fault_in_quadlet_2 k (quadlet_at bytes 8)) (if nat_lt (length bytes) 16 then None
+    else or_else (fault_in_quadlet_3 k (quadlet_at bytes 12)) (if has_data k then fault_in_padding bytes (end_of_data bytes) (length bytes - end_of_data bytes) else None))))) ≡ None in
+    subst P (sym e) (clear_by (length bytes) (fault_in_quadlet_0 t) (fault_in_quadlet_1 t (quadlet_at bytes 4)) (fault_in_quadlet_2 t (quadlet_at bytes 8)) (fault_in_quadlet_3 t (quadlet_at bytes 12))
+    (fault_in_padding bytes (end_of_data bytes) (length bytes - end_of_data bytes)) (has_data t) w x y z p)
 
 none_map : (before : ℕ) (x : Option ℕ) → x ≡ None → option_map (λ bit. Reserved (before + bit)) x ≡ None
 none_map before x e = rw e refl
 
-response_second : (t source rcode : ℕ) (rest : List ℕ) → source < 2 ^ 16 → rcode < 2 ^ 4 → fault_in_quadlet_1 t (quadlet_at (to_be_bytes w32 (packed ((16, source) ∷ (4, rcode) ∷ (12, 0) ∷ []) 0) ++ rest) 0) ≡ None
+response_second : (t source rcode : ℕ) (rest : List ℕ) → source < 2 ^ 16 → rcode < 2 ^ 4
+    → fault_in_quadlet_1 t (quadlet_at (to_be_bytes w32 (packed ((16, source) ∷ (4, rcode) ∷ (12, 0) ∷ []) 0) ++ rest) 0) ≡ None
 unfolding fault_in_quadlet_1
 response_second t source rcode rest s r =
     let q = packed ((16, source) ∷ (4, rcode) ∷ (12, 0) ∷ []) 0 in
@@ -97,11 +103,13 @@ block_size t q len b low l few = rw (low, l) (block (is_block t) len _ b few)
     block : (b : Bool) (len : ℕ) (x : Option PacketFault) → IsTrue b → len ≤ 512 → (if b then (if nat_lt 512 len then Some (TooLong len) else None) else x) ≡ None
     block b len x h few = grind (arith, nat_tests)
 
-lock_size : (t q len low : ℕ) → is_block t ≡ false → field q 16 31 ≡ low → field q 0 15 ≡ len → 0 < low → low < 8 → IsTrue (if t == 9 then is_lock_size low len else is_reply_size len) → fault_in_quadlet_3 t q ≡ None
+lock_size : (t q len low : ℕ) → is_block t ≡ false → field q 16 31 ≡ low → field q 0 15 ≡ len → 0 < low → low < 8 → IsTrue (if t == 9 then is_lock_size low len else is_reply_size len)
+    → fault_in_quadlet_3 t q ≡ None
 unfolding fault_in_quadlet_3
 lock_size t q len low b e l some few fits = rw (b, e, l) (lock (is_lock t) len low (if t == 9 then is_lock_size low len else is_reply_size len) some few fits)
   where
-    lock : (b : Bool) (len low : ℕ) (c : Bool) → 0 < low → low < 8 → IsTrue c → (if b then (if (low == 0) || nat_lt 7 low then Some (Reserved 112) else if c then None else Some (BadLength len)) else None) ≡ None
+    lock : (b : Bool) (len low : ℕ) (c : Bool) → 0 < low → low < 8 → IsTrue c
+        → (if b then (if (low == 0) || nat_lt 7 low then Some (Reserved 112) else if c then None else Some (BadLength len)) else None) ≡ None
     lock b len low c some few h = grind (arith, nat_tests)
 
 -- zeros show no fault
@@ -111,14 +119,15 @@ zeros_clear bytes at zero h = refl
 zeros_clear bytes at (suc n) h =
     let here : get_or bytes at 0 ≡ 0 = ap (λ (k : ℕ). get_or bytes k 0) (sym (add-zero at)) ∙ h 0 (omega arith) in
     let less : suc n - 1 ≡ n = omega arith in
-    padding_next bytes at (suc n) (omega arith) here ∙ ap (fault_in_padding bytes (at + 1)) less ∙ zeros_clear bytes (at + 1) n (λ i in_rest. subst (λ (k : ℕ). get_or bytes k 0 ≡ 0) (sym (add_assoc at 1 i)) (h (1 + i) (omega arith)))
+    padding_next bytes at (suc n) (omega arith) here ∙ ap (fault_in_padding bytes (at + 1)) less
+    ∙ zeros_clear bytes (at + 1) n (λ i in_rest. subst (λ (k : ℕ). get_or bytes k 0 ≡ 0) (sym (add_assoc at 1 i)) (h (1 + i) (omega arith)))
 
 after_zeros : (front : List ℕ) (k at i n : ℕ) → at ≡ length front → n ≡ length (front ++ replicate k 0) - at → i < n → get_or (front ++ replicate k 0) (at + i) 0 ≡ 0
 after_zeros front k at i n e m less =
     let inside : i < k = omega (arith, length-append front (replicate k 0), length-replicate {A = ℕ} k 0) in
     ap (λ (j : ℕ). get_or (front ++ replicate k 0) (j + i) 0) e ∙ get_or-append-add front (replicate k 0) i 0 ∙ get_or-replicate k i 0 0 inside
 
--- what stands behind the bytes of a packet with data shows no fault
+-- what stands after the bytes of a packet with data shows no fault
 padding_clear : (front : List ℕ) (k at : ℕ) → at ≡ length front → fault_in_padding (front ++ replicate k 0) at (length (front ++ replicate k 0) - at) ≡ None
 padding_clear front k at e = zeros_clear (front ++ replicate k 0) at (length (front ++ replicate k 0) - at) (λ i less. after_zeros front k at i (length (front ++ replicate k 0) - at) e refl less)
 
@@ -130,8 +139,10 @@ data_clear : (a b c low : ℕ) (bytes : List ℕ) → length bytes < 2 ^ 16 → 
     → let all = with_data a b c (size (length bytes) low) bytes in fault_in_padding all (end_of_data all) (length all - end_of_data all) ≡ None
 data_clear a b c low bytes few small =
     let all = with_data a b c (size (length bytes) low) bytes in
-    let len : field (quadlet_at (to_be_bytes w32 (size (length bytes) low) ++ padded bytes) 0) 0 15 ≡ length bytes = ap (λ q. field q 0 15) (size_of (length bytes) low (padded bytes) few small) ∙ size_len (length bytes) low few small in
-    rw len (padding_clear (to_be_bytes w32 a ++ (to_be_bytes w32 b ++ (to_be_bytes w32 c ++ (to_be_bytes w32 (size (length bytes) low) ++ bytes)))) (padding (length bytes)) (16 + length bytes) (omega arith))
+    let len : field (quadlet_at (to_be_bytes w32 (size (length bytes) low) ++ padded bytes) 0) 0 15 ≡ length bytes =
+    ap (λ q. field q 0 15) (size_of (length bytes) low (padded bytes) few small) ∙ size_len (length bytes) low few small in
+    rw len (padding_clear (to_be_bytes w32 a ++ (to_be_bytes w32 b ++ (to_be_bytes w32 c ++ (to_be_bytes w32 (size (length bytes) low) ++ bytes)))) (padding (length bytes)) (16 + length bytes)
+    (omega arith))
 
 pub lock_few : (f len : ℕ) → IsTrue (is_lock_size f len) → len < 2 ^ 16
 lock_few f len h = grind (arith, nat_tests)
@@ -192,9 +203,12 @@ data_need n len e = grind (arith, nat_tests)
 data_length : (a b c d : ℕ) (bytes : List ℕ) → length (with_data a b c d bytes) ≡ 16 + length bytes + padding (length bytes)
 data_length a b c d bytes = omega (arith, length-append bytes (replicate (padding (length bytes)) 0), length-replicate {A = ℕ} (padding (length bytes)) 0)
 
-need_data : (a b c low : ℕ) (bytes : List ℕ) → length bytes < 2 ^ 16 → low < 2 ^ 16 → need_of (length (with_data a b c (size (length bytes) low) bytes)) true true (field (quadlet_at (with_data a b c (size (length bytes) low) bytes) 12) 0 15) ≡ length (with_data a b c (size (length bytes) low) bytes)
+need_data : (a b c low : ℕ) (bytes : List ℕ) → length bytes < 2 ^ 16 → low < 2 ^ 16
+    → need_of (length (with_data a b c (size (length bytes) low) bytes)) true true (field (quadlet_at (with_data a b c (size (length bytes) low) bytes) 12) 0 15)
+    ≡ length (with_data a b c (size (length bytes) low) bytes)
 need_data a b c low bytes few small =
-    let len : field (quadlet_at (to_be_bytes w32 (size (length bytes) low) ++ padded bytes) 0) 0 15 ≡ length bytes = ap (λ q. field q 0 15) (size_of (length bytes) low (padded bytes) few small) ∙ size_len (length bytes) low few small in
+    let len : field (quadlet_at (to_be_bytes w32 (size (length bytes) low) ++ padded bytes) 0) 0 15 ≡ length bytes =
+    ap (λ q. field q 0 15) (size_of (length bytes) low (padded bytes) few small) ∙ size_len (length bytes) low few small in
     rw len (data_need (length (with_data a b c (size (length bytes) low) bytes)) (length bytes) (data_length a b c (size (length bytes) low) bytes))
 
 pub spelled_need : (p : Packet) → Fits p → need (spelling p) ≡ length (spelling p)
@@ -240,7 +254,7 @@ spelled_most p f = omega (arith, need_most (spelling p) (spelled_none p f), spel
 no_more : (n : ℕ) (more : List ℕ) → n + length more ≡ n → more ≡ []
 no_more n more e = nil_from_length more (omega arith)
 
--- No spelling is a proper front of another.
+-- No spelling is a proper prefix of another.
 pub no_proper_front : (p q : Packet) (more : List ℕ) → Fits p → Fits q → spelling q ≡ spelling p ++ more → more ≡ []
 no_proper_front p q more f g e =
     let done : need (spelling p ++ more) ≡ length (spelling p) = need_done (spelling p) more (sym (spelled_need p f)) in

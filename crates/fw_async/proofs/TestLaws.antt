@@ -1,6 +1,6 @@
 -- What tests say that were passed.
-use Rattle.std.proofs.Common.{◌≡◌, ℕ, ◌≤◌, ◌==◌, ◌&&◌, nat_le, Bool, true, false, arith, refl, if◌then◌else◌}
-use Rattle.std.proofs.lemmas.Bool.Decides.{nat_tests}
+use Rattle.fw_async.proofs.Common.{◌≡◌, ℕ, ◌≤◌, ◌==◌, Bool, true, false, arith, refl, if◌then◌else◌, nat_tests}
+use Rattle.std.proofs.Common.{◌&&◌, nat_le}
 
 pub equal : (a b : ℕ) → (a == b) ≡ true → a ≡ b
 equal a b h = grind (arith, nat_tests)

@@ -1,14 +1,16 @@
 -- The pairs of senders, and what is left of them.
-use Rattle.std.proofs.Common.{◌≡◌, ◌≢◌, inl, inr, ◌⊎◌, ℕ, ◌<◌, ◌≤◌, List, [], ◌∷◌, ◌++◌, length, take, get_or, slice_set, replicate, map, Bool, true, false, cond, not, eqb, ◌||◌, ◌&&◌, Some, None, arith, refl, ap, sym, subst, ◌∙◌, length-append}
+use Rattle.fw_async.proofs.Common.{◌≡◌, ◌≢◌, inl, inr, ℕ, ◌<◌, ◌≤◌, List, [], ◌∷◌, ◌++◌, length, take, get_or, replicate, Bool, true, false, eqb, ◌||◌, Some, None, arith, refl, ap, sym, subst, ◌∙◌}
+use Rattle.fw_async.proofs.Common.{length-append, cases_lt, common_steps, bytes_from, IsKept}
+use Rattle.std.proofs.Common.{◌⊎◌, slice_set, map}
+use Rattle.std.proofs.Common.{cond, not, ◌&&◌}
 use Rattle.std.specs.List.{filter, list_any, IsDistinct, AllByRecursion}
-use Rattle.std.proofs.lemmas.Bool.{eq-eqb, eqb-true, cases_Bool, cases_lt}
+use Rattle.std.proofs.lemmas.Bool.{eq-eqb, eqb-true, cases_Bool}
 use Rattle.std.proofs.Math.ListN.{get_or-eq_default}
-use Rattle.std.proofs.lemmas.Grind.{common_steps}
 use Rattle.std.proofs.lemmas.List.{get_or-set_same, get_or-set_other, get_or-replicate, length-replicate, map-append}
 use Rattle.std.proofs.lemmas.List.Folds.{list_any-append}
 use Rattle.std.proofs.lemmas.Map.Views.{any-filter_same}
 use Rattle.std.proofs.lemmas.Map.Steps.{length-le_from_distinct_below}
-use Rattle.fw_async.specs.Wire.{Pairs, bytes_from, without, bytes_at, pairs_at, IsKept}
+use Rattle.fw_async.specs.Wire.{Pairs, without, bytes_at, pairs_at}
 use Rattle.fw_async.proofs.SenderLaws.{others, apart, none_here}
 
 -- the pairs of senders by their bytes
@@ -117,7 +119,8 @@ no_value false x h = refl
 pub is_absent : (lengths : List ℕ) (rows : List (List ℕ)) (senders : List ℕ) (q : ℕ) → bytes_from q (pairs_at lengths rows senders) ≡ None → list_any (eqb q) senders ≡ false
 is_absent lengths rows senders q h = no_value (list_any (eqb q) senders) (bytes_at lengths rows q) (sym (look q (bytes_at lengths rows) senders) ∙ h)
 
-pub found : (lengths : List ℕ) (rows : List (List ℕ)) (senders : List ℕ) (q : ℕ) → IsKept lengths senders → get_or lengths q 0 ≢ 0 → bytes_from q (pairs_at lengths rows senders) ≡ Some (bytes_at lengths rows q)
+pub found : (lengths : List ℕ) (rows : List (List ℕ)) (senders : List ℕ) (q : ℕ) → IsKept lengths senders → get_or lengths q 0 ≢ 0
+    → bytes_from q (pairs_at lengths rows senders) ≡ Some (bytes_at lengths rows q)
 found lengths rows senders q k some = look q (bytes_at lengths rows) senders ∙ ap (λ (b : Bool). cond b (Some (bytes_at lengths rows q)) None) (k.free q some)
 
 pub missing : (lengths : List ℕ) (rows : List (List ℕ)) (senders : List ℕ) (q : ℕ) → IsKept lengths senders → get_or lengths q 0 ≡ 0 → bytes_from q (pairs_at lengths rows senders) ≡ None
@@ -209,8 +212,9 @@ take_pairs lengths rows senders q =
     elsewhere : (s : ℕ) → s ≢ q → bytes_at (slice_set lengths q 0) rows s ≡ bytes_at lengths rows s
     elsewhere s other = ap (λ (t : ℕ). take t (get_or rows s [])) (get_or-set_other lengths q s 0 0 other)
 
--- nothing changes where no pair of a sender stands
-pub none_taken : (lengths : List ℕ) (rows : List (List ℕ)) (senders : List ℕ) (q : ℕ) → IsKept lengths senders → get_or lengths q 0 ≡ 0 → without q (pairs_at lengths rows senders) ≡ pairs_at lengths rows senders
+-- nothing changes if no pair of a sender stands
+pub none_taken : (lengths : List ℕ) (rows : List (List ℕ)) (senders : List ℕ) (q : ℕ) → IsKept lengths senders → get_or lengths q 0 ≡ 0
+    → without q (pairs_at lengths rows senders) ≡ pairs_at lengths rows senders
 none_taken lengths rows senders q k none = left q (bytes_at lengths rows) senders ∙ ap (pairs_at lengths rows) (none_here q senders (by (list_any (eqb q) senders) refl))
   where
     by : (b : Bool) → b ≡ list_any (eqb q) senders → list_any (eqb q) senders ≡ false

@@ -51,7 +51,7 @@ padding len = 3 * len % 4
 abbrev pub padded : List ℕ → List ℕ
 padded bytes = bytes ++ replicate (padding (length bytes)) 0
 
--- quadlets are big-endian, and the data stands behind them
+-- quadlets are big-endian, and the data stands after them
 abbrev pub bytes_of : Parts → List ℕ
 bytes_of p = flat_map (to_be_bytes w32) p.quadlets ++ padded p.bytes
 

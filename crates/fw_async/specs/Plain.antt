@@ -3,11 +3,11 @@ use Rattle.std.specs.Prelude.{ℕ, ◌-◌, ◌*◌, ◌==◌, ◌||◌, ◌&&�
 use Rattle.fw_words.specs.Quadlet.{field, quadlet_at}
 use Rattle.fw_async.specs.Reading.{tcode_of}
 
--- the zeros behind the response code
+-- the zeros after the response code
 abbrev pub has_zeros : List ℕ → Bool
 has_zeros bytes = (field (quadlet_at bytes 4) 20 31 == 0) && (quadlet_at bytes 8 == 0)
 
--- data_length is that of all bytes behind quadlet 3, in a block without padding
+-- data_length is that of all bytes after quadlet 3, in a block without padding
 abbrev pub is_whole_block : List ℕ → Bool
 is_whole_block bytes = nat_le 16 (length bytes) && nat_le (length bytes) 528 && (quadlet_at bytes 12 == 65536 * (length bytes - 16))
 

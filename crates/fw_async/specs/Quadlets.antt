@@ -22,11 +22,11 @@ request_packet q = request_with q.head q.offset q.swap
 abbrev pub read_reply : Head → ℕ → ℕ → Packet
 read_reply h rcode value = ReadQuadletReply h rcode value
 
--- the bytes of a lock response: the old value, where there is one
+-- the bytes of a lock response: the old value, if there is one
 abbrev pub old_value : Option ℕ → List ℕ
 old_value None = []
 old_value (Some old) = to_be_bytes w32 old
 
--- the response to a compare_swap, with the old value where there is one
+-- the response to a compare_swap, with the old value if there is one
 abbrev pub swap_reply : Head → ℕ → Option ℕ → Packet
 swap_reply h rcode old = LockReply h rcode COMPARE_SWAP (old_value old)

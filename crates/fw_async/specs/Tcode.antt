@@ -36,6 +36,6 @@ is_lock t = (t == 9) || (t == 11)
 abbrev pub has_quadlet_3 : ℕ → Bool
 has_quadlet_3 t = not ((t == 2) || (t == 4))
 
--- data and its padding stand behind quadlet 3
+-- data and its padding stand after quadlet 3
 abbrev pub has_data : ℕ → Bool
 has_data t = (t == 1) || (t == 7) || is_lock t

@@ -7,7 +7,7 @@ use Rattle.std.specs.Map.{lookup}
 abbrev pub Pairs : Type 0
 Pairs = List (ℕ × List ℕ)
 
--- the bytes of a sender's pair, where one stands
+-- the bytes of a sender's pair, if one stands
 abbrev pub bytes_from : ℕ → Pairs → Option (List ℕ)
 bytes_from from pairs = lookup (eqb from) pairs
 
@@ -23,7 +23,7 @@ bytes_at lengths rows sender = take (get_or lengths sender 0) (get_or rows sende
 abbrev pub pairs_at : List ℕ → List (List ℕ) → List ℕ → Pairs
 pairs_at lengths rows senders = map (λ sender. (sender, bytes_at lengths rows sender)) senders
 
--- No sender stands twice, and bytes stand in a row exactly where its sender does.
+-- No sender stands twice, and bytes stand in a row exactly if its sender does.
 pub record IsKept (lengths senders : List ℕ) : Type 0 where
   pub apart : IsDistinct eqb senders
   pub size : length lengths ≡ 63

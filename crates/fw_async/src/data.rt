@@ -1,4 +1,4 @@
-//! Quadlet 3 of blocks and locks, and the data behind it.
+//! Quadlet 3 of blocks and locks, and the data after it.
 
 ghost use Rattle.std.specs.Prelude.{◌≡◌, ◌≤◌, ◌+◌, length, take, drop};
 ghost use Rattle.fw_words.specs.Quadlet.{field, quadlet_at};
@@ -22,7 +22,7 @@ pub fn function_at(bytes: &[u8]) -> u32
     quadlet_at(bytes, 12).field(16, 31)
 }
 
-/// The data of a block, behind quadlet 3.
+/// The data of a block, after quadlet 3.
 pub fn block_at<'a>(bytes: &'a [u8]) -> Data<'a>
     requires begun { 16 ≤ length bytes.now }
     requires there { 16 + field (quadlet_at bytes.now 12) 0 15 ≤ length bytes.now }
@@ -33,7 +33,7 @@ pub fn block_at<'a>(bytes: &'a [u8]) -> Data<'a>
     Data::new(&bytes[16..16 + length_at(bytes)])
 }
 
-/// The data of a lock, behind quadlet 3.
+/// The data of a lock, after quadlet 3.
 pub fn data_at<const N: usize>(bytes: &[u8]) -> Bytes<N>
     requires begun { 16 ≤ length bytes.now }
     requires room { field (quadlet_at bytes.now 12) 0 15 ≤ N }

@@ -21,7 +21,7 @@ pub fn tcode_at(bytes: &[u8]) -> Option<Tcode>
     Tcode::from_code(quadlet_at(bytes, 0).field(24, 27))
 }
 
-// The first of the bits from `first` on that is 1, where `before` bits stand before the quadlet.
+// The first of the bits from `first` on that is 1, if `before` bits stand before the quadlet.
 fn reserved(before: u32, q: Quadlet, first: u8) -> Option<PacketFault>
     requires range { first ≤ 31 }
     requires few { before ≤ 96 }
@@ -33,7 +33,7 @@ fn reserved(before: u32, q: Quadlet, first: u8) -> Option<PacketFault>
     first_set(q, first, 31).map(|bit| PacketFault::Reserved(before + bit as u32))
 }
 
-// The 12 zeros behind a response's rcode.
+// The 12 zeros after a response's rcode.
 #[tactic(auto, unfolding(crate::specs::Reading::fault_in_quadlet_1))]
 fn fault_in_quadlet_1(tcode: Tcode, q: Quadlet) -> Option<PacketFault>
     ensures { result ≡ fault_in_quadlet_1 (code_of tcode) q.0 }

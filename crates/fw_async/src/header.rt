@@ -1,4 +1,4 @@
-//! Quadlets 0 to 2, written in front of all others and read from there.
+//! Quadlets 0 to 2, written before all others and read from there.
 
 ghost use Rattle.std.specs.Prelude.{◌≡◌, ◌≤◌, ◌<◌, ◌+◌, ◌/◌, ◌%◌, ◌^◌, ◌++◌, [], ◌∷◌, length, flat_map};
 ghost use Rattle.std.specs.Int.{to_be_bytes, w32};

@@ -7,7 +7,7 @@ ghost use Rattle.fw_async.specs.Wire.{bytes_from};
 
 use crate::node_ids::MOST_NODES;
 use crate::wire::Wire;
-use fw_parts::{Part, mixed};
+use fw_kept_parts::{Part, mixed};
 use std::alloc::{AllocError, Global};
 use std::marker::Model;
 
@@ -104,7 +104,7 @@ impl Wire {
         Ok(Letters { list })
     }
 
-    /// Where it is found that these stand, they do.
+    /// If it is found that these stand, they do.
     pub fn has_letters(&self, letters: &Letters) -> bool
         ensures { IsTrue result → HasLetters self.now letters.now }
     {

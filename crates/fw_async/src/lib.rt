@@ -2,7 +2,7 @@
 //!
 //! Quadlet 0 is destination_ID 16, tl 6, rt 2, tcode 4, pri 4. Quadlet 1 is source_ID 16, then in a request the
 //! high 16 bits of destination_offset, in a response rcode 4 and 12 zeros. Quadlet 2 is the low 32 bits of the
-//! offset, or zeros in a response. Quadlet 3 and the data behind it depend on the transaction code
+//! offset, or zeros in a response. Quadlet 3 and the data after it depend on the transaction code
 //! (IEEE 1394-1995, clause 6.2). The CRCs are left out: a packet stands as the link layer hands it over.
 //! That a block has at most 512 bytes of data is this project's choice, as is the size of a vendor-dependent lock.
 #![tactic(auto)]

@@ -16,7 +16,7 @@ pub struct Head {
 }
 
 /// A packet. An `offset` is a destination_offset of 48 bits, an `rcode` a response code of 4 bits. The `bytes` of
-/// a lock are its argument (where it has one) and then its data value; those of a lock response the old value. The
+/// a lock are its argument (if it has one) and then its data value; those of a lock response the old value. The
 /// data of a block lies elsewhere, so that a packet is a few words, whatever it carries.
 #[derive(Drop)]
 pub enum Packet<'a> {

@@ -46,7 +46,7 @@ impl PacketReader {
         self.taken.as_slice().is_empty()
     }
 
-    // Takes bytes up to the end of one packet, where no fault was answered.
+    // Takes bytes up to the end of one packet, if no fault was answered.
     fn feed_fresh<'a>(
         &mut self,
         piece: &[u8],
@@ -87,7 +87,7 @@ impl PacketReader {
         }
     }
 
-    /// Takes bytes up to the end of one packet, or all of the piece where no packet ends in it and no fault shows. The
+    /// Takes bytes up to the end of one packet, or all of the piece if no packet ends in it and no fault shows. The
     /// packet's bytes are put together in `room`, which the packet refers to; what the room held does not matter.
     ///
     /// A fault is answered by the call that takes the last byte of the quadlet, or the padding byte, which shows it:

@@ -10,7 +10,7 @@ use crate::quadlets::{OLD_SIZE, SWAP_SIZE};
 use crate::tcode::Tcode;
 use fw_words::quadlet_at;
 
-// The zeros that a response has behind its rcode.
+// The zeros that a response has after its rcode.
 fn has_zeros(bytes: &[u8]) -> bool
     requires { 12 ≤ length bytes.now }
     ensures { result ≡ has_zeros bytes.now }
@@ -18,7 +18,7 @@ fn has_zeros(bytes: &[u8]) -> bool
     quadlet_at(bytes, 4).field(20, 31) == 0 && quadlet_at(bytes, 8).0 == 0
 }
 
-// The data of a block takes all bytes behind quadlet 3, and there is no padding.
+// The data of a block takes all bytes after quadlet 3, and there is no padding.
 fn is_whole_block(bytes: &[u8]) -> bool
     requires { 12 ≤ length bytes.now }
     ensures { result ≡ is_whole_block bytes.now }

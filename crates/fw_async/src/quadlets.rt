@@ -62,7 +62,7 @@ fn swap_asked_at(bytes: &[u8]) -> QuadletRequest
     }
 }
 
-/// What the request packet asks that these bytes are, where it asks a quadlet; it is found at once. None tells nothing.
+/// What the request packet asks that these bytes are, if it asks a quadlet; it is found at once. None tells nothing.
 pub fn quadlet_request_at(bytes: &[u8]) -> Option<QuadletRequest>
     requires { IsPacket bytes.now }
     ensures { (p : PacketRecord) → Spells p bytes.now → IfSome result (λ q. p ≡ request_packet q) }
@@ -102,7 +102,7 @@ impl PacketRoom {
         self.push(value);
     }
 
-    /// Puts the response packet to a quadlet compare_swap in place of what was there, with the old value where there is one.
+    /// Puts the response packet to a quadlet compare_swap in place of what was there, with the old value if there is one.
     pub fn put_swap_reply(&mut self, head: &Head, rcode: u8, old: Option<u32>)
         requires head { HeadFits head.now }
         requires rcode { rcode < 2 ^ 4 }

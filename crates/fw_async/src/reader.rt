@@ -89,7 +89,7 @@ fn read_front<'a>(bytes: &'a [u8]) -> Result<Fed<'a>, PacketFault>
     })
 }
 
-/// Reads a packet from bytes that are at hand. It takes those up to the packet's end, or all where none ends in them
+/// Reads a packet from bytes that are at hand. It takes those up to the packet's end, or all if none ends in them
 /// and no fault shows. A fault is the one of the first byte that shows it: no packet begins with the bytes up to there.
 pub fn read_packet<'a>(bytes: &'a [u8]) -> Result<Fed<'a>, PacketFault>
     ensures reads { Reads bytes.now result }

@@ -12,16 +12,16 @@ use crate::writer::{data_of, padding_of, quadlet_3, write_over};
 use fw_words::{Quadlet, put_quadlet};
 use std::marker::Model;
 
-/// How many bytes stand in front of a packet.
+/// How many bytes stand before a packet.
 const FRONT: usize = 16;
 
 /// How many bytes the request and the response of a transaction of one quadlet have at most, and some more.
 const SHORT: usize = 32;
 
-/// How many bytes stand in front of a packet, and in the longest one.
+/// How many bytes stand before a packet, and in the longest one.
 const ALL: usize = 544;
 
-/// Room for the bytes of one packet. It is made once and used again for each. The sixteen bytes in front of the packet are
+/// Room for the bytes of one packet. It is made once and used again for each. The sixteen bytes before the packet are
 /// those of `behind`, so that a packet that something stands before, as in an entry of a log, is not copied for it.
 #[derive(Drop)]
 pub struct PacketRoom {
@@ -58,7 +58,7 @@ impl PacketRoom {
         &self.bytes[FRONT..FRONT + self.length]
     }
 
-    /// Copies the packet's bytes over the front of `row`, and answers how many they are.
+    /// Copies the packet's bytes over the beginning of `row`, and answers how many they are.
     #[inline(always)]
     pub(crate) fn copy_to(&self, row: &mut [u8; 528]) -> usize
         ensures bytes { take result row.new ≡ self.now }
@@ -74,7 +74,7 @@ impl PacketRoom {
         self.length
     }
 
-    /// The packet's bytes behind sixteen others. What the room has then does not matter.
+    /// The packet's bytes after sixteen others. What the room has then does not matter.
     pub fn behind<'a>(&'a mut self, front: [u8; 16]) -> &'a [u8]
         ensures { result.now ≡ front ++ self.old }
     {
@@ -132,7 +132,7 @@ impl PacketRoom {
         }
     }
 
-    // Quadlet 3, where the packet has one.
+    // Quadlet 3, if the packet has one.
     fn push_quadlet_3(&mut self, p: &Packet)
         requires fits { Fits p.now }
         requires begun { length self.old ≡ 12 }
@@ -203,7 +203,7 @@ fn row_of(bytes: &[u8; ALL]) -> &[u8; 48]
     }
 }
 
-// Writes over the bytes at the front.
+// Writes over the bytes at the beginning.
 fn copy_over(bytes: &[u8], row: &mut [u8; 528])
     requires { length bytes.now ≤ 528 }
     ensures { take (length bytes.now) row.new ≡ bytes.now }
@@ -211,7 +211,7 @@ fn copy_over(bytes: &[u8], row: &mut [u8; 528])
     row[..bytes.len()].copy_from_slice(bytes);
 }
 
-// Writes so many bytes over the front. One array is moved over another, so that no test is made of whether they overlap.
+// Writes so many bytes over the beginning. One array is moved over another, so that no test is made of whether they overlap.
 #[inline(always)]
 fn copy_short(short: &[u8], row: &mut [u8; 528])
     requires { length short.now ≡ 32 }

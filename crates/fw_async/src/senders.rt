@@ -11,7 +11,7 @@ use std::marker::Model;
 pub struct Senders {
     /// Twice as many as there are nodes, so that the places of those that have gone are seldom closed up.
     numbers: ArrayVec<u8, 126>,
-    /// How many at the front have gone.
+    /// How many at the beginning have gone.
     gone: usize,
 }
 
@@ -90,7 +90,7 @@ fn stands_at(numbers: &[u8], at: usize, sender: u8) -> bool
     at < numbers.len() && numbers[at] == sender
 }
 
-/// The first place from `from` on at which a sender stands; the numbers' end where it stands nowhere there.
+/// The first place from `from` on at which a sender stands; the numbers' end if it stands nowhere there.
 fn place_of(numbers: &[u8], from: usize, sender: u8) -> usize
     requires { from ≤ length numbers.now }
     ensures from { from ≤ result }

@@ -55,14 +55,14 @@ impl Tcode {
         )
     }
 
-    /// A quadlet stands behind the first three.
+    /// A quadlet stands after the first three.
     pub fn has_quadlet_3(self) -> bool
         ensures { result ≡ has_quadlet_3 (code_of self) }
     {
         !matches!(self, Tcode::WriteReply | Tcode::ReadQuadlet)
     }
 
-    /// Data and its padding stand behind quadlet 3.
+    /// Data and its padding stand after quadlet 3.
     pub fn has_data(self) -> bool
         ensures { result ≡ has_data (code_of self) }
     {

@@ -23,7 +23,7 @@ const LONGEST: usize = 528;
 #[derive(Drop)]
 pub struct Wire {
     pub(crate) senders: Senders,
-    /// By sender: how many bytes of its packet stand, at the front of its row; none where it has no pair.
+    /// By sender: how many bytes of its packet stand, at the beginning of its row; none if it has no pair.
     lengths: [usize; MOST_NODES],
     rows: [[u8; LONGEST]; MOST_NODES],
 }
@@ -38,7 +38,7 @@ impl Model for Wire {
     ghost invariant = { λ w. IsKept w.lengths w.senders };
 }
 
-// Copies the letter over the front of a row, and answers how many bytes it has.
+// Copies the letter over the beginning of a row, and answers how many bytes it has.
 fn copy_letter(letter: &Letter, row: &mut [u8; LONGEST]) -> usize
     ensures bytes { take result row.new ≡ letter.now }
     ensures size { result ≡ length letter.now }
@@ -62,7 +62,7 @@ impl Wire {
         }
     }
 
-    /// Puts a sender's packet behind all that stands.
+    /// Puts a sender's packet after all that stands.
     pub fn put(&mut self, from: u8, p: &Packet)
         requires from { from ≤ 62 }
         requires free { bytes_from from self.old ≡ None }
@@ -75,7 +75,7 @@ impl Wire {
         self.senders.push(from);
     }
 
-    /// Puts the bytes of a sender's packet, which are at hand, behind all that stands.
+    /// Puts the bytes of a sender's packet, which are at hand, after all that stands.
     #[inline(always)]
     pub fn put_bytes(&mut self, from: u8, packet: &PacketRoom)
         requires from { from ≤ 62 }
@@ -88,7 +88,7 @@ impl Wire {
         self.senders.push(from);
     }
 
-    // Puts bytes that were kept behind all that stands.
+    // Puts bytes that were kept after all that stands.
     pub(crate) fn put_letter(&mut self, from: u8, letter: &Letter)
         requires from { from ≤ 62 }
         requires free { bytes_from from self.old ≡ None }
@@ -99,7 +99,7 @@ impl Wire {
         self.senders.push(from);
     }
 
-    /// The bytes of a sender's packet. None exactly where no pair of that sender stands.
+    /// The bytes of a sender's packet. None exactly if no pair of that sender stands.
     pub fn get(&self, from: u8) -> Option<&[u8]>
         ensures { option_map (λ b. b.now) result ≡ bytes_from from self.now }
     {
@@ -121,7 +121,7 @@ impl Wire {
     }
 
     /// Takes a sender's pair away and answers its bytes, which are put into `room`; the others keep their order. None exactly
-    /// where no pair of that sender stands, and then nothing changes.
+    /// if no pair of that sender stands, and then nothing changes.
     pub fn take<'a>(&mut self, from: u8, room: &'a mut Bytes<LONGEST>) -> Option<&'a [u8]>
         ensures bytes { option_map (λ b. b.now) result ≡ bytes_from from self.old }
         ensures rest { self.new ≡ without from self.old }
@@ -138,7 +138,7 @@ impl Wire {
         Some(room.as_slice())
     }
 
-    /// Takes a sender's pair away, where one stands; the others keep their order.
+    /// Takes a sender's pair away, if one stands; the others keep their order.
     pub fn remove(&mut self, from: u8)
         requires { from ≤ 62 }
         ensures { self.new ≡ without from self.old }

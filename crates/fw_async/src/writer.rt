@@ -1,4 +1,4 @@
-//! Packets as bytes: the quadlets at the front, the data, and zeros up to a whole quadlet.
+//! Packets as bytes: the quadlets at the beginning, the data, and zeros up to a whole quadlet.
 
 ghost use Rattle.std.specs.Prelude.{◌≡◌, ◌≤◌, ◌+◌, ◌++◌, ◌∷◌, IfSome, IfNone, List, ℕ, [], length, take, drop, flat_map, replicate};
 ghost use Rattle.std.specs.Int.{to_be_bytes, w32};
@@ -42,7 +42,7 @@ fn size_of(bytes: &[u8], low: u8) -> u32
     with_field(bytes.len() as u32, 16, u32::from(low))
 }
 
-// Quadlet 3, where the packet has one.
+// Quadlet 3, if the packet has one.
 pub(crate) fn quadlet_3(p: &Packet) -> Option<u32>
     requires { Fits p.now }
     ensures some { IfSome result (λ q. drop 3 (parts p.now).quadlets ≡ q ∷ []) }
@@ -71,7 +71,7 @@ pub(crate) fn quadlet_3(p: &Packet) -> Option<u32>
     }
 }
 
-// Appends quadlet 3, where the packet has one.
+// Appends quadlet 3, if the packet has one.
 fn push_quadlet_3(p: &Packet, out: &mut Bytes16)
     requires fits { Fits p.now }
     requires begun { length out.old ≡ 12 }
@@ -82,7 +82,7 @@ fn push_quadlet_3(p: &Packet, out: &mut Bytes16)
     }
 }
 
-// The quadlets at the packet's front.
+// The quadlets at the packet's beginning.
 pub(crate) fn front_of(p: &Packet) -> Bytes16
     requires { Fits p.now }
     ensures { result ≡ flat_map (to_be_bytes w32) (parts p.now).quadlets }
@@ -93,7 +93,7 @@ pub(crate) fn front_of(p: &Packet) -> Bytes16
     front
 }
 
-// The data behind the quadlets.
+// The data after the quadlets.
 pub(crate) fn data_of<'a>(p: &'a Packet) -> &'a [u8]
     requires { Fits p.now }
     ensures same { result.now ≡ (parts p.now).bytes }
@@ -114,7 +114,7 @@ pub(crate) fn data_of<'a>(p: &'a Packet) -> &'a [u8]
     }
 }
 
-// The zeros behind so many bytes of data.
+// The zeros after so many bytes of data.
 pub(crate) fn padding_of(count: usize) -> &'static [u8]
     requires { count ≤ 512 }
     ensures { result.now ≡ replicate (padding count) 0 }
@@ -176,7 +176,7 @@ pub(crate) fn write_over(out: &mut [u8], at: usize, more: &[u8])
     out[at..at + more.len()].copy_from_slice(more);
 }
 
-/// Writes a packet's bytes over those of `out` from `at` on, where there is room for them, and answers where they end:
+/// Writes a packet's bytes over those of `out` from `at` on, if there is room for them, and answers where they end:
 /// `packet_length` says how many they are. The packet's numbers fit their fields, and its data is as long as its kind may
 /// have.
 pub fn write_packet_at(p: &Packet, out: &mut [u8], at: usize) -> usize
@@ -200,7 +200,7 @@ pub fn write_packet_at(p: &Packet, out: &mut [u8], at: usize) -> usize
     end + padding.len()
 }
 
-/// Writes a packet's bytes over the front of `out`, and answers how many they are.
+/// Writes a packet's bytes over the beginning of `out`, and answers how many they are.
 #[tactic(auto, using(crate::proofs::SpelledLaws::spelled_most))]
 pub(crate) fn spell_over(p: &Packet, out: &mut [u8; 528]) -> usize
     requires { Fits p.now }

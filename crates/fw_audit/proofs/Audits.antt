@@ -1,19 +1,19 @@
 -- What an audit has found after one entry more.
-use Rattle.fw_entry.specs.declared.entry.Entry.{Entry}
+use Rattle.fw_log_entry.specs.declared.entry.Entry.{Entry}
 use Rattle.std.proofs.Common.{◌≡◌, ◌⊎◌, ◌==◌, inl, inr, false, cond, Option, Some, None, List, [], ◌∷◌, ◌++◌, refl, ap, sym, subst, ◌∙◌, append_assoc}
 use Rattle.std.proofs.lemmas.Option.{same_Some}
-use Rattle.fw_account.specs.Account.{Account}
-use Rattle.fw_account.specs.Fold.{no_account, next_account, account_from, account_of}
+use Rattle.fw_model_account.specs.Account.{Account}
+use Rattle.fw_model_account.specs.Fold.{no_account, next_account, account_from, account_of}
 use Rattle.fw_ledger.specs.declared.tables.Tables.{Tables}
-use Rattle.fw_account.proofs.Fold.{account_from-append}
-use Rattle.fw_faults.specs.Looked.{Looked, Other, labelled, looked}
-use Rattle.fw_faults.specs.Faults.{HasNoFault, IsVerdict}
-use Rattle.fw_faults.specs.Audited.{IsAudited, EndsFaulty}
-use Rattle.fw_faults.specs.declared.fault.AuditFault.{AuditFault}
-use Rattle.fw_faults.specs.declared.fault.AuditFault.TheVariants.{NoNode, Overlap, Orphan, NotAllowed, WrongWord, NoMove, NoEvent}
+use Rattle.fw_model_account.proofs.Fold.{account_from-append}
+use Rattle.fw_model_audit.specs.Looked.{Looked, Other, labelled, looked}
+use Rattle.fw_model_audit.specs.Faults.{HasNoFault, IsVerdict}
+use Rattle.fw_model_audit.specs.Audited.{IsAudited, EndsFaulty}
+use Rattle.fw_model_audit.specs.declared.fault.AuditFault.{AuditFault}
+use Rattle.fw_model_audit.specs.declared.fault.AuditFault.TheVariants.{NoNode, Overlap, Orphan, NotAllowed, WrongWord, NoMove, NoEvent}
 use Rattle.fw_async.specs.declared.packet.Head.{Head}
-use Rattle.fw_base.specs.declared.label.Label.TheVariants.{Procedure}
-use Rattle.fw_base.specs.Labels.{label_code}
+use Rattle.fw_terms.specs.declared.label.Label.TheVariants.{Procedure}
+use Rattle.fw_terms.specs.Labels.{label_code}
 use Rattle.fw_audit.specs.Found.{StandsAfter, Follows, Found, IsPassedOver}
 use Rattle.fw_audit.specs.declared.audit.Audit.{Audit}
 
@@ -61,7 +61,8 @@ never_audited es rest f x a =
 
 -- ---- one entry more
 
-pub found_more : (entries : List Entry) (e : Entry) (a : Audit) (t : Tables) (f : Option AuditFault) → (x : Follows entries a) → IsVerdict x.account (looked e) f → (f ≡ None → StandsAfter t x.account e)
+pub found_more : (entries : List Entry) (e : Entry) (a : Audit) (t : Tables) (f : Option AuditFault) → (x : Follows entries a) → IsVerdict x.account (looked e) f
+    → (f ≡ None → StandsAfter t x.account e)
     → Found (entries ++ e ∷ []) (record { ledger = t; fault = f }) f
 found_more entries e a t None x is after =
     let y = after refl in
@@ -110,5 +111,6 @@ other_clear l (NoMove v w) h = h
 other_clear l (NoEvent k) h = h
 
 -- so has a packet that is not of a procedure
-pub other_passed : (l : Account) (h : Head) (x : Looked) (o : Option Account) → (h.tl == label_code Procedure) ≡ false → (cond (h.tl == label_code Procedure) o (Some l) ≡ Some l) × HasNoFault l (labelled h x)
+pub other_passed : (l : Account) (h : Head) (x : Looked) (o : Option Account) → (h.tl == label_code Procedure) ≡ false → (cond (h.tl == label_code Procedure) o (Some l) ≡ Some l)
+    × HasNoFault l (labelled h x)
 other_passed l h x o e = (rw e refl, rw e (other_clear l))

@@ -3,8 +3,8 @@ use Rattle.std.proofs.Common.{◌≡◌, ℕ, ◌<◌, ◌==◌, false, List, �
 use Rattle.std.specs.Int.{to_be_bytes, w32}
 use Rattle.fw_words.specs.Quadlet.{field, quadlet_at}
 use Rattle.fw_words.specs.Layout.{packed}
-use Rattle.fw_base.specs.declared.label.Label.TheVariants.{Procedure}
-use Rattle.fw_base.specs.Labels.{label_code}
+use Rattle.fw_terms.specs.declared.label.Label.TheVariants.{Procedure}
+use Rattle.fw_terms.specs.Labels.{label_code}
 use Rattle.fw_async.specs.Async.{HeadFits, Fits, spelling, head_fields}
 use Rattle.fw_async.specs.Heads.{head_of}
 use Rattle.fw_async.specs.Reader.{Spells}
@@ -12,7 +12,7 @@ use Rattle.fw_async.specs.declared.packet.Head.{Head}
 use Rattle.fw_async.specs.declared.packet.Packet.{Packet}
 use Rattle.fw_async.specs.declared.packet.Packet.TheVariants.{WriteQuadlet, WriteBlock, WriteReply, ReadQuadlet, ReadBlock, ReadQuadletReply, ReadBlockReply, CycleStart, Lock, LockReply}
 use Rattle.fw_async.proofs.SpelledLaws.{back, first_fits}
-use Rattle.fw_entry.specs.declared.entry.Entry.TheVariants.{Async}
+use Rattle.fw_log_entry.specs.declared.entry.Entry.TheVariants.{Async}
 use Rattle.fw_audit.specs.Found.{IsPassedOver}
 use Rattle.fw_audit.proofs.Audits.{other_clear, other_passed}
 

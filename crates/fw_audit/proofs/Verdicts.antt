@@ -1,34 +1,34 @@
 -- The first fault of an entry, by what the ledger says of it.
-use Rattle.fw_entry.specs.declared.entry.Entry.{Entry}
-use Rattle.fw_entry.specs.declared.entry.Entry.TheVariants.{Reset, Async, Iso, Event, Outcome, Shown, End}
+use Rattle.fw_log_entry.specs.declared.entry.Entry.{Entry}
+use Rattle.fw_log_entry.specs.declared.entry.Entry.TheVariants.{Reset, Async, Iso, Event, Outcome, Shown, End}
 use Rattle.fw_async.specs.declared.packet.Packet.{Packet}
 use Rattle.fw_async.specs.declared.packet.Packet.TheVariants.{WriteQuadlet, WriteBlock, WriteReply, ReadQuadlet, ReadBlock, ReadQuadletReply, ReadBlockReply, CycleStart, Lock, LockReply}
-use Rattle.fw_base.specs.declared.label.Label.TheVariants.{Procedure}
-use Rattle.fw_base.specs.Labels.{label_code}
-use Rattle.fw_entry.specs.declared.entry.ShownEntry.{ShownEntry}
+use Rattle.fw_terms.specs.declared.label.Label.TheVariants.{Procedure}
+use Rattle.fw_terms.specs.Labels.{label_code}
+use Rattle.fw_log_entry.specs.declared.entry.ShownEntry.{ShownEntry}
 use Rattle.std.proofs.Common.{◌≡◌, ◌<◌, ℕ, ◌==◌, ◌&&◌, Bool, true, false, Option, Some, None, length, refl, ap, sym, subst, ◌∙◌, arith, cond}
 use Rattle.std.specs.Option.{option_map}
 use Rattle.std.proofs.lemmas.Bool.Decides.{nat_tests}
 use Rattle.std.proofs.lemmas.Option.{same_Some}
-use Rattle.fw_entry.specs.Network.{device_of_id}
-use Rattle.fw_account.specs.Account.{Account, Reads, Locks, Request}
-use Rattle.fw_account.specs.Fold.{next_account}
-use Rattle.fw_account.specs.Sound.{IsSound}
-use Rattle.fw_account.specs.Packets.{is_quadlet_swap, is_reply_to}
-use Rattle.fw_account.specs.Words.{register_of, word_of}
+use Rattle.fw_log_entry.specs.Network.{device_of_id}
+use Rattle.fw_model_account.specs.Account.{Account, Reads, Locks, Request}
+use Rattle.fw_model_account.specs.Fold.{next_account}
+use Rattle.fw_model_account.specs.Sound.{IsSound}
+use Rattle.fw_model_account.specs.Packets.{is_quadlet_swap, is_reply_to}
+use Rattle.fw_model_account.specs.Words.{register_of, word_of}
 use Rattle.fw_ledger.specs.Stands.{StandsFor, AskedFor}
 use Rattle.fw_ledger.specs.Refused.{IsAnswered, IsDue, ShowsAnswer, GoesOn, word_asked}
 use Rattle.fw_ledger.specs.declared.answer.Answer.{Answer}
 use Rattle.fw_ledger.specs.declared.tables.Tables.{Tables}
 use Rattle.fw_ledger.specs.declared.tables.Asked.TheVariants.{Nothing as NotAsked, Read as ReadAsked, Swap as SwapAsked, Lock as LockAsked}
 use Rattle.fw_words.specs.declared.swap.Swap.{Swap}
-use Rattle.fw_faults.specs.Looked.{Response, Looked, Asks, Replies, Shows, Happens, Other, looked, looked_packet, IsAnswer, ShowsWords}
-use Rattle.fw_faults.specs.Faults.{HasFault, HasNoFault, HasNoNode, Overlaps, IsOrphan, IsNoMove, IsBadSwap, IsNoEvent, IsVerdict, rank}
-use Rattle.fw_faults.specs.Judged.{judged, judged_response, judged_reply, judged_answer, judged_quadlet, judged_at, judged_word, not_allowed, watched_offset, unmoved, found_after}
-use Rattle.fw_faults.specs.declared.fault.AuditFault.{AuditFault}
-use Rattle.fw_faults.specs.declared.fault.AuditFault.TheVariants.{NoNode, Overlap, Orphan, NotAllowed, WrongWord, NoMove, NoEvent}
-use Rattle.fw_faults.proofs.Responses.{IsJudged, all_judged, offset_found}
-use Rattle.fw_faults.proofs.Verdicts.{first_verdict, no_fault}
+use Rattle.fw_model_audit.specs.Looked.{Response, Looked, Asks, Replies, Shows, Happens, Other, looked, looked_packet, IsAnswer, ShowsWords}
+use Rattle.fw_model_audit.specs.Faults.{HasFault, HasNoFault, HasNoNode, Overlaps, IsOrphan, IsNoMove, IsBadSwap, IsNoEvent, IsVerdict, rank}
+use Rattle.fw_model_audit.specs.Judged.{judged, judged_response, judged_reply, judged_answer, judged_quadlet, judged_at, judged_word, not_allowed, watched_offset, unmoved, found_after}
+use Rattle.fw_model_audit.specs.declared.fault.AuditFault.{AuditFault}
+use Rattle.fw_model_audit.specs.declared.fault.AuditFault.TheVariants.{NoNode, Overlap, Orphan, NotAllowed, WrongWord, NoMove, NoEvent}
+use Rattle.fw_model_audit.proofs.Responses.{IsJudged, all_judged, offset_found}
+use Rattle.fw_model_audit.proofs.Verdicts.{first_verdict, no_fault}
 use Rattle.fw_audit.specs.Found.{StandsAfter}
 
 pub clash : {A : Type 0} (v : A) → None ≡ Some v → ⊥
@@ -58,13 +58,15 @@ not_zero n k e z = go (n == 0) refl
 -- an answer that is not complete shows nothing
 pub incomplete_judged : (l : Account) (r : Response) (a : Answer) → IsAnswered l r a → (a.rcode ≡ 0 → ⊥) → None ≡ judged l (Replies r)
 incomplete_judged l r a is other =
-    sym (answer_judged l r is.request is.answer ∙ ap (λ b. cond b (judged_answer l r.requester is.request.target is.request.address is.request.operation r.word) None) (not_zero r.rcode a.rcode is.rcode other))
+    sym (answer_judged l r is.request is.answer ∙ ap (λ b. cond b (judged_answer l r.requester is.request.target is.request.address is.request.operation r.word) None)
+    (not_zero r.rcode a.rcode is.rcode other))
 
 -- a complete one
 complete_judged : (l : Account) (r : Response) (a : Answer) → (is : IsAnswered l r a) → a.rcode ≡ 0
     → judged l (Replies r) ≡ judged_answer l r.requester is.request.target is.request.address is.request.operation r.word
 complete_judged l r a is done =
-    answer_judged l r is.request is.answer ∙ ap (λ b. cond b (judged_answer l r.requester is.request.target is.request.address is.request.operation r.word) None) (zero r.rcode a.rcode (sym is.rcode) done)
+    answer_judged l r is.request is.answer ∙ ap (λ b. cond b (judged_answer l r.requester is.request.target is.request.address is.request.operation r.word) None)
+    (zero r.rcode a.rcode (sym is.rcode) done)
 
 -- of a read or of a swap
 quadlet_same : (l : Account) (r : Response) (a : Answer) → (is : IsAnswered l r a) → (o : Option AuditFault) (address : ℕ)
@@ -126,7 +128,8 @@ goes_after new l e goes = go (next_account l e) refl goes
 -- the verdict is the one on what is looked at
 pub goes_verdict : (l : Account) (e : Entry) (o : Option AuditFault) (m : Account) → IsSound l → next_account l e ≡ Some m → o ≡ judged l (looked e) → IsVerdict l (looked e) o
 goes_verdict l e o m s next is =
-    subst (IsVerdict l (looked e)) (sym (is ∙ sym (ap (λ n. found_after (judged l (looked e)) n (unmoved l (looked e))) next ∙ found_on (judged l (looked e)) m (unmoved l (looked e))))) (first_verdict l e s)
+    subst (IsVerdict l (looked e)) (sym (is ∙ sym (ap (λ n. found_after (judged l (looked e)) n (unmoved l (looked e))) next ∙ found_on (judged l (looked e)) m (unmoved l (looked e)))))
+    (first_verdict l e s)
 
 pub shown_verdict : (l : Account) (s : ShownEntry) (o : Option AuditFault) → IsSound l → o ≡ judged l (Shows s) → IsVerdict l (Shows s) o
 shown_verdict l s o sound is = goes_verdict l (Shown s) o l sound refl is
@@ -167,7 +170,8 @@ packet_words l p h = go p h
     go (LockReply h rcode function bytes) n = replies _ (h.tl == label_code Procedure) n
 
 -- an entry that is no answer and no shown word has no fault
-pub no_answer_verdict : (l : Account) (e : Entry) (new : Tables) → IsSound l → GoesOn new (next_account l e) → ShowsAnswer l (looked e) None → ((s : ShownEntry) → e ≡ Shown s → ⊥) → HasNoFault l (looked e)
+pub no_answer_verdict : (l : Account) (e : Entry) (new : Tables) → IsSound l → GoesOn new (next_account l e) → ShowsAnswer l (looked e) None → ((s : ShownEntry) → e ≡ Shown s → ⊥)
+    → HasNoFault l (looked e)
 no_answer_verdict l e new s goes shows other = let y = goes_after new l e goes in (no_fault l e s).1 ((y.0, y.1), words e other shows)
   where
     words : (x : Entry) → ((k : ShownEntry) → x ≡ Shown k → ⊥) → ShowsAnswer l (looked x) None → ShowsWords l (looked x)

@@ -1,18 +1,18 @@
 -- What an audit has found of the entries that it took.
-use Rattle.fw_entry.specs.declared.entry.Entry.{Entry}
-use Rattle.fw_entry.specs.declared.entry.Entry.TheVariants.{Reset}
-use Rattle.fw_entry.specs.declared.entry.ResetEntry.{ResetEntry}
+use Rattle.fw_log_entry.specs.declared.entry.Entry.{Entry}
+use Rattle.fw_log_entry.specs.declared.entry.Entry.TheVariants.{Reset}
+use Rattle.fw_log_entry.specs.declared.entry.ResetEntry.{ResetEntry}
 use Rattle.std.specs.Prelude.{◌≡◌, Option, Some, None, List, Result, Ok, Err}
-use Rattle.fw_account.specs.Account.{Account}
-use Rattle.fw_account.specs.Fold.{next_account, account_of}
+use Rattle.fw_model_account.specs.Account.{Account}
+use Rattle.fw_model_account.specs.Fold.{next_account, account_of}
 use Rattle.fw_ledger.specs.Refused.{ShowsAnswer}
 use Rattle.fw_ledger.specs.Stands.{StandsFor}
 use Rattle.fw_ledger.specs.declared.answer.Answer.{Answer}
 use Rattle.fw_ledger.specs.declared.tables.Tables.{Tables}
-use Rattle.fw_faults.specs.Looked.{looked}
-use Rattle.fw_faults.specs.Faults.{HasNoFault, IsVerdict}
-use Rattle.fw_faults.specs.Audited.{IsAudited, EndsFaulty}
-use Rattle.fw_faults.specs.declared.fault.AuditFault.{AuditFault}
+use Rattle.fw_model_audit.specs.Looked.{looked}
+use Rattle.fw_model_audit.specs.Faults.{HasNoFault, IsVerdict}
+use Rattle.fw_model_audit.specs.Audited.{IsAudited, EndsFaulty}
+use Rattle.fw_model_audit.specs.declared.fault.AuditFault.{AuditFault}
 use Rattle.fw_audit.specs.declared.audit.Audit.{Audit}
 
 -- the tables stand for the account with one entry more

@@ -1,16 +1,16 @@
 //! The one test that is an audit's own: the word that an answer shows is the one that is due.
 
 ghost use Rattle.std.specs.Prelude.{◌≡◌};
-ghost use Rattle.fw_account.specs.Account.{Account};
+ghost use Rattle.fw_model_account.specs.Account.{Account};
 ghost use Rattle.fw_ledger.specs.Refused.{IsAnswered};
-ghost use Rattle.fw_faults.specs.Looked.{Response, Replies};
-ghost use Rattle.fw_faults.specs.Judged.{judged};
+ghost use Rattle.fw_model_audit.specs.Looked.{Response, Replies};
+ghost use Rattle.fw_model_audit.specs.Judged.{judged};
 
 use crate::words::{judge_quadlet, not_allowed};
-use fw_faults::AuditFault;
 use fw_ledger::{Answer, Asked};
+use fw_model_audit::AuditFault;
 
-/// The fault of an answer that ends a request, where it is complete and at a watched offset: it shows no quadlet, or is to a
+/// The fault of an answer that ends a request, if it is complete and at a watched offset: it shows no quadlet, or is to a
 /// lock that is no quadlet swap, or no register of the account stands there, or the quadlet is not the word that is due.
 pub(crate) fn judge_answer(answer: &Answer) -> Option<AuditFault>
     ensures { (l : Account) (r : Response) → IsAnswered l r answer.now → result ≡ judged l (Replies r) }

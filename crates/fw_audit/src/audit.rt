@@ -1,24 +1,25 @@
 ghost use Rattle.std.specs.Prelude.{◌≡◌, ◌++◌, ◌∷◌, [], List, Option, Some, None, IfOk, IfErr, IsOkAnd, IsTrue, IsFalse};
 ghost use Rattle.fw_async.specs.Reader.{IsPacket, Spells};
 ghost use Rattle.fw_async.specs.declared.packet.Packet.{Packet as AsyncPacket};
-ghost use Rattle.fw_entry.specs.declared.entry.Entry.{Entry as LogEntry};
-ghost use Rattle.fw_entry.specs.declared.entry.Entry.TheVariants.{Async, Shown};
-ghost use Rattle.fw_entry.specs.declared.entry.ShownEntry.{ShownEntry};
-ghost use Rattle.fw_entry.specs.Log.{Fits};
-ghost use Rattle.fw_account.specs.Account.{Account};
+ghost use Rattle.fw_log_entry.specs.declared.entry.Entry.{Entry as LogEntry};
+ghost use Rattle.fw_log_entry.specs.declared.entry.Entry.TheVariants.{Async, Reset, Shown};
+ghost use Rattle.fw_log_entry.specs.declared.entry.ResetEntry.{ResetEntry as AReset};
+ghost use Rattle.fw_log_entry.specs.declared.entry.ShownEntry.{ShownEntry};
+ghost use Rattle.fw_log_entry.specs.Log.{Fits, ResetFits};
+ghost use Rattle.fw_model_account.specs.Account.{Account};
 ghost use Rattle.fw_ledger.specs.Stands.{StandsFor};
-ghost use Rattle.fw_faults.specs.Looked.{looked};
-ghost use Rattle.fw_faults.specs.Faults.{IsVerdict};
-ghost use Rattle.fw_faults.specs.declared.fault.AuditFault.{AuditFault as Fault};
+ghost use Rattle.fw_model_audit.specs.Looked.{looked};
+ghost use Rattle.fw_model_audit.specs.Faults.{IsVerdict};
+ghost use Rattle.fw_model_audit.specs.declared.fault.AuditFault.{AuditFault as Fault};
 ghost use Rattle.fw_audit.specs.Found.{Found, StandsAfter, Judges};
 
 use crate::answers::judge_answer;
 use crate::refusals::fault_of;
 use crate::shown::judge_shown;
 use crate::sound::take_packet;
-use fw_entry::{Entry, Timed};
-use fw_faults::AuditFault;
 use fw_ledger::{Answer, Ledger};
+use fw_log_entry::{Entry, NodeRow, Timed};
+use fw_model_audit::AuditFault;
 use std::alloc::{AllocError, Global};
 
 /// What was found of the entries that were taken so far.
@@ -84,8 +85,8 @@ impl Audit {
         })
     }
 
-    /// Takes the packet that these bytes are where a short look finds that it has no fault, as of nearly all, and answers whether it
-    /// did. Where it did not the audit is unchanged, and `take` says what the packet is. No memory is taken.
+    /// Takes the packet that these bytes are if a short look finds that it has no fault, as of nearly all, and answers whether it
+    /// did. If it did not the audit is unchanged, and `take` says what the packet is. No memory is taken.
     #[inline(always)]
     pub fn pass_packet(&mut self, bytes: &[u8]) -> bool
         requires packet { IsPacket bytes.now }
@@ -102,7 +103,22 @@ impl Audit {
         }
     }
 
-    /// Takes an entry, and answers the first fault that it has, over the account of the entries before: None exactly where it
+    /// Takes the bus reset that has these nodes and this resource manager if no device has more output plugs than before it, and answers
+    /// whether it did: a reset has no fault. If it did not the audit is unchanged, and `take` takes the entry. No memory is taken.
+    pub fn pass_reset(&mut self, manager: Option<u8>, nodes: &[NodeRow]) -> bool
+        requires fits { (r : AReset) × ResetFits r × (r.manager ≡ manager) × (r.nodes ≡ nodes.now) }
+        ensures fresh { self.new.fault ≡ self.old.fault }
+        ensures found { IsTrue result → (entries : List LogEntry) (r : AReset) → ResetFits r → r.manager ≡ manager → r.nodes ≡ nodes.now → Found entries self.old None
+            → Found (entries ++ Reset r ∷ []) self.new None }
+        ensures kept { IsFalse result → self.new ≡ self.old }
+    {
+        if self.fault.is_some() {
+            return false;
+        }
+        self.ledger.take_bus(manager, nodes)
+    }
+
+    /// Takes an entry, and answers the first fault that it has, over the account of the entries before: None exactly if it
     /// has none. After a fault it answers that fault at each call. After want of memory, of which it takes none, it is unchanged.
     pub fn take(&mut self, t: &Timed) -> Result<Option<AuditFault>, AllocError>
         requires fits { Fits t.now.what }

@@ -11,7 +11,7 @@ mod watch;
 mod words;
 
 pub use audit::{Audit, take_entry};
-pub use fw_faults::AuditFault;
+pub use fw_model_audit::AuditFault;
 pub use passing::{has_other_label, is_passed_over, is_passed_packet};
 pub use sound::take_packet;
 pub use watch::{is_watched, watched_offset};

@@ -3,15 +3,15 @@
 ghost use Rattle.std.specs.Prelude.{◌≡◌, ◌++◌, ◌∷◌, [], List, None, IsTrue, IsFalse};
 ghost use Rattle.fw_async.specs.Reader.{IsPacket, Spells};
 ghost use Rattle.fw_async.specs.declared.packet.Packet.{Packet as AsyncPacket};
-ghost use Rattle.fw_entry.specs.declared.entry.Entry.{Entry as LogEntry};
-ghost use Rattle.fw_entry.specs.declared.entry.Entry.TheVariants.{Async};
-ghost use Rattle.fw_faults.specs.Looked.{Other, looked, looked_packet};
+ghost use Rattle.fw_log_entry.specs.declared.entry.Entry.{Entry as LogEntry};
+ghost use Rattle.fw_log_entry.specs.declared.entry.Entry.TheVariants.{Async};
+ghost use Rattle.fw_model_audit.specs.Looked.{Other, looked, looked_packet};
 ghost use Rattle.fw_audit.specs.declared.audit.Audit.{Audit};
 ghost use Rattle.fw_audit.specs.Found.{Found, IsPassedOver, IsReset};
 
 use fw_async::Packet;
-use fw_base::Label;
-use fw_entry::Entry;
+use fw_log_entry::Entry;
+use fw_terms::Label;
 use fw_words::quadlet_at;
 
 /// Whether the packet is none that an account looks at: by its kind alone, or since its label is not that of procedures. An

@@ -1,16 +1,16 @@
 //! The faults of entries after which there is no account.
 
 ghost use Rattle.std.specs.Prelude.{Some};
-ghost use Rattle.fw_account.specs.Account.{Account};
+ghost use Rattle.fw_model_account.specs.Account.{Account};
 ghost use Rattle.fw_ledger.specs.Refused.{IsDue, IsRefusedFor};
-ghost use Rattle.fw_faults.specs.Looked.{Looked};
-ghost use Rattle.fw_faults.specs.Faults.{IsNoMove, IsVerdict};
+ghost use Rattle.fw_model_audit.specs.Looked.{Looked};
+ghost use Rattle.fw_model_audit.specs.Faults.{IsNoMove, IsVerdict};
 
-use fw_faults::AuditFault;
 use fw_ledger::Refused;
+use fw_model_audit::AuditFault;
 use fw_words::Swap;
 
-// The first fault of a swap that is no move, where this word is due: it shows another, or else it is none.
+// The first fault of a swap that is no move, if this word is due: it shows another, or else it is none.
 fn fault_of_swap(swap: Swap, due: u32) -> AuditFault
     ensures { (l : Account) (x : Looked) → IsNoMove l x swap.argument swap.new → IsDue l x due → IsVerdict l x (Some result) }
 {

@@ -1,17 +1,17 @@
 //! Shown words.
 
 ghost use Rattle.std.specs.Prelude.{◌≡◌};
-ghost use Rattle.fw_account.specs.Account.{Account};
+ghost use Rattle.fw_model_account.specs.Account.{Account};
 ghost use Rattle.fw_ledger.specs.Stands.{StandsFor};
-ghost use Rattle.fw_faults.specs.Looked.{Shows};
-ghost use Rattle.fw_faults.specs.Judged.{judged};
+ghost use Rattle.fw_model_audit.specs.Looked.{Shows};
+ghost use Rattle.fw_model_audit.specs.Judged.{judged};
 
 use crate::watch::is_watched;
 use crate::words::judge_word;
 use fw_csr::REGISTER_SPACE;
-use fw_entry::ShownEntry;
-use fw_faults::AuditFault;
 use fw_ledger::Ledger;
+use fw_log_entry::ShownEntry;
+use fw_model_audit::AuditFault;
 
 /// The fault of a shown word at a watched offset: it is not the word that is due there, or no register of the account stands
 /// there. A device that is no node has the node ID FFFF.

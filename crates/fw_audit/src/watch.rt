@@ -1,8 +1,8 @@
 //! Which registers are watched.
 
 ghost use Rattle.std.specs.Prelude.{◌≡◌, ◌<◌};
-ghost use Rattle.fw_faults.specs.Looked.{is_plug_offset, is_watched};
-ghost use Rattle.fw_faults.specs.Judged.{watched_offset};
+ghost use Rattle.fw_model_audit.specs.Looked.{is_plug_offset, is_watched};
+ghost use Rattle.fw_model_audit.specs.Judged.{watched_offset};
 
 use fw_csr::REGISTER_SPACE;
 use fw_csr::low_offset::{

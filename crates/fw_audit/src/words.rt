@@ -2,12 +2,12 @@
 
 ghost use Rattle.std.specs.Prelude.{◌≡◌, ℕ};
 ghost use Rattle.std.specs.Option.{option_map};
-ghost use Rattle.fw_account.specs.Account.{Account};
-ghost use Rattle.fw_account.specs.Words.{register_of, word_of};
-ghost use Rattle.fw_faults.specs.Judged.{judged_quadlet, judged_word, watched_offset, not_allowed as no_quadlet};
+ghost use Rattle.fw_model_account.specs.Account.{Account};
+ghost use Rattle.fw_model_account.specs.Words.{register_of, word_of};
+ghost use Rattle.fw_model_audit.specs.Judged.{judged_quadlet, judged_word, watched_offset, not_allowed as no_quadlet};
 
 use crate::watch::watched_offset;
-use fw_faults::AuditFault;
+use fw_model_audit::AuditFault;
 
 // A complete answer that shows no quadlet, or is to no quadlet read or swap.
 pub(crate) fn not_allowed(id: u16, address: u64) -> Option<AuditFault>
@@ -17,7 +17,7 @@ pub(crate) fn not_allowed(id: u16, address: u64) -> Option<AuditFault>
     Some(AuditFault::NotAllowed(id, offset))
 }
 
-// The word that was found at a watched offset, where this one is due.
+// The word that was found at a watched offset, if this one is due.
 pub(crate) fn judge_word(id: u16, offset: u16, found: u32, due: Option<u32>) -> Option<AuditFault>
     ensures { result ≡ judged_word id offset found due }
 {
@@ -33,7 +33,7 @@ pub(crate) fn judge_word(id: u16, offset: u16, found: u32, due: Option<u32>) -> 
     }
 }
 
-// A complete answer that shows this of an address, where this word is due.
+// A complete answer that shows this of an address, if this word is due.
 pub(crate) fn judge_quadlet(
     id: u16,
     address: u64,

@@ -20,7 +20,8 @@ use Rattle.fw_avc.proofs.TapeLaws.{to_tape, with_tape, is_to_tape}
 abbrev pub tape_row : Frame → Option TapeRow
 tape_row f = row_of (TapeRows.rows_of f.code) f.opcode f.operands
 
-pub found_as : (f : Frame) (o : Option TapeRow) (operands : List ℕ) (b : Bool) → b ≡ is_some o → o ≡ row_of (TapeRows.rows_of f.code) f.opcode operands → operands ≡ f.operands → b ≡ is_some (tape_row f)
+pub found_as : (f : Frame) (o : Option TapeRow) (operands : List ℕ) (b : Bool) → b ≡ is_some o → o ≡ row_of (TapeRows.rows_of f.code) f.opcode operands → operands ≡ f.operands
+    → b ≡ is_some (tape_row f)
 found_as f o operands b is row same = is ∙ ap is_some (row ∙ ap (λ l. row_of (TapeRows.rows_of f.code) f.opcode l) same)
 
 -- what is answered and left, as the rules say
@@ -61,7 +62,8 @@ unpowered u from f r kind id most power is_row same =
 
 -- one that is no row is not implemented
 pub unknown : (u : UnitState) (from : ℕ) (f r : Frame) → f.kind ≡ 4 → f.id ≡ 0 → f.code ≡ 3 → is_some (tape_row f) ≡ false → r ≡ record f { code = 8 } → IsRuled u from f r u
-unknown u from f r kind id notify no_row same = repeated u from f r 8 (subst (λ (g : Frame). ruling u g ≡ Repeat 8) (is_to_tape f 3 kind id notify) (none (row_of TapeRows.notify_rows f.opcode f.operands) row)) same
+unknown u from f r kind id notify no_row same = repeated u from f r 8
+    (subst (λ (g : Frame). ruling u g ≡ Repeat 8) (is_to_tape f 3 kind id notify) (none (row_of TapeRows.notify_rows f.opcode f.operands) row)) same
   where
     row : is_some (row_of TapeRows.notify_rows f.opcode f.operands) ≡ false
     row = subst (λ n. is_some (row_of (TapeRows.rows_of n) f.opcode f.operands) ≡ false) notify no_row
@@ -76,7 +78,8 @@ Shows u t from f r v =
     (r ≡ (if (f.code == 3) && (length u.kept == 4) then record f { code = 0xA } else shows_state f (Transport t)))
     × (v ≡ (if (f.code == 3) && (length u.kept == 4) then u else asked u from f (Transport t)))
 
-notified : (u : UnitState) (from : ℕ) (f r : Frame) (v : UnitState) → is_some (row_of TapeRows.notify_rows f.opcode f.operands) ≡ true → Shows (with_tape true u.tape u) (transport_of u.tape) from (to_tape 3 f) r v
+notified : (u : UnitState) (from : ℕ) (f r : Frame) (v : UnitState) → is_some (row_of TapeRows.notify_rows f.opcode f.operands) ≡ true
+    → Shows (with_tape true u.tape u) (transport_of u.tape) from (to_tape 3 f) r v
     → IsRuled (with_tape true u.tape u) from (to_tape 3 f) r v
 notified u from f r v is_row h = subst Ruled (sym (row ((f.opcode == 0xD0) && fits (TapeRows.only 0x7F) f.operands) is_row)) (shown (length u.kept == 4) h)
   where

@@ -16,7 +16,8 @@ use Rattle.fw_avc.specs.declared.row.UnitRow.TheVariants.{UnitInfo, SubunitInfo,
 use Rattle.fw_avc.specs.declared.notify.Watched.{Watched}
 use Rattle.fw_avc.specs.State.{UnitState}
 use Rattle.fw_avc.specs.Rows as UnitRows
-use Rattle.fw_avc.specs.Replies.{TableRow, OfUnit, OfTape, Ruling, Repeat, CarryOut, IsResponse, found_ruling, row_as, row_state, state_after, unit_after, asked, is_unit, is_tape, needs_tape, is_controlled, is_bare}
+use Rattle.fw_avc.specs.Replies.{TableRow, OfUnit, OfTape, Ruling, Repeat, CarryOut, IsResponse, found_ruling, row_as}
+use Rattle.fw_avc.specs.Replies.{row_state, state_after, unit_after, asked, is_unit, is_tape, needs_tape, is_controlled, is_bare}
 use Rattle.fw_avc.specs.Laws.{is_refusal}
 
 -- ---- a row of the one table or of the other
@@ -80,8 +81,9 @@ row_asked u from f (OfTape TimeCode) other e = let P : Option Cassette → Type 
 row_asked u from f (OfTape Eject) other e = absurd (no_eject f.code f.opcode f.operands other (from_tape (is_unit f) (is_tape f) _ _ Eject e))
 row_asked u from f (OfTape (Enter s)) other e = absurd (no_state f.code f.opcode f.operands s other (from_tape (is_unit f) (is_tape f) _ _ (Enter s) e))
 
--- where each of two rulings leaves a unit that was asked, a choice of them does
-if_asked : (b : Bool) (x y : Ruling) (u : UnitState) (from : ℕ) (f : Frame) → IsAsked u f (state_after u from f x) → IsAsked u f (state_after u from f y) → IsAsked u f (state_after u from f (if b then x else y))
+-- if each of two rulings leaves a unit that was asked, a choice of them does
+if_asked : (b : Bool) (x y : Ruling) (u : UnitState) (from : ℕ) (f : Frame) → IsAsked u f (state_after u from f x) → IsAsked u f (state_after u from f y)
+    → IsAsked u f (state_after u from f (if b then x else y))
 if_asked true x y u from f h g = h
 if_asked false x y u from f h g = g
 

@@ -26,7 +26,7 @@ pub record TellsFirst (u : UnitState) (told : ℕ × Frame) : Type 0 where
   pub frame : told.1 ≡ changed_frame (now_of u kept.value)
   pub rest : (after_notice u).kept ≡ before ++ others
 
--- there is no notice exactly where no state has changed
+-- there is no notice exactly if no state has changed
 abbrev pub Tells : UnitState → Option (ℕ × Frame) → Type 0
 Tells u None = AllSame u u.kept × (after_notice u ≡ u)
 Tells u (Some told) = TellsFirst u told

@@ -8,7 +8,7 @@ use Rattle.fw_avc.specs.declared.notify.Kept.{Kept}
 use Rattle.fw_avc.specs.State.{UnitState, now_of}
 use Rattle.fw_avc.specs.Watched.{codes_of}
 
--- values differ where a response shows them differently
+-- values differ if a response shows them differently
 abbrev pub same_value : Watched → Watched → Bool
 same_value v w = ((codes_of v).0 == (codes_of w).0) && ((codes_of v).1 == (codes_of w).1)
 

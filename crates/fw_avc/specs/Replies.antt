@@ -103,7 +103,7 @@ Makes V [] [] = Unit {0}
 Makes V (b ∷ bs) (c ∷ cs) = V company b c × Makes V bs cs
 Makes V _ _ = ⊥
 
--- the response to a row of the vendor: behind the company, what the vendor makes of each byte
+-- the response to a row of the vendor: after the company, what the vendor makes of each byte
 pub record IsVendorResponse (V : VendorRelation) (f r : Frame) : Type 0 where
   pub bytes : List ℕ
   pub made : Makes V (drop 3 f.operands) bytes

@@ -1,4 +1,4 @@
--- What a vendor makes of bytes, behind bytes that are there.
+-- What a vendor makes of bytes, after bytes that are there.
 use Rattle.std.specs.Prelude.{◌≡◌, ℕ, List, ◌++◌}
 use Rattle.fw_tape.specs.Desks.{VendorRelation}
 use Rattle.fw_avc.specs.Replies.{Makes}

@@ -133,7 +133,7 @@ impl Unit {
         }
     }
 
-    /// The response that shows a state. A NOTIFY request is kept, with the value that it is told; where four are kept, it is
+    /// The response that shows a state. A NOTIFY request is kept, with the value that it is told; if four are kept, it is
     /// rejected.
     fn show(&mut self, from: u8, f: &Frame, value: Watched, out: &mut Frame)
         requires { 1 ≤ length f.now.operands }

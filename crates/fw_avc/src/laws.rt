@@ -12,7 +12,7 @@ pub fn frames_change_what_they_command()
 {}
 
 /// A notice is of the first kept request whose state has changed, shows the state as it is now, and goes to the node that
-/// asked; the request is then no longer kept. There is none exactly where no state has changed.
+/// asked; the request is then no longer kept. There is none exactly if no state has changed.
 pub fn notices_tell_the_first_change()
     ensures { (u : UnitState) → Tells u (notice_of u) }
 {}

@@ -10,7 +10,7 @@ use fw_tape::Transport;
 /// A state that a controller may ask to be told of, with its value.
 #[derive(Clone, Copy, PartialEq, Eq)]
 pub enum Watched {
-    /// The unit's power, on where true.
+    /// The unit's power, on if true.
     Power(bool),
     /// The state of the transport.
     Transport(Transport),

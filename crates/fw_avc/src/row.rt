@@ -14,7 +14,7 @@ pub enum UnitRow {
     SubunitInfo,
     /// PLUG INFO of the serial bus.
     PlugInfo,
-    /// POWER on, where true, or off.
+    /// POWER on, if true, or off.
     SetPower(bool),
     /// POWER, as a state.
     PowerState,

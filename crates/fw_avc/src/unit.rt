@@ -77,7 +77,7 @@ impl Unit {
     }
 
     /// The number of the node whose request is told next, with the frame for it in `out`: the first kept request whose state
-    /// has changed, which is then no longer kept. None exactly where no kept value has changed; then `out` stays as it was.
+    /// has changed, which is then no longer kept. None exactly if no kept value has changed; then `out` stays as it was.
     pub fn notice(&mut self, out: &mut Frame) -> Option<u8>
         ensures notice { option_map (λ node. (node, out.new)) result ≡ notice_of self.old }
         ensures unit { self.new ≡ after_notice self.old }

@@ -7,7 +7,7 @@ use crate::company;
 use fw_fcp::{ACCEPTED, Frame, Operands};
 use fw_tape::Desk;
 
-/// The response to VENDOR DEPENDENT of the unit's company: behind the company, what the vendor makes of each byte.
+/// The response to VENDOR DEPENDENT of the unit's company: after the company, what the vendor makes of each byte.
 pub(crate) fn vendor_dependent<F: Fn(u16, u32, u16) -> [u8; 480], H: Fn(u32, u8) -> u8>(
     f: &Frame,
     desk: &Desk<F, H>,

@@ -2,14 +2,14 @@
 use Rattle.std.proofs.Common.{◌≡◌, refl, sym, subst, ℕ, List, ◌∷◌, [], arith}
 use Rattle.std.specs.Prelude.{Ok, Err, IsErr}
 use Rattle.std.specs.declared.result.Result.{Result}
-use Rattle.fw_run.specs.Actions.{Action}
-use Rattle.fw_run.specs.Carrying.{times}
-use Rattle.fw_run.specs.Desks.{DeskRelations}
-use Rattle.fw_machine.specs.Faults.{CountsFaults}
-use Rattle.fw_machine.specs.Giving.{Sides}
-use Rattle.fw_machine.specs.declared.machine.Machine.{Machine}
-use Rattle.fw_carry.specs.Framing.{PerformedWithDesk}
-use Rattle.fw_carry.specs.Performing.{Task, Performed, Performs}
+use Rattle.fw_model_run.specs.Actions.{Action}
+use Rattle.fw_model_run.specs.Carrying.{times}
+use Rattle.fw_model_run.specs.Desks.{DeskRelations}
+use Rattle.fw_bus_state.specs.Faults.{CountsFaults}
+use Rattle.fw_bus_state.specs.Giving.{Sides}
+use Rattle.fw_bus_state.specs.declared.machine.Machine.{Machine}
+use Rattle.fw_bus_engine.specs.Framing.{PerformedWithDesk}
+use Rattle.fw_bus_engine.specs.Performing.{Task, Performed, Performs}
 
 faults_ok : {T E U F : Type 0} {k l : ℕ} {u : T} {v : U} → CountsFaults {T = T} {E = E} k l (Ok u) → CountsFaults {T = U} {E = F} k l (Ok v)
 faults_ok f = record { cause = record { later = f.cause.later; failed = tt }; same = f.same }

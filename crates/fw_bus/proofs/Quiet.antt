@@ -2,28 +2,31 @@
 use Rattle.std.proofs.Common.{◌≡◌, ◌≢◌, ◌⊎◌, inl, inr, ℕ, zero, suc, ◌+◌, ◌==◌, ◌&&◌, List, [], ◌∷◌, ◌++◌, Bool, true, false, cond, Option, Some, None, refl, ap, sym, subst, ◌∙◌}
 use Rattle.std.specs.Prelude.{⊤}
 use Rattle.std.proofs.lemmas.Bool.{cases_eq}
-use Rattle.fw_base.specs.Tables.{update}
-use Rattle.fw_base.specs.declared.plug.PlugAt.{PlugAt}
-use Rattle.fw_entry.specs.declared.entry.ResetEntry.{ResetEntry}
-use Rattle.fw_entry.specs.declared.entry.Timed.{Timed}
+use Rattle.fw_terms.specs.Tables.{update}
+use Rattle.fw_terms.specs.declared.plug.PlugAt.{PlugAt}
+use Rattle.fw_log_entry.specs.declared.entry.ResetEntry.{ResetEntry}
+use Rattle.fw_log_entry.specs.declared.entry.Timed.{Timed}
 use Rattle.fw_fcp.specs.declared.frame.Frame.{Frame}
-use Rattle.fw_command.specs.declared.command.Command.{Command}
-use Rattle.fw_run.specs.declared.order.Order.{Order}
-use Rattle.fw_run.specs.Recording.{heard_in}
-use Rattle.fw_run.specs.Actions.{Action, HalfStep, Rest, Unsettled, Pass, EndSecond, SendCommand, SendFrame, Receive, InsertTape, EjectTape, StartCycle, SendPacket, Step, Steps, Contend, KeepBlock}
-use Rattle.fw_run.specs.Carrying.{times, half_steps_of, next_cycle, SendsPackets, HasCycle, HasCycles, Rounds, none, round, rest, SendsAll, quiet, sends, Carries, withholds, withholds_already, declares, joins, resets, connects, breaks, steps, settled, unsettled, waits, waits_over, writes_cycles, dies, dies_late, dies_idle, starts, goes_on, transacts, shows, commanded, inserts, ejects, ejects_nothing, ends, loses, becomes_candidate, stays_candidate, contends, dubs}
+use Rattle.fw_script_command.specs.declared.command.Command.{Command}
+use Rattle.fw_order.specs.declared.order.Order.{Order}
+use Rattle.fw_model_run.specs.Recording.{heard_in}
+use Rattle.fw_model_run.specs.Actions.{Action, HalfStep, Rest, Unsettled, Pass, EndSecond, SendCommand, SendFrame, Receive}
+use Rattle.fw_model_run.specs.Actions.{InsertTape, EjectTape, StartCycle, SendPacket, Step, Steps, Contend, KeepBlock}
+use Rattle.fw_model_run.specs.Carrying.{times, half_steps_of, next_cycle, SendsPackets, HasCycle, HasCycles, Rounds, none, round, rest, SendsAll, quiet, sends, Carries, withholds}
+use Rattle.fw_model_run.specs.Carrying.{withholds_already, declares, joins, resets, connects, breaks, steps, settled, unsettled, waits, waits_over, writes_cycles, dies, dies_late, dies_idle}
+use Rattle.fw_model_run.specs.Carrying.{starts, goes_on, transacts, shows, commanded, inserts, ejects, ejects_nothing, ends, loses, becomes_candidate, stays_candidate, contends, dubs}
 use Rattle.std.proofs.lemmas.Option.{same_Some}
-use Rattle.fw_run.specs.Decks.{DeckState, FrameWrite, Obeyed, after_frame, next_frame}
-use Rattle.fw_run.specs.Frames.{decks_after, command_write}
-use Rattle.fw_run.specs.Runs.{Run, begun, and_then}
-use Rattle.fw_run.specs.State.{State, has_deck, living}
-use Rattle.fw_run.specs.Streams.{talkers}
-use Rattle.fw_run.proofs.Turns.{update_new, update_others}
-use Rattle.fw_carry.specs.Framing.{IsQuiet}
-use Rattle.fw_machine.specs.declared.machine.Machine.{Machine}
-use Rattle.fw_machine.specs.Stands.{StandsFor}
-use Rattle.fw_run.proofs.Alterations.{Allows, Alteration, AtUnits, IsAtUnits, altered}
-use Rattle.fw_run.proofs.Effects.{Effect, altering, effect, resetting}
+use Rattle.fw_model_run.specs.Decks.{DeckState, FrameWrite, Obeyed, after_frame, next_frame}
+use Rattle.fw_model_run.specs.Frames.{decks_after, command_write}
+use Rattle.fw_model_run.specs.Runs.{Run, begun, and_then}
+use Rattle.fw_model_run.specs.State.{State, has_deck, living}
+use Rattle.fw_model_run.specs.Streams.{talkers}
+use Rattle.fw_model_run.proofs.Turns.{update_new, update_others}
+use Rattle.fw_bus_engine.specs.Framing.{IsQuiet}
+use Rattle.fw_bus_state.specs.declared.machine.Machine.{Machine}
+use Rattle.fw_bus_state.specs.Stands.{StandsFor}
+use Rattle.fw_model_run.proofs.Alterations.{Allows, Alteration, AtUnits, IsAtUnits, altered}
+use Rattle.fw_model_run.proofs.Effects.{Effect, altering, effect, resetting}
 
 -- no response waits
 abbrev pub AreQuiet : State → Type 0
@@ -132,7 +135,7 @@ all_quiet b s xs out t q (sends m more first last f g) = all_quiet b m more last
 but_all : (b : ℕ) (s : State) → AreQuiet s → AreQuietBut b s
 but_all b s q = ((λ d ne. q d), λ off. q b)
 
--- a command leaves a response at its device alone, and only where that has a unit
+-- a command leaves a response at its device alone, and only if that has a unit
 but_received : (s m : State) (a b : ℕ) (bytes : List ℕ) (o : Option Obeyed) (first : List Timed) → AreQuiet s → Steps s (SendCommand a b bytes ∷ Receive o ∷ []) first m → AreQuietBut b m
 but_received s m a b bytes o first q f = go o f.5
   where
@@ -202,7 +205,8 @@ carries_quiet s o xs out t q (goes_on e) = q
 carries_quiet s o xs out t q (transacts f) = steps_quiet s xs out t (tt, (tt, tt)) q f
 carries_quiet s o xs out t q (shows f) = steps_quiet s xs out t (tt, tt) q f
 carries_quiet s o xs out t q (commanded {a = a} {b = b} {bytes = bytes} x m more first last f g) = all_quiet b m more last t (but_received s m a b bytes x first q f) g
-carries_quiet s o xs out t q (inserts {d = d} {tape = tape} {system = system} m more first last f g) = all_quiet d m more last t (but_all d m (steps_quiet s (InsertTape d tape system ∷ []) first m (tt, tt) q f)) g
+carries_quiet s o xs out t q (inserts {d = d} {tape = tape} {system = system} m more first last f g) =
+    all_quiet d m more last t (but_all d m (steps_quiet s (InsertTape d tape system ∷ []) first m (tt, tt) q f)) g
 carries_quiet s o xs out t q (ejects {d = d} m more first last f g) = all_quiet d m more last t (but_all d m (steps_quiet s (EjectTape d ∷ []) first m (tt, tt) q f)) g
 carries_quiet s o xs out t q (ejects_nothing e) = q
 carries_quiet s o xs out t q (becomes_candidate f) = steps_quiet s xs out t (tt, tt) q f

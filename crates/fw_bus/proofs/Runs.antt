@@ -1,33 +1,33 @@
 -- What a call of the bus did, over the runs for whose states it stands.
 use Rattle.std.proofs.Common.{ℕ, Bool, List, [], ◌∷◌, ◌++◌, Option, sym, subst, append-nil, IsTrue, IsFalse}
 use Rattle.std.specs.Prelude.{Ok, Err}
-use Rattle.fw_entry.specs.declared.entry.Timed.{Timed}
-use Rattle.fw_command.specs.declared.command.Command.{Command}
-use Rattle.fw_run.specs.declared.order.Order.{Order}
-use Rattle.fw_run.specs.State.{State, first_state}
-use Rattle.fw_run.specs.Actions.{Action}
-use Rattle.fw_run.specs.Carrying.{Carries}
-use Rattle.fw_run.specs.Desks.{DeskRelations}
-use Rattle.fw_run.specs.Runs.{Run, and_then}
-use Rattle.fw_run.specs.Good.{IsGood}
-use Rattle.fw_run.proofs.Avoids.{withholds}
-use Rattle.fw_run.proofs.ComesBack.{comes_back}
-use Rattle.fw_run.proofs.Elected.{elects_one}
-use Rattle.fw_run.proofs.Kept.{first_numbers}
-use Rattle.fw_run.proofs.Recovery.{recovers}
-use Rattle.fw_run.proofs.Runs.{run_steps, steps_then}
-use Rattle.fw_run.proofs.Sounds.{sound_throughout}
-use Rattle.fw_run.proofs.Logs.{cut_opens, run_spells}
-use Rattle.fw_run.proofs.Settling.{enough}
-use Rattle.fw_run.proofs.Steps.{steps_good}
-use Rattle.fw_run.proofs.Times.{first_good}
-use Rattle.fw_machine.specs.declared.machine.Machine.{Machine}
-use Rattle.fw_machine.specs.Giving.{between}
-use Rattle.fw_machine.specs.Stands.{IsReady, StandsFor}
-use Rattle.fw_carry.specs.Framing.{PerformedWithDesk, IsQuiet}
-use Rattle.fw_rules.specs.Decisions.{Decided}
+use Rattle.fw_log_entry.specs.declared.entry.Timed.{Timed}
+use Rattle.fw_script_command.specs.declared.command.Command.{Command}
+use Rattle.fw_order.specs.declared.order.Order.{Order}
+use Rattle.fw_model_run.specs.State.{State, first_state}
+use Rattle.fw_model_run.specs.Actions.{Action}
+use Rattle.fw_model_run.specs.Carrying.{Carries}
+use Rattle.fw_model_run.specs.Desks.{DeskRelations}
+use Rattle.fw_model_run.specs.Runs.{Run, and_then}
+use Rattle.fw_model_run.specs.Good.{IsGood}
+use Rattle.fw_model_run.proofs.Avoids.{withholds}
+use Rattle.fw_model_run.proofs.ComesBack.{comes_back}
+use Rattle.fw_model_run.proofs.Elected.{elects_one}
+use Rattle.fw_model_run.proofs.Kept.{first_numbers}
+use Rattle.fw_model_run.proofs.Recovery.{recovers}
+use Rattle.fw_model_run.proofs.Runs.{run_steps, steps_then}
+use Rattle.fw_model_run.proofs.Sounds.{sound_throughout}
+use Rattle.fw_model_run.proofs.Logs.{cut_opens, run_spells}
+use Rattle.fw_model_run.proofs.Settling.{enough}
+use Rattle.fw_model_run.proofs.Steps.{steps_good}
+use Rattle.fw_model_run.proofs.Times.{first_good}
+use Rattle.fw_bus_state.specs.declared.machine.Machine.{Machine}
+use Rattle.fw_bus_state.specs.Giving.{between}
+use Rattle.fw_bus_state.specs.Stands.{IsReady, StandsFor}
+use Rattle.fw_bus_engine.specs.Framing.{PerformedWithDesk, IsQuiet}
+use Rattle.fw_bus_rules.specs.Decisions.{Decided}
 use Rattle.fw_bus.specs.Buses.{IsReached, ContinuesRun, CutsRunOff}
-use Rattle.fw_carry.proofs.Doings.{steps_numbers}
+use Rattle.fw_bus_engine.proofs.Doings.{steps_numbers}
 use Rattle.fw_bus.proofs.Quiet.{run_quiet, quiet_of}
 
 -- the state of a run is good, so a machine that stands for one is ready

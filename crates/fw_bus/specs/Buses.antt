@@ -2,40 +2,40 @@
 use Rattle.std.specs.Prelude.{ℕ, ◌≡◌, ◌+◌, ◌*◌, ◌≤◌, List, [], ◌∷◌, ◌++◌, Bool, Option, Some, None, Ok, Err, IsTrue, IsFalse, ⊤}
 use Rattle.std.specs.declared.result.Result.{Result}
 use Rattle.fw_outside.specs.Outside.{Grows}
-use Rattle.fw_entry.specs.declared.entry.Timed.{Timed}
+use Rattle.fw_log_entry.specs.declared.entry.Timed.{Timed}
 use Rattle.fw_node.specs.State.{NodeState, HasSpace}
-use Rattle.fw_entry.specs.Log.{header_bytes, LogOpens, LogSpells}
-use Rattle.fw_entry.specs.declared.version.Version.TheVariants.{Two}
-use Rattle.fw_command.specs.declared.command.Command.{Command}
-use Rattle.fw_command.specs.declared.command.Command.TheVariants.{End}
-use Rattle.fw_machine.specs.declared.machine.Machine.{Machine}
+use Rattle.fw_log_entry.specs.Log.{header_bytes, LogOpens, LogSpells}
+use Rattle.fw_log_entry.specs.declared.version.Version.TheVariants.{Two}
+use Rattle.fw_script_command.specs.declared.command.Command.{Command}
+use Rattle.fw_script_command.specs.declared.command.Command.TheVariants.{End}
+use Rattle.fw_bus_state.specs.declared.machine.Machine.{Machine}
 use Rattle.fw_cmp.specs.Controllers.{is_restoring, slot_at}
-use Rattle.fw_run.specs.declared.order.Order.{Order}
-use Rattle.fw_run.specs.declared.order.Order.TheVariants.{Settle}
+use Rattle.fw_order.specs.declared.order.Order.{Order}
+use Rattle.fw_order.specs.declared.order.Order.TheVariants.{Settle}
 use Rattle.fw_bus.specs.declared.BusFault.{BusFault}
 use Rattle.fw_bus.specs.declared.BusFault.TheVariants.{Refused, WriteFault}
-use Rattle.fw_run.specs.Giving.{log_bytes}
-use Rattle.fw_run.specs.State.{State, number_in, epoch_of}
-use Rattle.fw_run.specs.Spaces.{space_at}
-use Rattle.fw_run.specs.Rules.{Decides}
-use Rattle.fw_run.specs.Actions.{Action}
-use Rattle.fw_run.specs.Carrying.{Carries}
-use Rattle.fw_run.specs.Desks.{DeskRelations}
-use Rattle.fw_run.specs.Given.{AreGiven}
-use Rattle.fw_run.specs.Runs.{Run}
-use Rattle.fw_machine.specs.Lingering.{TalksAs}
-use Rattle.fw_machine.specs.Reels.{PlugsHear}
--- (what a crate above a bus names of fw_machine, fw_rules and fw_carry it has from here)
-pub use Rattle.fw_machine.specs.Stands.{StandsFor}
-pub use Rattle.fw_rules.specs.Decisions.{IsCommand}
-pub use Rattle.fw_carry.specs.Performing.{CutOff}
-use Rattle.fw_run.specs.Headline.{IsSoundThroughout}
-use Rattle.fw_run.specs.Elected.{ElectsOne}
-use Rattle.fw_run.specs.Reclaiming.{ComesBack}
-use Rattle.fw_run.specs.Recovery.{RecoversThroughout}
-use Rattle.fw_run.specs.Withheld.{WithholdsThroughout}
-use Rattle.fw_run.specs.Settling.{BeginsSecond, to_restore}
-use Rattle.fw_run.specs.Logs.{HasNoEnd}
+use Rattle.fw_model_run.specs.Giving.{log_bytes}
+use Rattle.fw_model_run.specs.State.{State, number_in, epoch_of}
+use Rattle.fw_model_run.specs.Spaces.{space_at}
+use Rattle.fw_model_run.specs.Rules.{Decides}
+use Rattle.fw_model_run.specs.Actions.{Action}
+use Rattle.fw_model_run.specs.Carrying.{Carries}
+use Rattle.fw_model_run.specs.Desks.{DeskRelations}
+use Rattle.fw_model_run.specs.Given.{AreGiven}
+use Rattle.fw_model_run.specs.Runs.{Run}
+use Rattle.fw_bus_state.specs.Lingering.{TalksAs}
+use Rattle.fw_bus_state.specs.Reels.{PlugsHear}
+-- (what a crate above a bus names of fw_bus_state, fw_bus_rules and fw_bus_engine it has from here)
+pub use Rattle.fw_bus_state.specs.Stands.{StandsFor}
+pub use Rattle.fw_bus_rules.specs.Decisions.{IsCommand}
+pub use Rattle.fw_bus_engine.specs.Performing.{CutOff}
+use Rattle.fw_model_run.specs.Headline.{IsSoundThroughout}
+use Rattle.fw_model_run.specs.Elected.{ElectsOne}
+use Rattle.fw_model_run.specs.Reclaiming.{ComesBack}
+use Rattle.fw_model_run.specs.Recovery.{RecoversThroughout}
+use Rattle.fw_model_run.specs.Withheld.{WithholdsThroughout}
+use Rattle.fw_model_run.specs.Settling.{BeginsSecond, to_restore}
+use Rattle.fw_model_run.specs.Logs.{HasNoEnd}
 
 -- what a caller sees of a bus
 pub record Standing : Type 0 where
@@ -52,7 +52,8 @@ pub record IsReached (m : Machine) : Type 0 where
   pub stands : StandsFor m state
 
 -- the run goes on with this command from its state, with what this desk gives, and the bus stands for the state that the command leads to
-pub record ContinuesRun (D : DeskRelations) (commands : List Command) (actions : List Action) (log : List Timed) (s : State) (c : Command) (now : Standing) (held after : Option (List ℕ)) : Type 0 where
+pub record ContinuesRun (D : DeskRelations) (commands : List Command) (actions : List Action) (log : List Timed) (s : State) (c : Command) (now : Standing)
+    (held after : Option (List ℕ)) : Type 0 where
   pub order : Order
   pub decided : Decides s c (Ok order)
   pub more : List Action
@@ -64,7 +65,7 @@ pub record ContinuesRun (D : DeskRelations) (commands : List Command) (actions :
   pub stands : StandsFor now.machine state
   pub grew : Grows held after (log_bytes (epoch_of s.account.latest) out)
   pub sound : IsSoundThroughout (actions ++ more) (log ++ out)
-  -- what was whole before a bus reset is whole again where its second is over
+  -- what was whole before a bus reset is whole again if its second is over
   pub restored : ComesBack (actions ++ more) (log ++ out)
   -- between two bus resets one device at most is elected bus manager, and it is the winner
   pub elected : ElectsOne (actions ++ more) (log ++ out)
@@ -78,7 +79,7 @@ pub record ContinuesRun (D : DeskRelations) (commands : List Command) (actions :
   pub whole : HasNoEnd commands → c ≡ End → LogSpells (log ++ out) Two (header_bytes Two ++ log_bytes 0 (log ++ out))
   pub fresh : IsFalse now.spent
 
--- It was cut off by the sink: the entries given so far, and a front of the next. With what this desk gives the order was carried out so far.
+-- It was cut off by the sink: the entries given so far, and a prefix of the next. With what this desk gives the order was carried out so far.
 pub record CutsRunOff (D : DeskRelations) (commands : List Command) (actions : List Action) (log : List Timed) (s : State) (c : Command) (now : Standing) (held after : Option (List ℕ)) : Type 0 where
   pub order : Order
   pub decided : Decides s c (Ok order)
@@ -98,8 +99,8 @@ Applies D commands actions log s c now held after (Ok _) = ContinuesRun D comman
 Applies D commands actions log s c now held after (Err (Refused fault)) = Decides s c (Err fault)
 Applies D commands actions log s c now held after (Err WriteFault) = CutsRunOff D commands actions log s c now held after
 
--- the node that is lent for a device: one on the bus, with the registers of the account, that talks exactly where the account says so, and
--- hears exactly where the run does
+-- the node that is lent for a device: one on the bus, with the registers of the account, that talks exactly if the account says so, and
+-- hears exactly if the run does
 abbrev pub LendsNodeAt : Option ℕ → State → ℕ → Option NodeState → Type 0
 LendsNodeAt None s d o = o ≡ None
 LendsNodeAt (Some number) s d None = ⊥

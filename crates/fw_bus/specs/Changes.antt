@@ -1,9 +1,9 @@
 -- What a command may have changed of a bus.
 use Rattle.std.specs.Prelude.{ℕ, ◌≡◌, ⊤}
-use Rattle.fw_machine.specs.declared.machine.Machine.{Machine}
--- (what a crate above a bus names of fw_machine and fw_carry it has from here)
-pub use Rattle.fw_machine.specs.Halves.{IsHalfFrom, counted_in}
-pub use Rattle.fw_carry.specs.Leaving.{WhereNothing}
+use Rattle.fw_bus_state.specs.declared.machine.Machine.{Machine}
+-- (what a crate above a bus names of fw_bus_state and fw_bus_engine it has from here)
+pub use Rattle.fw_bus_state.specs.Halves.{IsHalfFrom, counted_in}
+pub use Rattle.fw_bus_engine.specs.Leaving.{WhereNothing}
 use Rattle.fw_bus.specs.declared.change.Changed.{Changed}
 use Rattle.fw_bus.specs.declared.change.Changed.TheVariants.{Half, Any}
 

@@ -4,15 +4,15 @@ ghost use Rattle.fw_outside.specs.Outside.{Rose};
 
 use crate::BusFault;
 use fw_async::Wire;
-use fw_carry::carry_out;
-use fw_command::Command;
+use fw_bus_engine::carry_out;
+use fw_bus_places::Places;
+use fw_bus_rules::decide;
+use fw_bus_state::{Machine, Room};
 use fw_dub::Reel;
-use fw_machine::{Machine, Room};
 use fw_node::Node;
+use fw_order::{Order, RuleFault};
 use fw_outside::{Failed, Sink};
-use fw_places::Places;
-use fw_rules::decide;
-use fw_run::{Order, RuleFault};
+use fw_script_command::Command;
 use fw_tape::Desk;
 use std::alloc::{AllocError, Global};
 use std::marker::Model;
@@ -37,18 +37,18 @@ impl Model for Bus {
 }
 
 impl Bus {
-    ghost use Rattle.fw_entry.specs.declared.entry.Timed.{Timed as TimedEntry};
-    ghost use Rattle.fw_command.specs.declared.command.Command.{Command as Line};
-    ghost use Rattle.fw_run.specs.State.{State, first_state};
-    ghost use Rattle.fw_run.specs.Actions.{Action};
-    ghost use Rattle.fw_run.specs.Rules.{Decides};
-    ghost use Rattle.fw_run.specs.Runs.{Run};
+    ghost use Rattle.fw_log_entry.specs.declared.entry.Timed.{Timed as TimedEntry};
+    ghost use Rattle.fw_script_command.specs.declared.command.Command.{Command as Line};
+    ghost use Rattle.fw_model_run.specs.State.{State, first_state};
+    ghost use Rattle.fw_model_run.specs.Actions.{Action};
+    ghost use Rattle.fw_model_run.specs.Rules.{Decides};
+    ghost use Rattle.fw_model_run.specs.Runs.{Run};
     ghost use Rattle.fw_tape.specs.Desks.{AnyBlock, AnyVendorByte};
-    ghost use Rattle.fw_rules.specs.Decisions.{IsCommand};
-    ghost use Rattle.fw_machine.specs.Stands.{StandsFor};
-    ghost use Rattle.fw_machine.specs.Wires.{HasWire};
-    ghost use Rattle.fw_machine.specs.declared.machine.Machine.{Machine as MachineRecord};
-    ghost use Rattle.fw_places.specs.Places.{IsPlace};
+    ghost use Rattle.fw_bus_rules.specs.Decisions.{IsCommand};
+    ghost use Rattle.fw_bus_state.specs.Stands.{StandsFor};
+    ghost use Rattle.fw_bus_state.specs.Wires.{HasWire};
+    ghost use Rattle.fw_bus_state.specs.declared.machine.Machine.{Machine as MachineRecord};
+    ghost use Rattle.fw_bus_places.specs.Places.{IsPlace};
     ghost use Rattle.fw_bus.specs.Buses.{Applies, IsReached, LendsNode, WhereRefused, WhereFailed};
     ghost use Rattle.fw_bus.specs.Changes.{counted_in};
 
@@ -71,8 +71,8 @@ impl Bus {
         self.spent
     }
 
-    /// The node of a device, by number in order of declaration: None exactly where it is not on the bus. Its registers have the words of
-    /// the run, and its output plugs talk, and its input plugs hear, exactly where those of the run do.
+    /// The node of a device, by number in order of declaration: None exactly if it is not on the bus. Its registers have the words of
+    /// the run, and its output plugs talk, and its input plugs hear, exactly if those of the run do.
     pub fn node(&self, device: u8) -> Option<&Node>
         requires spent { IsFalse self.now.spent }
         ensures lent { (commands : List Line) (actions : List Action) (log : List TimedEntry) (s : State) → Run commands actions log s → StandsFor self.now.machine s
@@ -81,7 +81,7 @@ impl Bus {
         self.machine.devices.node(device)
     }
 
-    /// What lies on the bus: for each node a pair with its number exactly where a request of its controller stands, with the bytes of
+    /// What lies on the bus: for each node a pair with its number exactly if a request of its controller stands, with the bytes of
     /// that request.
     pub fn wire(&self) -> &Wire
         requires spent { IsFalse self.now.spent }
@@ -158,8 +158,8 @@ impl Bus {
     }
 
     /// Carries out a command, and writes what happens; the blocks of tapes, and what a vendor makes of a byte, come from the desk. `Refused` comes exactly
-    /// where a rule holds of the command, with the first; then nothing is changed or written. Where the sink fails, it holds the
-    /// entries given so far and a front of the next, its count of faults rose, and the bus is spent.
+    /// if a rule holds of the command, with the first; then nothing is changed or written. If the sink fails, it holds the
+    /// entries given so far and a prefix of the next, its count of faults rose, and the bus is spent.
     pub fn apply<K: Sink, F: Fn(u16, u32, u16) -> [u8; 480], H: Fn(u32, u8) -> u8>(
         &mut self,
         c: &Command,

@@ -1,25 +1,25 @@
 //! A command, and what it may have changed.
 
 ghost use Rattle.std.specs.Prelude.{◌≡◌, ◌<◌, [], ◌∷◌, IfOk, IfSome, IsTrue};
-ghost use Rattle.fw_run.specs.declared.limits.TheConstants.{MOST_HALF_STEPS};
-ghost use Rattle.fw_run.specs.Actions.{HalfStep};
-ghost use Rattle.fw_run.specs.Carrying.{Carries};
+ghost use Rattle.fw_order.specs.declared.limits.TheConstants.{MOST_HALF_STEPS};
+ghost use Rattle.fw_model_run.specs.Actions.{HalfStep};
+ghost use Rattle.fw_model_run.specs.Carrying.{Carries};
 ghost use Rattle.fw_tape.specs.Desks.{AnyBlock, AnyVendorByte};
-ghost use Rattle.fw_machine.specs.Giving.{sides_of};
-ghost use Rattle.fw_machine.specs.Orders.{MayCarry};
-ghost use Rattle.fw_machine.specs.Stands.{IsReady, is_living_in};
-ghost use Rattle.fw_carry.specs.Framing.{IsQuiet, PerformedWithDesk};
-ghost use Rattle.fw_carry.specs.Leaving.{WhereNothing};
-ghost use Rattle.fw_carry.specs.Performing.{Performs, Performed};
+ghost use Rattle.fw_bus_state.specs.Giving.{sides_of};
+ghost use Rattle.fw_bus_state.specs.Orders.{MayCarry};
+ghost use Rattle.fw_bus_state.specs.Stands.{IsReady, is_living_in};
+ghost use Rattle.fw_bus_engine.specs.Framing.{IsQuiet, PerformedWithDesk};
+ghost use Rattle.fw_bus_engine.specs.Leaving.{WhereNothing};
+ghost use Rattle.fw_bus_engine.specs.Performing.{Performs, Performed};
 ghost use Rattle.fw_bus.specs.Changes.{IsChanged, WhereHalf, counted_in};
 
 use crate::{Bus, BusFault};
-use fw_carry::{carry_out, half_step};
-use fw_command::Command;
-use fw_machine::{Machine, Room};
+use fw_bus_engine::{carry_out, half_step};
+use fw_bus_rules::decide;
+use fw_bus_state::{Machine, Room};
+use fw_order::Order;
 use fw_outside::{Failed, Sink};
-use fw_rules::decide;
-use fw_run::Order;
+use fw_script_command::Command;
 use fw_tape::Desk;
 
 /// What a command may have changed of a bus.
@@ -99,13 +99,13 @@ fn carry_out_told<K: Sink, F: Fn(u16, u32, u16) -> [u8; 480], H: Fn(u32, u8) -> 
 impl Bus {
     ghost use Rattle.std.specs.Prelude.{◌≤◌, List, IfErr, OnOk, IsFalse};
     ghost use Rattle.fw_outside.specs.Outside.{Rose};
-    ghost use Rattle.fw_entry.specs.declared.entry.Timed.{Timed as TimedEntry};
-    ghost use Rattle.fw_command.specs.declared.command.Command.{Command as Line};
-    ghost use Rattle.fw_run.specs.State.{State};
-    ghost use Rattle.fw_run.specs.Actions.{Action};
-    ghost use Rattle.fw_run.specs.Runs.{Run};
-    ghost use Rattle.fw_rules.specs.Decisions.{IsCommand};
-    ghost use Rattle.fw_machine.specs.Stands.{StandsFor};
+    ghost use Rattle.fw_log_entry.specs.declared.entry.Timed.{Timed as TimedEntry};
+    ghost use Rattle.fw_script_command.specs.declared.command.Command.{Command as Line};
+    ghost use Rattle.fw_model_run.specs.State.{State};
+    ghost use Rattle.fw_model_run.specs.Actions.{Action};
+    ghost use Rattle.fw_model_run.specs.Runs.{Run};
+    ghost use Rattle.fw_bus_rules.specs.Decisions.{IsCommand};
+    ghost use Rattle.fw_bus_state.specs.Stands.{StandsFor};
     ghost use Rattle.fw_bus.specs.Buses.{Applies, WhereRefused, WhereFailed};
 
     /// Carries out a command, as `apply`, and says what it may have changed.

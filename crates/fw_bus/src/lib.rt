@@ -9,7 +9,7 @@ mod change;
 
 pub use bus::Bus;
 pub use change::Changed;
-pub use fw_run::{Order, RuleFault};
+pub use fw_order::{Order, RuleFault};
 
 /// Why a command was not carried out to its end.
 #[derive(Clone, Copy)]

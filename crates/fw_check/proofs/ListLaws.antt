@@ -1,6 +1,6 @@
 -- What is left of a list.
 use Rattle.std.proofs.Common.{◌≡◌, ℕ, zero, suc, ◌+◌, ◌≤◌, ◌<◌, List, [], ◌∷◌, ◌++◌, length, drop, map, get_or, refl, ap, sym, ◌∙◌, arith, append_assoc, add-one, drop-cons}
-use Rattle.fw_command.specs.Form.{behind_first}
+use Rattle.fw_script_command.specs.Form.{behind_first}
 
 -- nothing is left after all
 pub none_left : {A : Type 0} (xs : List A) (i : ℕ) → length xs ≤ i → drop i xs ≡ []

@@ -2,10 +2,10 @@
 use Rattle.std.proofs.Common.{◌≡◌, ℕ, zero, suc, ◌+◌, ◌<◌, ◌&&◌, List, [], ◌∷◌, length, slice_index_or, Bool, true, false, cond, Option, Some, None, refl, ap, subst, arith}
 use Rattle.std.proofs.lemmas.Bool.{and_parts}
 use Rattle.std.proofs.lemmas.Option.{same_Some}
-use Rattle.fw_command.proofs.TableLaws.{one_table}
-use Rattle.fw_command.specs.Types.{are_fitting, fits, may_lack, types_of}
-use Rattle.fw_command.specs.declared.word_type.WordType.{WordType}
-use Rattle.fw_command.specs.declared.word_type.WordType.TheVariants.{Name}
+use Rattle.fw_script_command.proofs.TableLaws.{one_table}
+use Rattle.fw_script_command.specs.Types.{are_fitting, fits, may_lack, types_of}
+use Rattle.fw_script_command.specs.declared.word_type.WordType.{WordType}
+use Rattle.fw_script_command.specs.declared.word_type.WordType.TheVariants.{Name}
 use Rattle.fw_check.specs.Laws.{EarlierFit, IsRefusedAt, NoneIsACommand, ToldIsRefused, number_of}
 use Rattle.fw_check.specs.Misfits.{HasNumber, first_misfit, misfit_at, or_misfit}
 use Rattle.fw_check.specs.declared.misfit.Misfit.{Misfit}

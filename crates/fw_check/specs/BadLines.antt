@@ -1,11 +1,11 @@
 -- Why a line is no command.
 use Rattle.std.specs.Prelude.{ℕ, List, [], ◌∷◌, ◌++◌, codes, decimal, Option, Some, None, if◌then◌else◌}
-use Rattle.fw_command.specs.Form.{behind_first}
-use Rattle.fw_command.specs.Keyword.{keyword_in}
-use Rattle.fw_command.specs.Pieces.{pieces}
-use Rattle.fw_command.specs.Types.{types_of}
-use Rattle.fw_command.specs.declared.keyword.Keyword.{Keyword}
-use Rattle.fw_command.specs.declared.keyword.Keyword.TheVariants.{Command}
+use Rattle.fw_script_command.specs.Form.{behind_first}
+use Rattle.fw_script_command.specs.Keyword.{keyword_in}
+use Rattle.fw_script_command.specs.Pieces.{pieces}
+use Rattle.fw_script_command.specs.Types.{types_of}
+use Rattle.fw_script_command.specs.declared.keyword.Keyword.{Keyword}
+use Rattle.fw_script_command.specs.declared.keyword.Keyword.TheVariants.{Command}
 use Rattle.fw_check.specs.Forms.{expected, form_line, command_lines}
 use Rattle.fw_check.specs.Misfits.{first_misfit}
 use Rattle.fw_check.specs.Shown.{named_word, word_at}

@@ -1,11 +1,11 @@
 -- The forms of lines as text, and what each type of word is.
 use Rattle.std.specs.Prelude.{ℕ, List, [], ◌∷◌, ◌++◌, flat_map, codes, decimal}
-use Rattle.fw_command.specs.Types.{range_of, types_of, word_of}
-use Rattle.fw_command.specs.declared.keyword.Keyword.{Keyword}
-use Rattle.fw_command.specs.declared.word_type.WordType.{WordType}
-use Rattle.fw_command.specs.declared.word_type.WordType.TheVariants.{Name, Shown, Kind, Speed, System, End, Plug, Channel, Offset, Quadlet, Frame, Late, Number}
-use Rattle.fw_command.specs.declared.word_type.NumberType.{NumberType}
-use Rattle.fw_command.specs.declared.word_type.NumberType.TheVariants.{Ports, Overhead, Slot, Count, WrittenCycles, Rounds, Cycles, Tape}
+use Rattle.fw_script_command.specs.Types.{range_of, types_of, word_of}
+use Rattle.fw_script_command.specs.declared.keyword.Keyword.{Keyword}
+use Rattle.fw_script_command.specs.declared.word_type.WordType.{WordType}
+use Rattle.fw_script_command.specs.declared.word_type.WordType.TheVariants.{Name, Shown, Kind, Speed, System, End, Plug, Channel, Offset, Quadlet, Frame, Late, Number}
+use Rattle.fw_script_command.specs.declared.word_type.NumberType.{NumberType}
+use Rattle.fw_script_command.specs.declared.word_type.NumberType.TheVariants.{Ports, Overhead, Slot, Count, WrittenCycles, Rounds, Cycles, Tape}
 
 -- the name of a number in a form
 abbrev pub number_name : NumberType → List ℕ

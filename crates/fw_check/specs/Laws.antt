@@ -1,11 +1,11 @@
 -- The word that is told of a line is the first that its form refuses.
 use Rattle.std.specs.Prelude.{◌≡◌, ◌↔◌, ℕ, ◌+◌, ◌<◌, ◌≤◌, List, [], length, slice_get, slice_index_or, true, false, Some, None}
-use Rattle.fw_command.specs.Form.{HasArguments}
-use Rattle.fw_command.specs.Types.{fits, may_lack, types_of}
-use Rattle.fw_command.specs.declared.command.Command.{Command}
-use Rattle.fw_command.specs.declared.keyword.Keyword.{Keyword}
-use Rattle.fw_command.specs.declared.word_type.WordType.{WordType}
-use Rattle.fw_command.specs.declared.word_type.WordType.TheVariants.{Name}
+use Rattle.fw_script_command.specs.Form.{HasArguments}
+use Rattle.fw_script_command.specs.Types.{fits, may_lack, types_of}
+use Rattle.fw_script_command.specs.declared.command.Command.{Command}
+use Rattle.fw_script_command.specs.declared.keyword.Keyword.{Keyword}
+use Rattle.fw_script_command.specs.declared.word_type.WordType.{WordType}
+use Rattle.fw_script_command.specs.declared.word_type.WordType.TheVariants.{Name}
 use Rattle.fw_check.specs.Misfits.{first_misfit}
 use Rattle.fw_check.specs.declared.misfit.Misfit.{Misfit}
 use Rattle.fw_check.specs.declared.misfit.Misfit.TheVariants.{Missing, Unfit, Extra}
@@ -16,7 +16,7 @@ number_of (Missing number t) = number
 number_of (Unfit number t) = number
 number_of (Extra number) = number
 
--- a form refuses no word exactly where the words are a command of its keyword
+-- a form refuses no word exactly if the words are a command of its keyword
 abbrev pub NoneIsACommand : Type 0
 NoneIsACommand = (k : Keyword) (ws : List (List ℕ)) → (first_misfit 2 (types_of k) ws ≡ None) ↔ ((c : Command) × HasArguments k ws c)
 

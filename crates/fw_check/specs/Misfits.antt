@@ -1,8 +1,8 @@
 -- The first word that a form refuses.
 use Rattle.std.specs.Prelude.{ℕ, ◌+◌, ◌<◌, ⊤, List, [], ◌∷◌, Option, Some, None, if◌then◌else◌}
-use Rattle.fw_command.specs.Form.{behind_first}
-use Rattle.fw_command.specs.Types.{fits, may_lack}
-use Rattle.fw_command.specs.declared.word_type.WordType.{WordType}
+use Rattle.fw_script_command.specs.Form.{behind_first}
+use Rattle.fw_script_command.specs.Types.{fits, may_lack}
+use Rattle.fw_script_command.specs.declared.word_type.WordType.{WordType}
 use Rattle.fw_check.specs.declared.misfit.Misfit.{Misfit}
 use Rattle.fw_check.specs.declared.misfit.Misfit.TheVariants.{Missing, Unfit, Extra}
 

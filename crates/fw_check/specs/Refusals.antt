@@ -1,8 +1,8 @@
 -- What is told of a refused line.
 use Rattle.std.specs.Prelude.{ℕ, List, [], ◌∷◌, ◌++◌, codes, Option, Some, None}
-use Rattle.fw_command.specs.Keyword.{keyword_in}
-use Rattle.fw_command.specs.declared.keyword.Keyword.{Keyword}
-use Rattle.fw_command.specs.declared.keyword.Keyword.TheVariants.{End}
+use Rattle.fw_script_command.specs.Keyword.{keyword_in}
+use Rattle.fw_script_command.specs.declared.keyword.Keyword.{Keyword}
+use Rattle.fw_script_command.specs.declared.keyword.Keyword.TheVariants.{End}
 use Rattle.fw_check.specs.BadLines.{bad_line}
 use Rattle.fw_check.specs.Forms.{form_line}
 use Rattle.fw_check.specs.Shown.{headed, shown, word_at}

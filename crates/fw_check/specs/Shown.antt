@@ -1,6 +1,6 @@
 -- Lines of a script, and their words, as they are shown.
 use Rattle.std.specs.Prelude.{ℕ, ◌-◌, ◌&&◌, nat_le, nat_lt, List, [], ◌∷◌, ◌++◌, length, map, take, slice_index_or, codes, decimal, Bool, if◌then◌else◌}
-use Rattle.fw_command.specs.Pieces.{pieces}
+use Rattle.fw_script_command.specs.Pieces.{pieces}
 
 -- from the space to the tilde
 abbrev pub is_printable : ℕ → Bool

@@ -31,7 +31,7 @@ byte_slip line = option_map (byte_at line) (position (λ b. not (is_printable b)
 abbrev pub is_space : ℕ → Bool
 is_space b = b == 32
 
--- where two spaces stand for the first time, unless nothing but spaces follows
+-- if two spaces stand for the first time, unless nothing but spaces follows
 abbrev pub two_spaces : List ℕ → Option ℕ
 two_spaces [] = None
 two_spaces (b ∷ bs) =

@@ -1,12 +1,12 @@
 -- What is told of a command that breaks a rule of the bus.
 use Rattle.std.specs.Prelude.{ℕ, ◌+◌, ◌-◌, ◌==◌, ◌<◌, IfSome, ◌||◌, nat_lt, List, [], ◌∷◌, ◌++◌, codes, decimal, Bool, true, false, Option, Some, None, if◌then◌else◌}
-use Rattle.fw_base.specs.Devices.{name_of}
+use Rattle.fw_terms.specs.Devices.{name_of}
 use Rattle.fw_csr.specs.declared.low_offset.TheConstants.{BUS_MANAGER_ID, BANDWIDTH_AVAILABLE, CHANNELS_AVAILABLE_HI, CHANNELS_AVAILABLE_LO, IPCR}
 use Rattle.fw_csr.specs.declared.offset.TheConstants.{REGISTER_SPACE}
-use Rattle.fw_registers.specs.Places.{place_of}
-use Rattle.fw_registers.specs.Words.{place_text}
-use Rattle.fw_registers.specs.declared.place.Place.{Place}
-use Rattle.fw_registers.specs.declared.place.Place.TheVariants.{Named, Unnamed}
+use Rattle.fw_log_registers.specs.Places.{place_of}
+use Rattle.fw_log_registers.specs.Words.{place_text}
+use Rattle.fw_log_registers.specs.declared.place.Place.{Place}
+use Rattle.fw_log_registers.specs.declared.place.Place.TheVariants.{Named, Unnamed}
 use Rattle.fw_check.specs.Shown.{named_word, word_at}
 use Rattle.fw_check.specs.declared.why.Why.{Why}
 use Rattle.fw_check.specs.declared.why.Why.TheVariants as Whys

@@ -2,11 +2,11 @@
 use Rattle.std.specs.Prelude.{ℕ, ◌+◌, ◌-◌, ◌==◌, ◌&&◌, ◌||◌, nat_le, nat_eq, min, List, [], length, drop, map, take_while, slice_index, slice_index_or, codes, Bool, true, false, if◌then◌else◌}
 use Rattle.std.specs.List.{list_all, starts_with}
 use Rattle.std.specs.Char.{is_ascii_digit}
-use Rattle.fw_command.specs.Pieces.{pieces}
-use Rattle.fw_command.specs.Words.{is_taken}
-use Rattle.fw_command.specs.Types.{fits}
-use Rattle.fw_command.specs.declared.word_type.WordType.{WordType}
-use Rattle.fw_command.specs.declared.word_type.WordType.TheVariants.{Name, Shown, End, Plug, Offset, Quadlet, Frame}
+use Rattle.fw_script_command.specs.Pieces.{pieces}
+use Rattle.fw_script_command.specs.Words.{is_taken}
+use Rattle.fw_script_command.specs.Types.{fits}
+use Rattle.fw_script_command.specs.declared.word_type.WordType.{WordType}
+use Rattle.fw_script_command.specs.declared.word_type.WordType.TheVariants.{Name, Shown, End, Plug, Offset, Quadlet, Frame}
 
 -- the small letter for a capital
 abbrev pub lower : ℕ → ℕ

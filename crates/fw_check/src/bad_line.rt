@@ -1,11 +1,11 @@
 //! Why a line is no command.
 
 ghost use Rattle.std.specs.Prelude.{◌≡◌, ◌<◌, ◌++◌, [], None, OnOk};
-ghost use Rattle.fw_command.specs.Form.{behind_first};
-ghost use Rattle.fw_command.specs.Pieces.{pieces};
-ghost use Rattle.fw_command.specs.Types.{types_of};
+ghost use Rattle.fw_script_command.specs.Form.{behind_first};
+ghost use Rattle.fw_script_command.specs.Pieces.{pieces};
+ghost use Rattle.fw_script_command.specs.Types.{types_of};
 ghost use Rattle.fw_check.specs.BadLines.{bad_line, form_refusal, misfit_text, surplus, words_refusal};
-ghost use Rattle.fw_command.specs.Keyword.{keyword_in};
+ghost use Rattle.fw_script_command.specs.Keyword.{keyword_in};
 ghost use Rattle.fw_check.specs.Misfits.{HasNumber, first_misfit};
 ghost use Rattle.fw_check.specs.Shown.{word_at};
 
@@ -14,8 +14,8 @@ use crate::misfit::{Misfit, first_misfit};
 use crate::shown::{put_named_word, put_numbered, word_at};
 use crate::slip::{begins_with_byte, put_slip, slip_of};
 use crate::word_slip::{lowered, word_slip};
-use fw_command::{Keyword, Pieces, WordType, keyword_of};
-use fw_names::put_word;
+use fw_log_names::put_word;
+use fw_script_command::{Keyword, Pieces, WordType, keyword_of};
 use std::alloc::{AllocError, Global};
 
 // What a word too many may be.

@@ -1,11 +1,11 @@
 //! The forms of lines as text, and what each type of word is.
 
 ghost use Rattle.std.specs.Prelude.{◌≡◌, ◌++◌, OnOk, flat_map};
-ghost use Rattle.fw_command.specs.Types.{types_of};
+ghost use Rattle.fw_script_command.specs.Types.{types_of};
 ghost use Rattle.fw_check.specs.Forms.{command_lines, expected, form_line, form_text, form_word, number_name, type_name, type_words};
 
-use fw_command::{Keyword, NumberType, WordType};
-use fw_names::{put_number, put_word};
+use fw_log_names::{put_number, put_word};
+use fw_script_command::{Keyword, NumberType, WordType};
 use std::alloc::AllocError;
 
 fn number_name(number: NumberType) -> &'static str

@@ -3,7 +3,7 @@
 ghost use Rattle.std.specs.Prelude.{◌≡◌, ◌++◌, OnOk};
 ghost use Rattle.fw_check.specs.Goods.{counted, good_text};
 
-use fw_names::{put_number, put_word};
+use fw_log_names::{put_number, put_word};
 use std::alloc::AllocError;
 
 /// What a script has.

@@ -4,7 +4,7 @@ ghost use Rattle.std.specs.Prelude.{◌≡◌, ◌++◌, OnOk};
 ghost use Rattle.fw_check.specs.Whys.{limit_most, limit_noun, limit_text};
 
 use crate::why::LimitOf;
-use fw_names::{put_number, put_word};
+use fw_log_names::{put_number, put_word};
 use std::alloc::AllocError;
 
 fn noun(limit: LimitOf) -> &'static str

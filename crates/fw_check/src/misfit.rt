@@ -1,10 +1,10 @@
 //! The first word that a form refuses.
 
 ghost use Rattle.std.specs.Prelude.{◌≡◌, ◌≤◌, length};
-ghost use Rattle.fw_command.specs.Form.{behind_first};
+ghost use Rattle.fw_script_command.specs.Form.{behind_first};
 ghost use Rattle.fw_check.specs.Misfits.{first_misfit, misfit_at, surplus_at};
 
-use fw_command::{Pieces, WordType};
+use fw_script_command::{Pieces, WordType};
 
 /// The first word that a form refuses, by its number from 1 in the line.
 #[derive(Clone, Copy)]

@@ -5,13 +5,13 @@ ghost use Rattle.fw_check.specs.Whys.{candidate_text, guarded_text, no_controlle
 
 use crate::shown::{put, put_numbered};
 use crate::why::{NoController, NoNode, SlotState};
-use fw_command::Name;
 use fw_csr::REGISTER_SPACE;
 use fw_csr::low_offset::{
     BANDWIDTH_AVAILABLE, BUS_MANAGER_ID, CHANNELS_AVAILABLE_HI, CHANNELS_AVAILABLE_LO, IPCR,
 };
-use fw_names::{Pairs, put_number, put_word};
-use fw_registers::{Place, put_place};
+use fw_log_names::{Pairs, put_number, put_word};
+use fw_log_registers::{Place, put_place};
+use fw_script_command::Name;
 use std::alloc::AllocError;
 
 /// Appends a name.

@@ -1,7 +1,7 @@
 //! What is told of a refused line.
 
 ghost use Rattle.std.specs.Prelude.{◌≡◌, ◌++◌, OnOk};
-ghost use Rattle.fw_command.specs.Keyword.{keyword_in};
+ghost use Rattle.fw_script_command.specs.Keyword.{keyword_in};
 ghost use Rattle.fw_check.specs.Refusals.{bad_line_text, form_of_line, long_line_text, no_end_text, rule_text};
 ghost use Rattle.fw_check.specs.Shown.{word_at};
 ghost use Rattle.fw_check.specs.Whys.{HasToldWord};
@@ -11,8 +11,8 @@ use crate::forms::put_form;
 use crate::rule_text::{put_why, rule_name};
 use crate::shown::{put_head, put_line_number, word_at};
 use crate::why::Why;
-use fw_command::{Keyword, keyword_of};
-use fw_names::put_word;
+use fw_log_names::put_word;
+use fw_script_command::{Keyword, keyword_of};
 use std::alloc::{AllocError, Global};
 
 /// Appends that no line is `end`; the number is that of the line after the last. An error says that memory ran out, and comes for nothing else;

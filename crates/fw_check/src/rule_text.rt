@@ -2,7 +2,7 @@
 
 ghost use Rattle.std.specs.Prelude.{◌≡◌, ◌++◌, codes, OnOk};
 ghost use Rattle.fw_check.specs.Whys.{HasToldWord, controller_says, device_says, register_says, rule_name, told_word, why_text};
-ghost use Rattle.fw_base.specs.Devices.{name_of};
+ghost use Rattle.fw_terms.specs.Devices.{name_of};
 
 use crate::limit_text::put_limit;
 use crate::reasons::{
@@ -11,9 +11,9 @@ use crate::reasons::{
 };
 use crate::shown::{put, put_named_word, word_at};
 use crate::why::Why;
-use fw_base::DeviceKind;
-use fw_command::Name;
-use fw_names::{put_number, put_word};
+use fw_log_names::{put_number, put_word};
+use fw_script_command::Name;
+use fw_terms::DeviceKind;
 use std::alloc::AllocError;
 
 /// The name of the rule.

@@ -3,8 +3,8 @@
 ghost use Rattle.std.specs.Prelude.{◌≡◌, ◌<◌, ◌+◌, ◌++◌, length, map, take, codes, decimal, OnOk};
 ghost use Rattle.fw_check.specs.Shown.{headed, is_printable, named_word, quoted, shown, shown_byte, word_at};
 
-use fw_command::Pieces;
-use fw_names::{put_number, put_word};
+use fw_log_names::{put_number, put_word};
+use fw_script_command::Pieces;
 use std::alloc::AllocError;
 
 /// How many bytes of a line are shown.

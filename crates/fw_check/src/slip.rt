@@ -6,7 +6,7 @@ ghost use Rattle.fw_check.specs.Shown.{is_printable};
 ghost use Rattle.fw_check.specs.Slips.{begins_with_byte, byte_at, byte_slip, byte_text, end_slip, ends_with_byte, is_space, mark_slip, slip_of, slip_text, space_slip, two_spaces, upper_digit};
 
 use crate::shown::{is_printable, put, put_numbered};
-use fw_names::put_word;
+use fw_log_names::put_word;
 use std::alloc::AllocError;
 
 /// A byte order mark, in UTF-8.
@@ -74,7 +74,7 @@ fn are_spaces(bytes: &[u8]) -> bool
     bytes.iter().all(|b| *b == b' ')
 }
 
-// Where two spaces stand for the first time, unless nothing but spaces follows.
+// If two spaces stand for the first time, unless nothing but spaces follows.
 fn two_spaces(line: &[u8]) -> Option<usize>
     ensures value { result ≡ two_spaces line.now }
     ensures there { IfSome result (λ place. place < length line.now) }

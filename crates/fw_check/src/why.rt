@@ -1,7 +1,7 @@
 //! What stands against a command, by the rule of the bus that it breaks.
 
-use fw_base::DeviceKind;
-use fw_command::Name;
+use fw_script_command::Name;
+use fw_terms::DeviceKind;
 
 /// What stands against a command: a variant or two for each rule.
 #[derive(Clone, Copy)]

@@ -3,10 +3,10 @@
 ghost use Rattle.std.specs.Prelude.{◌≡◌, ◌<◌, ◌==◌, ◌&&◌, drop, length, take_while, IfOk};
 ghost use Rattle.std.specs.List.{list_all};
 ghost use Rattle.std.specs.Char.{is_ascii_digit};
-ghost use Rattle.fw_command.specs.Types.{fits};
+ghost use Rattle.fw_script_command.specs.Types.{fits};
 ghost use Rattle.fw_check.specs.WordSlips.{has_name, has_prefix, has_zero, is_hexadecimal, is_reserved, lower, lowered, word_slip, zeros};
 
-use fw_command::{Pieces, WordType, is_taken};
+use fw_script_command::{Pieces, WordType, is_taken};
 use std::alloc::{AllocError, Global};
 
 // The small letter for a capital.

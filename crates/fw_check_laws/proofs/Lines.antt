@@ -1,7 +1,7 @@
 -- What is shown of a line is one line.
 use Rattle.std.proofs.Common.{◌≡◌, ◌≢◌, ℕ, zero, suc, ◌<◌, List, [], ◌∷◌, ◌++◌, length, map, take, Bool, true, false, cond, nat_le, nat_lt, ◌&&◌, codes, refl, ap, sym, ◌∙◌, append_assoc, arith}
 use Rattle.std.proofs.lemmas.Bool.Decides.{nat_tests}
-use Rattle.fw_command.specs.Pieces.{IsFree}
+use Rattle.fw_script_command.specs.Pieces.{IsFree}
 use Rattle.fw_check.specs.Shown.{is_printable, shown, shown_byte}
 
 no_feed : (b : ℕ) (t : Bool) → is_printable b ≡ t → cond t b 63 ≢ 10

@@ -3,15 +3,15 @@ use Rattle.std.proofs.Common.{◌≡◌, ℕ, List, [], ◌∷◌, ◌++◌, Opt
 use Rattle.std.specs.Prelude.{Err}
 use Rattle.fw_outside.specs.Outside.{Grows}
 use Rattle.fw_bus.proofs.Runs.{run_good}
-use Rattle.fw_command.specs.Keyword.{keyword_in}
-use Rattle.fw_command.specs.Pieces.{IsFree}
-use Rattle.fw_command.specs.declared.command.Command.{Command}
-use Rattle.fw_command.specs.declared.keyword.Keyword.TheVariants.{End}
-use Rattle.fw_run.specs.Desks.{DeskRelations}
-use Rattle.fw_run.specs.Good.{IsGood}
-use Rattle.fw_run.specs.Rules.{Decides}
-use Rattle.fw_run.specs.State.{State}
-use Rattle.fw_run.specs.declared.rule.RuleFault.{RuleFault}
+use Rattle.fw_script_command.specs.Keyword.{keyword_in}
+use Rattle.fw_script_command.specs.Pieces.{IsFree}
+use Rattle.fw_script_command.specs.declared.command.Command.{Command}
+use Rattle.fw_script_command.specs.declared.keyword.Keyword.TheVariants.{End}
+use Rattle.fw_model_run.specs.Desks.{DeskRelations}
+use Rattle.fw_model_run.specs.Good.{IsGood}
+use Rattle.fw_model_run.specs.Rules.{Decides}
+use Rattle.fw_model_run.specs.State.{State}
+use Rattle.fw_order.specs.declared.rule.RuleFault.{RuleFault}
 use Rattle.fw_check.specs.BadLines.{bad_line, line_refusal}
 use Rattle.fw_check.specs.Forms.{form_line}
 use Rattle.fw_check.specs.Refusals.{bad_line_text, form_of_line, long_line_text, no_end_text, rule_text}
@@ -19,12 +19,12 @@ use Rattle.fw_check.specs.Shown.{headed, shown, word_at}
 use Rattle.fw_check.specs.Slips.{slip_of}
 use Rattle.fw_check.specs.Whys.{rule_name, why_text}
 use Rattle.fw_check.specs.declared.why.Why.{Why}
-use Rattle.fw_causes.specs.Causes.{cause}
-use Rattle.fw_causes_laws.specs.Told.{HasCause, rule_word}
-use Rattle.fw_simulate.specs.Checks.{Checks, told_of}
-use Rattle.fw_simulate.specs.declared.ending.Refusal.{Refusal}
-use Rattle.fw_simulate.specs.declared.ending.Refusal.TheVariants.{BadLine, LineTooLong, NoEnd, Rule}
-use Rattle.fw_simulate.specs.declared.ending.RunEnding.TheVariants as RunEndings
+use Rattle.fw_check_causes.specs.Causes.{cause}
+use Rattle.fw_check_causes_laws.specs.Told.{HasCause, rule_word}
+use Rattle.fw_script_words.specs.Checks.{Checks, told_of}
+use Rattle.fw_script_words.specs.declared.ending.Refusal.{Refusal}
+use Rattle.fw_script_words.specs.declared.ending.Refusal.TheVariants.{BadLine, LineTooLong, NoEnd, Rule}
+use Rattle.fw_script_words.specs.declared.ending.RunEnding.TheVariants as RunEndings
 use Rattle.fw_check_laws.specs.Named.{CausesAreTold, RefusalsAreNamed, TellsCause, TellsLine, TellsRefused}
 use Rattle.fw_check_laws.proofs.Lines.{four_parts, one_line, onto, shown_free}
 

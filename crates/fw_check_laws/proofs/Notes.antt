@@ -4,14 +4,14 @@ use Rattle.std.specs.Prelude.{String}
 use Rattle.std.specs.declared.alloc.Global.{Global}
 use Rattle.fw_outside.specs.Outside.{Grows}
 use Rattle.fw_outside.specs.declared.stop.Stop.TheVariants.{ReadFault, WriteFault, TooLong, NoMemory}
-use Rattle.fw_run.specs.Desks.{DeskRelations}
-use Rattle.fw_run.specs.declared.rule.RuleFault.TheVariants.{UnknownName}
-use Rattle.fw_simulate.specs.Checks.{Checks}
-use Rattle.fw_simulate.specs.declared.ending.Refused.{Refused as RefusedLine}
-use Rattle.fw_simulate.specs.declared.ending.Refusal.{Refusal}
-use Rattle.fw_simulate.specs.declared.ending.Refusal.TheVariants.{BadLine, LineTooLong, NoEnd, Rule}
-use Rattle.fw_simulate.specs.declared.ending.RunEnding.{RunEnding}
-use Rattle.fw_simulate.specs.declared.ending.RunEnding.TheVariants as RunEndings
+use Rattle.fw_model_run.specs.Desks.{DeskRelations}
+use Rattle.fw_order.specs.declared.rule.RuleFault.TheVariants.{UnknownName}
+use Rattle.fw_script_words.specs.Checks.{Checks}
+use Rattle.fw_script_words.specs.declared.ending.Refused.{Refused as RefusedLine}
+use Rattle.fw_script_words.specs.declared.ending.Refusal.{Refusal}
+use Rattle.fw_script_words.specs.declared.ending.Refusal.TheVariants.{BadLine, LineTooLong, NoEnd, Rule}
+use Rattle.fw_script_words.specs.declared.ending.RunEnding.{RunEnding}
+use Rattle.fw_script_words.specs.declared.ending.RunEnding.TheVariants as RunEndings
 use Rattle.fw_tool.specs.declared.scripts.ScriptWord.TheVariants.{Check}
 use Rattle.fw_tool.specs.Notes.{IsTold, name_of, note_of}
 use Rattle.fw_tool.specs.Runs.{by_run}

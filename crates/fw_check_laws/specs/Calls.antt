@@ -2,8 +2,8 @@
 use Rattle.std.specs.Prelude.{◌≡◌, ℕ, List, [], ◌∷◌, ◌++◌, codes, decimal, String}
 use Rattle.std.specs.declared.alloc.Global.{Global}
 use Rattle.fw_outside.specs.Outside.{Grows}
-use Rattle.fw_run.specs.Desks.{DeskRelations}
-use Rattle.fw_simulate.specs.declared.ending.Refused.{Refused as RefusedLine}
+use Rattle.fw_model_run.specs.Desks.{DeskRelations}
+use Rattle.fw_script_words.specs.declared.ending.Refused.{Refused as RefusedLine}
 use Rattle.fw_tool.specs.declared.scripts.ScriptWord.TheVariants.{Check}
 use Rattle.fw_tool.specs.Serving.{Serves}
 use Rattle.fw_tool.specs.Turns.{SourceTurn, SinkTurn, NotesTurn}

@@ -1,24 +1,24 @@
 -- What is told of a refused line, and what is noted of it: one name for both.
 use Rattle.std.specs.Prelude.{◌≡◌, ℕ, List, [], ◌∷◌, ◌++◌, Option, Some, Err, codes, decimal}
 use Rattle.fw_outside.specs.Outside.{Grows}
-use Rattle.fw_command.specs.Pieces.{IsFree}
-use Rattle.fw_command.specs.declared.command.Command.{Command}
-use Rattle.fw_run.specs.Desks.{DeskRelations}
-use Rattle.fw_run.specs.Good.{IsGood}
-use Rattle.fw_run.specs.Rules.{Decides}
-use Rattle.fw_run.specs.State.{State}
-use Rattle.fw_run.specs.declared.rule.RuleFault.{RuleFault}
+use Rattle.fw_script_command.specs.Pieces.{IsFree}
+use Rattle.fw_script_command.specs.declared.command.Command.{Command}
+use Rattle.fw_model_run.specs.Desks.{DeskRelations}
+use Rattle.fw_model_run.specs.Good.{IsGood}
+use Rattle.fw_model_run.specs.Rules.{Decides}
+use Rattle.fw_model_run.specs.State.{State}
+use Rattle.fw_order.specs.declared.rule.RuleFault.{RuleFault}
 use Rattle.fw_check.specs.Refusals.{rule_text}
 use Rattle.fw_check.specs.Shown.{headed}
 use Rattle.fw_check.specs.Whys.{rule_name}
 use Rattle.fw_check.specs.declared.why.Why.{Why}
-use Rattle.fw_causes.specs.Causes.{cause}
-use Rattle.fw_causes_laws.specs.Told.{rule_word}
-use Rattle.fw_simulate.specs.Checks.{Checks}
-use Rattle.fw_simulate.specs.declared.ending.Refused.{Refused as RefusedLine}
-use Rattle.fw_simulate.specs.declared.ending.Refusal.{Refusal}
-use Rattle.fw_simulate.specs.declared.ending.Refusal.TheVariants.{BadLine, LineTooLong, NoEnd, Rule}
-use Rattle.fw_simulate.specs.declared.ending.RunEnding.TheVariants as RunEndings
+use Rattle.fw_check_causes.specs.Causes.{cause}
+use Rattle.fw_check_causes_laws.specs.Told.{rule_word}
+use Rattle.fw_script_words.specs.Checks.{Checks}
+use Rattle.fw_script_words.specs.declared.ending.Refused.{Refused as RefusedLine}
+use Rattle.fw_script_words.specs.declared.ending.Refusal.{Refusal}
+use Rattle.fw_script_words.specs.declared.ending.Refusal.TheVariants.{BadLine, LineTooLong, NoEnd, Rule}
+use Rattle.fw_script_words.specs.declared.ending.RunEnding.TheVariants as RunEndings
 use Rattle.fw_tool.specs.Notes.{note_of}
 use Rattle.fw_tool.specs.declared.ending.Ending.TheVariants.{Refused}
 
@@ -46,7 +46,7 @@ pub record TellsRefused (held held' : Option (List ℕ)) (r : RefusedLine) : Typ
   pub grew : Grows held held' text
   pub tells : TellsLine r.line (refusal_word r.why) text
 
--- so does `check`, where it ends with a refused line
+-- so does `check`, if it ends with a refused line
 abbrev pub RefusalsAreNamed : DeskRelations → Type 0
 RefusalsAreNamed D = (left left' held held' : Option (List ℕ)) (r : RefusedLine) → Checks D left left' held held' (RunEndings.Refused r) → TellsRefused held held' r
 
@@ -62,7 +62,7 @@ pub record TellsCause (held held' : Option (List ℕ)) (rule : RuleFault) (line 
   pub text : List ℕ
   pub grew : Grows held held' (rule_text line text why)
 
--- so does `check`, where it ends with a line whose command breaks a rule
+-- so does `check`, if it ends with a line whose command breaks a rule
 abbrev pub CausesAreTold : DeskRelations → Type 0
 CausesAreTold D = (left left' held held' : Option (List ℕ)) (rule : RuleFault) (line : ℕ)
     → Checks D left left' held held' (RunEndings.Refused (record { line = line; why = Rule rule })) → TellsCause held held' rule line

@@ -6,7 +6,7 @@ ghost use Rattle.fw_check_laws.specs.Calls.{CallsTellTheirNote};
 ghost use Rattle.fw_check_laws.specs.Named.{CausesAreTold, NotesAreNames, RefusalsAreNamed};
 ghost use Rattle.fw_tool.specs.Turns.{SourceTurn, SinkTurn, NotesTurn};
 
-use fw_causes_laws::broken_rules_have_a_cause;
+use fw_check_causes_laws::broken_rules_have_a_cause;
 use fw_tape::Desk;
 
 /// The note of a refused line has the name of its refusal after the line's number. What `check` tells of that line has the same name in its

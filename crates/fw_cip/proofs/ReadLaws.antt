@@ -25,7 +25,7 @@ reserved_none q first second = two_bits q ∙ grind (arith, nat_tests)
 pub reserved_clear : (bytes : List ℕ) → iso_fault bytes ≡ None → field (quadlet_at bytes 4) 22 23 ≡ 0
 reserved_clear bytes none = clear (quadlet_at bytes 4) (grind (arith, nat_tests))
 
--- What stands behind the headers is a block, where it is anything.
+-- What stands after the headers is a block, if it is anything.
 block_size : (size count : ℕ) → IsTrue (is_size size count) → count ≢ 12 → count ≡ 492
 block_size size count h more = grind (arith, nat_tests)
 

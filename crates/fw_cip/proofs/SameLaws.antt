@@ -40,7 +40,7 @@ iso_of : (p : IsoPacket) → p ≡ iso p.channel p.sy p.cip p.block
 unfolding iso
 iso_of p = refl
 
--- what stands behind the headers
+-- what stands after the headers
 behind : (a b c : ℕ) (rest : List ℕ) → drop 12 (three a b c ++ rest) ≡ rest
 unfolding three
 behind a b c rest = refl

@@ -9,7 +9,7 @@ use Rattle.fw_cip.specs.declared.packet.IsoPacket.{IsoPacket}
 use Rattle.fw_cip.proofs.ReadLaws.{reserved_none}
 use Rattle.fw_cip.specs.Iso.{three, spelling, block_bytes, data_length, header_layout, first_layout, second_layout, Fits, IsBlock, is_cip, is_size, iso_fault}
 
--- the quadlets at the front of bytes
+-- the quadlets at the beginning of bytes
 pub record Heads (bytes : List ℕ) (a b c : ℕ) : Type 0 where
   pub first : quadlet_at bytes 0 ≡ a
   pub second : quadlet_at bytes 4 ≡ b

@@ -27,7 +27,7 @@ pub expected_block : (ps : List IsoPacket) (p : IsoPacket) → is_some p.block �
 expected_block [] p h = rw h refl
 expected_block (q ∷ ps) p h = rw (latest_more (q ∷ ps) p, h) refl
 
--- A packet without a block changes nothing, but where it is the first.
+-- A packet without a block changes nothing, but if it is the first.
 pub expected_empty : (ps : List IsoPacket) (p : IsoPacket) → is_some p.block ≡ false → Some (unwrap_or (expected_of ps) p.cip.dbc) ≡ expected_of (ps ++ p ∷ [])
 expected_empty [] p h = rw h refl
 expected_empty (q ∷ ps) p h = rw (latest_more (q ∷ ps) p, h) refl
@@ -37,14 +37,15 @@ counted : (block : Option (List ℕ)) (p : IsoPacket) (blocks dbc : ℕ) → p.c
 counted None p blocks dbc e h = omega (arith, h)
 counted (Some b) p blocks dbc e h = rw e (omega arith)
 
--- the count goes on behind a packet of a stream
+-- the count goes on after a packet of a stream
 goes_on : (latest : Option IsoPacket) (p : IsoPacket) (blocks dbc : ℕ) → p.cip.dbc ≡ blocks % 256 → dbc_behind ((blocks + count_of p.block) % 256) latest ≡ dbc
     → dbc_behind (blocks % 256) (or_else latest (if is_some p.block then Some p else None)) ≡ dbc
 goes_on (Some q) p blocks dbc e h = h
 goes_on None p blocks dbc e h = counted p.block p blocks dbc e h
 
--- a packet of a stream has the count behind those before it
-next_in : (channel blocks : ℕ) (cycles : List Cycle) (before behind : List IsoPacket) (p : IsoPacket) → stream channel blocks cycles ≡ before ++ p ∷ behind → dbc_behind (blocks % 256) (latest_block before) ≡ p.cip.dbc
+-- a packet of a stream has the count after those before it
+next_in : (channel blocks : ℕ) (cycles : List Cycle) (before behind : List IsoPacket) (p : IsoPacket) → stream channel blocks cycles ≡ before ++ p ∷ behind
+    → dbc_behind (blocks % 256) (latest_block before) ≡ p.cip.dbc
 next_in channel blocks [] [] behind p e = cc
 next_in channel blocks [] (q ∷ qs) behind p e = cc
 next_in channel blocks (c ∷ cs) [] behind p e = let same : packet_after channel blocks c.sid c.fifty c.block ≡ p = cc in ap (λ (x : IsoPacket). x.cip.dbc) same

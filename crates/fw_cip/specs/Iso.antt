@@ -12,12 +12,12 @@ use Rattle.fw_cip.specs.declared.packet.IsoPacket.{IsoPacket}
 abbrev pub bit : Bool → ℕ
 bit b = if b then 1 else 0
 
--- the bytes behind the headers
+-- the bytes after the headers
 abbrev pub block_bytes : Option (List ℕ) → List ℕ
 block_bytes None = []
 block_bytes (Some block) = block
 
--- data_length: the bytes behind the isochronous header
+-- data_length: the bytes after the isochronous header
 abbrev pub data_length : Option (List ℕ) → ℕ
 data_length None = 8
 data_length (Some block) = 488

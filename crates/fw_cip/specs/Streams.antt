@@ -50,7 +50,7 @@ abbrev pub stream : ℕ → ℕ → List Cycle → List IsoPacket
 stream channel blocks [] = []
 stream channel blocks (c ∷ cs) = packet_after channel blocks c.sid c.fifty c.block ∷ stream channel (blocks + count_of c.block) cs
 
--- the second, where there is no first
+-- the second, if there is no first
 abbrev pub or_else : Option IsoPacket → Option IsoPacket → Option IsoPacket
 or_else None other = other
 or_else (Some p) other = Some p
@@ -60,12 +60,12 @@ abbrev pub latest_block : List IsoPacket → Option IsoPacket
 latest_block [] = None
 latest_block (p ∷ ps) = or_else (latest_block ps) (if is_some p.block then Some p else None)
 
--- the count behind a packet's block, or this one where there is no packet
+-- the count after a packet's block, or this one if there is no packet
 abbrev pub dbc_behind : ℕ → Option IsoPacket → ℕ
 dbc_behind first None = first
 dbc_behind first (Some p) = (p.cip.dbc + 1) % 256
 
--- The DBC that is expected after these packets: the one behind the latest block, or the first packet's where none had a block.
+-- The DBC that is expected after these packets: the one after the latest block, or the first packet's if none had a block.
 abbrev pub expected_of : List IsoPacket → Option ℕ
 expected_of [] = None
 expected_of (p ∷ ps) = Some (dbc_behind p.cip.dbc (latest_block (p ∷ ps)))
@@ -75,7 +75,7 @@ abbrev pub kind_of : Option (List ℕ) → Heard
 kind_of None = Empty
 kind_of (Some block) = Block
 
--- What a packet is where this DBC is expected: a gap exactly where its own is another.
+-- What a packet is if this DBC is expected: a gap exactly if its own is another.
 abbrev pub heard : Option ℕ → IsoPacket → Heard
 heard None p = kind_of p.block
 heard (Some expected) p = if p.cip.dbc == expected then kind_of p.block else Gap expected p.cip.dbc

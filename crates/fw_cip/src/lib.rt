@@ -2,7 +2,7 @@
 //!
 //! The isochronous header is data_length 16, tag 2 = 01, channel 6, tcode 4 = A, sy 4 (IEEE 1394-1995, isochronous data
 //! block). Two CIP quadlets follow: 00, SID 6, DBS 8, FN 2, QPC 3, SPH 1, two reserved bits, DBC 8; and 10, FMT 6, FDF 24
-//! (IEC 61883-1, two-quadlet CIP header). Behind them stands a block of 480 bytes, or nothing. The CRCs are left out.
+//! (IEC 61883-1, two-quadlet CIP header). After them stands a block of 480 bytes, or nothing. The CRCs are left out.
 #![tactic(auto)]
 
 mod block;

@@ -45,8 +45,8 @@ impl Listener {
         Listener { expected: None }
     }
 
-    /// Hears a packet. It is a gap exactly where a packet was heard before and its DBC is not the expected one: the one
-    /// behind the latest block, or that of the first packet while none had a block.
+    /// Hears a packet. It is a gap exactly if a packet was heard before and its DBC is not the expected one: the one
+    /// after the latest block, or that of the first packet while none had a block.
     pub fn take(&mut self, p: &IsoPacket) -> Heard
         ensures answer { result ≡ heard self.old p.now }
         ensures expects { (packets : List IsoPacket) → self.old ≡ expected_of packets → self.new ≡ expected_of (packets ++ p.now ∷ []) }

@@ -75,7 +75,7 @@ fn cip_of(first: Quadlet, second: Quadlet) -> CipHeader
     }
 }
 
-// The block, where one is there.
+// The block, if one is there.
 #[inline(always)]
 fn block_of<'a>(b: &'a [u8]) -> Option<Block<'a>>
     requires { IsTrue (is_size (field (quadlet_at b.now 0) 0 15) (length b.now)) }
@@ -107,9 +107,9 @@ fn packet_of<'a>(b: &'a [u8]) -> IsoPacket<'a>
 
 /// The packet that the bytes spell, all of them.
 ///
-/// The first fault that holds is answered: `Short` under twelve bytes, `NotCip` where the tag, the tcode or the beginnings
-/// of the CIP quadlets are not those of a CIP packet, `Reserved` where a reserved bit of the CIP header is 1, and `BadSize`
-/// where data_length is not 8 or 488 or the bytes are not four more.
+/// The first fault that holds is answered: `Short` under twelve bytes, `NotCip` if the tag, the tcode or the beginnings
+/// of the CIP quadlets are not those of a CIP packet, `Reserved` if a reserved bit of the CIP header is 1, and `BadSize`
+/// if data_length is not 8 or 488 or the bytes are not four more.
 #[inline(always)]
 pub fn read_iso<'a>(b: &'a [u8]) -> Result<IsoPacket<'a>, IsoFault>
     ensures fault { result_err result ≡ iso_fault b.now }

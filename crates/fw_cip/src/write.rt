@@ -1,4 +1,4 @@
-//! Isochronous packets as bytes: the quadlets of the headers, and the block behind them.
+//! Isochronous packets as bytes: the quadlets of the headers, and the block after them.
 
 ghost use Rattle.std.specs.Prelude.{ℕ, ◌≡◌, ◌≤◌, ◌+◌, ◌++◌, List, [], length};
 ghost use Rattle.fw_words.specs.Layout.{packed, FitWidths};
@@ -47,7 +47,7 @@ fn second_quadlet(c: CipHeader) -> u32
     with_field(q, 24, c.fdf)
 }
 
-/// The bytes of a packet's headers, behind which its block stands, if it has one. Its numbers fit their fields.
+/// The bytes of a packet's headers, after which its block stands, if it has one. Its numbers fit their fields.
 #[inline(always)]
 #[tactic(auto, unfolding(crate::specs::Iso::three))]
 pub fn heads_of(p: &IsoPacket) -> [u8; 12]
@@ -61,7 +61,7 @@ pub fn heads_of(p: &IsoPacket) -> [u8; 12]
     heads
 }
 
-// What stands behind the headers: the block's bytes, or nothing.
+// What stands after the headers: the block's bytes, or nothing.
 fn block_of<'a>(p: &'a IsoPacket) -> &'a [u8]
     requires { Fits p.now }
     ensures same { result.now ≡ block_bytes p.now.block }

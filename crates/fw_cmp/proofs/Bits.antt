@@ -1,5 +1,6 @@
 -- A quadlet has room for a bit that it lacks.
-use Rattle.std.proofs.Common.{◌≡◌, ◌≢◌, ℕ, suc, ◌+◌, ◌-◌, ◌*◌, ◌/◌, ◌%◌, ◌^◌, ◌<◌, ◌≤◌, arith, ap, pow_pos, pow-suc, ◌∙◌, sym}
+use Rattle.fw_cmp.proofs.Common.{◌≡◌, ◌≢◌, ℕ, ◌+◌, ◌<◌, ◌≤◌, arith, ap, ◌∙◌, sym}
+use Rattle.std.proofs.Common.{suc, ◌-◌, ◌*◌, ◌/◌, ◌%◌, ◌^◌, pow_pos, pow-suc}
 use Rattle.std.proofs.Math.Nat.{lt-div-mul-add, div-lt_iff_lt-mul, mul-le-mul_right}
 use Rattle.std.proofs.lemmas.Nat.{pow-add}
 

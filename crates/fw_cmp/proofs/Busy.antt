@@ -1,22 +1,14 @@
--- A controller is busy exactly where it has a current job, or one is to be had.
-use Rattle.std.proofs.Common.{◌≡◌, ℕ, ◌<◌, Bool, true, false, not, ◌&&◌, ◌||◌, List, [], ◌∷◌, length, get_or, refl, ap, ◌∙◌, arith, Option, Some, None, is_some}
-use Rattle.std.specs.Prelude.{slice_get, nat_lt, position, if◌then◌else◌}
+-- A controller is busy exactly if it has a current job, or one is to be had.
+use Rattle.fw_cmp.proofs.Common.{◌≡◌, ℕ, ◌<◌, Bool, true, false, not, ◌&&◌, ◌||◌, List, [], ◌∷◌, length, get_or, refl, ap, ◌∙◌, arith, Option, Some, None, if◌then◌else◌, find_to_is, IsFirst, Slot}
+use Rattle.fw_cmp.proofs.Common.{Free, Making, Standing, Restoring, Gone, Current, Nothing, Asking, Hearing, Overtaken, Task, Directory, Job, Access, Stage, ControllerState, is_restoring, IsHeard}
+use Rattle.fw_cmp.proofs.Common.{Fits, access_of, rests, answer_of, next, current_for, is_empty, picked, going, resumed}
+use Rattle.std.proofs.Common.{is_some}
+use Rattle.std.specs.Prelude.{slice_get, nat_lt, position}
 use Rattle.std.proofs.lemmas.List.Quantifiers.{position-Some}
 use Rattle.std.proofs.lemmas.Option.{slice_get-get_or}
-use Rattle.fw_base.proofs.Tables.{find_to_is, IsFirst}
-use Rattle.fw_cmp.specs.declared.connection.Slot.{Slot}
-use Rattle.fw_cmp.specs.declared.connection.Slot.TheVariants.{Free, Making, Standing, Restoring, Gone}
-use Rattle.fw_cmp.specs.declared.current.Current.{Current}
-use Rattle.fw_cmp.specs.declared.current.Current.TheVariants.{Nothing, Asking, Hearing, Overtaken}
-use Rattle.fw_cmp.specs.declared.current.Task.{Task}
-use Rattle.fw_cmp.specs.declared.directory.Directory.{Directory}
-use Rattle.fw_cmp.specs.declared.job.Job.{Job}
-use Rattle.fw_cmp.specs.declared.request.Access.{Access}
-use Rattle.fw_cmp.specs.declared.stage.Stage.{Stage}
-use Rattle.fw_cmp.specs.Controllers.{ControllerState, is_restoring, IsHeard, Fits}
-use Rattle.fw_cmp.specs.Requests.{access_of, addressee_of}
-use Rattle.fw_cmp.specs.Turns.{sending, asks_or_ends, rests, answer_of, next, is_busy}
-use Rattle.fw_cmp.specs.Jobs.{current_for, takes_task, slot_of_task, to_restore, is_break, is_empty, takes_making, takes_waiting, takes_next, picked, can_pick, going, resumed}
+use Rattle.fw_cmp.specs.Requests.{addressee_of}
+use Rattle.fw_cmp.specs.Turns.{sending, asks_or_ends, is_busy}
+use Rattle.fw_cmp.specs.Jobs.{takes_task, slot_of_task, to_restore, is_break, takes_making, takes_waiting, takes_next, can_pick}
 use Rattle.fw_cmp.proofs.Jobs.{makes_removed, breaks_removed}
 use Rattle.fw_cmp.proofs.Picking.{Suits, suits, task_of, at_rest, none_to_restore}
 
@@ -66,15 +58,18 @@ suited_job b i (Standing conn f) h = refl
 suited_job b i (Restoring conn f over) h = refl
 suited_job b i (Gone conn) h = refl
 
-task_job : (ss : List Slot) (ts : List Task) (p : ℕ) → Fits (at_rest ss ts) → p < length ts → ((i : ℕ) → is_restoring (get_or ss i Free) ≡ false) → has_job (takes_task (at_rest ss ts) p).current ≡ true
+task_job : (ss : List Slot) (ts : List Task) (p : ℕ) → Fits (at_rest ss ts) → p < length ts → ((i : ℕ) → is_restoring (get_or ss i Free) ≡ false)
+    → has_job (takes_task (at_rest ss ts) p).current ≡ true
 task_job ss ts p h lt none =
     let d : Task = task_of 0 false in
     let t : Task = get_or ts p d in
     let is : slot_of_task (slice_get ts p) ≡ t.slot = ap slot_of_task (slice_get-get_or ts p d lt) in
-    let fit : Suits t.breaks (get_or ss t.slot Free) = suits t.breaks t.slot ts (get_or ss t.slot Free) (omega (arith, makes_removed ts p t.slot d lt)) (omega (arith, breaks_removed ts p t.slot d lt)) (none t.slot) (h.jobs t.slot) in
+    let fit : Suits t.breaks (get_or ss t.slot Free) = suits t.breaks t.slot ts (get_or ss t.slot Free) (omega (arith, makes_removed ts p t.slot d lt)) (omega (arith, breaks_removed ts p t.slot d lt))
+    (none t.slot) (h.jobs t.slot) in
     rw is (suited_job t.breaks t.slot (get_or ss t.slot Free) fit)
 
-making_job : (now : ℕ) (d : Directory) (ss : List Slot) (ts : List Task) → Fits (at_rest ss ts) → ((i : ℕ) → is_restoring (get_or ss i Free) ≡ false) → has_job (takes_making now d (at_rest ss ts)).current ≡ (not (is_empty ts) && not (nat_lt now d.over_at))
+making_job : (now : ℕ) (d : Directory) (ss : List Slot) (ts : List Task) → Fits (at_rest ss ts) → ((i : ℕ) → is_restoring (get_or ss i Free) ≡ false)
+    → has_job (takes_making now d (at_rest ss ts)).current ≡ (not (is_empty ts) && not (nat_lt now d.over_at))
 making_job now d ss [] h none = refl
 making_job now d ss (t ∷ ts) h none = go (nat_lt now d.over_at)
   where
@@ -82,11 +77,13 @@ making_job now d ss (t ∷ ts) h none = go (nat_lt now d.over_at)
     go true = refl
     go false = task_job ss (t ∷ ts) 0 h (omega arith) none
 
-waiting_job : (now : ℕ) (d : Directory) (ss : List Slot) (ts : List Task) (o : Option ℕ) → position is_break ts ≡ o → Fits (at_rest ss ts) → ((i : ℕ) → is_restoring (get_or ss i Free) ≡ false) → has_job (takes_waiting o now d (at_rest ss ts)).current ≡ (is_some o || (not (is_empty ts) && not (nat_lt now d.over_at)))
+waiting_job : (now : ℕ) (d : Directory) (ss : List Slot) (ts : List Task) (o : Option ℕ) → position is_break ts ≡ o → Fits (at_rest ss ts) → ((i : ℕ) → is_restoring (get_or ss i Free) ≡ false)
+    → has_job (takes_waiting o now d (at_rest ss ts)).current ≡ (is_some o || (not (is_empty ts) && not (nat_lt now d.over_at)))
 waiting_job now d ss ts (Some k) e h none = task_job ss ts k h (position-Some is_break ts k (task_of 0 false) e).0 none
 waiting_job now d ss ts None e h none = making_job now d ss ts h none
 
-next_job : (now : ℕ) (d : Directory) (ss : List Slot) (ts : List Task) (o : Option ℕ) → IsFirst 32 (λ i. is_restoring (get_or ss i Free)) o → Fits (at_rest ss ts) → has_job (takes_next o now d (at_rest ss ts)).current ≡ (is_some o || is_some (position is_break ts) || (not (is_empty ts) && not (nat_lt now d.over_at)))
+next_job : (now : ℕ) (d : Directory) (ss : List Slot) (ts : List Task) (o : Option ℕ) → IsFirst 32 (λ i. is_restoring (get_or ss i Free)) o → Fits (at_rest ss ts)
+    → has_job (takes_next o now d (at_rest ss ts)).current ≡ (is_some o || is_some (position is_break ts) || (not (is_empty ts) && not (nat_lt now d.over_at)))
 next_job now d ss ts (Some i) first h = restoring_job i (get_or ss i Free) first.1
 next_job now d ss ts None first h = waiting_job now d ss ts (position is_break ts) refl h (none_to_restore ss h.slots first)
 
@@ -95,7 +92,8 @@ pub rest_busy : (now : ℕ) (d : Directory) (ss : List Slot) (ts : List Task) �
 rest_busy now d ss ts h = going_busy now d (picked now d (at_rest ss ts)) ∙ next_job now d ss ts (to_restore (at_rest ss ts)) (find_to_is 32 (λ i. is_restoring (get_or ss i Free))) h
 
 -- with a current job
-pub job_busy : (now : ℕ) (d : Directory) (ss : List Slot) (ts : List Task) (cur : Current) → (cur ≡ Nothing → ⊥) → IsHeard cur → is_busy (next now d (record { slots = ss; waiting = ts; current = cur })) ≡ true
+pub job_busy : (now : ℕ) (d : Directory) (ss : List Slot) (ts : List Task) (cur : Current) → (cur ≡ Nothing → ⊥) → IsHeard cur
+    → is_busy (next now d (record { slots = ss; waiting = ts; current = cur })) ≡ true
 job_busy now d ss ts Nothing ne h = absurd (ne refl)
 job_busy now d ss ts (Asking j s) ne h = going_busy now d (record { slots = ss; waiting = ts; current = Asking j s })
 job_busy now d ss ts (Hearing j s) ne h = absurd h

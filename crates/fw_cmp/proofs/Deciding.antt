@@ -1,23 +1,19 @@
--- A job is to end so, only where it was before the answer, or where the answer shows the cause.
-use Rattle.std.proofs.Common.{◌≡◌, ℕ, ◌+◌, ◌-◌, ◌==◌, Bool, true, false, not, ◌&&◌, refl, sym, subst, arith, Option, Some, None, ◌⊎◌, inl, inr}
-use Rattle.std.specs.Prelude.{IfSome, nat_le, if◌then◌else◌}
-use Rattle.std.proofs.lemmas.Bool.Decides.{nat_tests}
-use Rattle.fw_base.specs.Tables.{find_to}
-use Rattle.fw_base.proofs.Tables.{find_to_is, IsFirst}
-use Rattle.fw_csr.specs.declared.reply.Reply.{Reply}
+-- A job is to end so, only if it was before the answer, or where the answer shows the cause.
+use Rattle.fw_cmp.proofs.Common.{◌≡◌, ℕ, ◌+◌, Bool, true, false, not, ◌&&◌, refl, sym, subst, arith, Option, Some, None, ◌⊎◌, inl, inr, if◌then◌else◌, nat_tests, find_to, find_to_is, IsFirst, Reply}
+use Rattle.fw_cmp.proofs.Common.{Flow, Job, Ending, Stage, Begin, ReadOutput, ReadChannels, SwapChannels, ReadBandwidth, SwapBandwidth, ConnectOutput, OverlayOutput, ReadInput, ConnectInput}
+use Rattle.fw_cmp.proofs.Common.{ReadInputToLeave, LeaveInput, ReadOutputToLeave, LeaveOutput, ReadBandwidthToRelease, RaiseBandwidth, ReadChannelsToRelease, RestoreChannel, Made, Ended, is_listen}
+use Rattle.fw_cmp.proofs.Common.{restores}
+use Rattle.std.proofs.Common.{◌-◌, ◌==◌}
+use Rattle.std.specs.Prelude.{IfSome, nat_le}
 use Rattle.fw_plug.specs.Words.{is_connected}
-use Rattle.fw_cmp.specs.declared.connection.Flow.{Flow}
 use Rattle.fw_cmp.specs.declared.job.Held.{Held}
-use Rattle.fw_cmp.specs.declared.job.Job.{Job}
-use Rattle.fw_cmp.specs.declared.job.Ending.{Ending}
 use Rattle.fw_cmp.specs.declared.job.Ending.TheVariants.{Broken, NoChannel, NoUnits, PlugFull, InputBusy, NoPlug, Late}
 use Rattle.fw_cmp.specs.declared.job.Then.{Then}
 use Rattle.fw_cmp.specs.declared.job.Then.TheVariants.{EndsAs, Again}
-use Rattle.fw_cmp.specs.declared.stage.Stage.{Stage}
-use Rattle.fw_cmp.specs.declared.stage.Stage.TheVariants.{Begin, ReadOutput, ReadChannels, SwapChannels, ReadBandwidth, SwapBandwidth, ConnectOutput, OverlayOutput, ReadInput, ConnectInput, ReadInputToLeave, LeaveInput, ReadOutputToLeave, LeaveOutput, ReadBandwidthToRelease, RaiseBandwidth, ReadChannelsToRelease, RestoreChannel, Made, Ended}
-use Rattle.fw_cmp.specs.Connections.{kind_of, is_listen, is_point_to_point}
+use Rattle.fw_cmp.specs.Connections.{kind_of, is_point_to_point}
 use Rattle.fw_cmp.specs.Plugs.{has_broadcast, counter_of, channel_of, is_full, half_of, is_bit, remainder_of, shows_connection, one_less}
-use Rattle.fw_cmp.specs.Decisions.{restores, goes_on, give_back, leave_output, is_lost, decide_free, decide_connected, decide_out, decide_any, decide_channel, needs, decide_units, first_flow, overlaid_flow, output_joined, listen_flow, decide_listen, decide_point_to_point, decide_in, input_left, decide_leave_in, decide_leave_out, output_left, decide_raise}
+use Rattle.fw_cmp.specs.Decisions.{goes_on, give_back, leave_output, is_lost, decide_free, decide_connected, decide_out, decide_any, decide_channel, needs, decide_units, first_flow}
+use Rattle.fw_cmp.specs.Decisions.{overlaid_flow, output_joined, listen_flow, decide_listen, decide_point_to_point, decide_in, input_left, decide_leave_in, decide_leave_out, output_left, decide_raise}
 use Rattle.fw_cmp.specs.Stages.{hear, refuse, hear_reply}
 use Rattle.fw_cmp.specs.Answers.{ending_of, decision_of, ShowsNoChannel, DecidesOutput, DecidesChannel, DecidesUnits, DecidesInput, Decides, Refuses, DecidedBy}
 
@@ -65,7 +61,8 @@ output_decided j held w = full (is_full (kind_of j.connection) w) refl
     connected true e = output_connected j held w e
     connected false e = output_free j held w
 
-    full : (b : Bool) → is_full (kind_of j.connection) w ≡ b → Has (DecidesOutput j w) (if b then give_back held (EndsAs (PlugFull w)) else (if is_connected w then decide_connected j held w else decide_free j held w))
+    full : (b : Bool) → is_full (kind_of j.connection) w ≡ b → Has (DecidesOutput j w)
+        (if b then give_back held (EndsAs (PlugFull w)) else (if is_connected w then decide_connected j held w else decide_free j held w))
     full true e = given_back (DecidesOutput j w) held (PlugFull w) (refl, e)
     full false e = connected (is_connected w) refl
 
@@ -104,7 +101,8 @@ channel_decided j base plug w = channel_decided_by j base plug w j.asked refl
 units_decided : (j : Job) (ch plug w : ℕ) → Has (DecidesUnits j plug w) (decide_units j ch plug w)
 units_decided j ch plug w = go (nat_le (needs j plug) (remainder_of w)) refl
   where
-    go : (b : Bool) → nat_le (needs j plug) (remainder_of w) ≡ b → Has (DecidesUnits j plug w) (if b then SwapBandwidth ch (needs j plug) w plug else ReadChannelsToRelease (EndsAs (NoUnits (remainder_of w))) ch)
+    go : (b : Bool) → nat_le (needs j plug) (remainder_of w) ≡ b
+        → Has (DecidesUnits j plug w) (if b then SwapBandwidth ch (needs j plug) w plug else ReadChannelsToRelease (EndsAs (NoUnits (remainder_of w))) ch)
     go true e = tt
     go false e = (refl, grind (arith, nat_tests, e))
 
@@ -217,23 +215,32 @@ pub word_decides : (j : Job) (s : Stage) (w : ℕ) → Has (Known j s w) (hear j
 word_decides j Begin w = tt
 word_decides j ReadOutput w = decides j ReadOutput w (decide_out j None w) (output_decided j None w)
 word_decides j (ReadChannels base p) w = decides j (ReadChannels base p) w (decide_channel j j.asked base p w) (channel_decided j base p w)
-word_decides j (SwapChannels ch arg p) w = decides j (SwapChannels ch arg p) w (hear j (SwapChannels ch arg p) w) (either_stage (DecidesChannel j (half_of ch) w) (w == arg) (ReadBandwidth ch p) (decide_channel j j.asked (half_of ch) p w) tt (channel_decided j (half_of ch) p w))
+word_decides j (SwapChannels ch arg p) w = decides j (SwapChannels ch arg p) w (hear j (SwapChannels ch arg p) w)
+    (either_stage (DecidesChannel j (half_of ch) w) (w == arg) (ReadBandwidth ch p) (decide_channel j j.asked (half_of ch) p w) tt (channel_decided j (half_of ch) p w))
 word_decides j (ReadBandwidth ch p) w = decides j (ReadBandwidth ch p) w (decide_units j ch p w) (units_decided j ch p w)
-word_decides j (SwapBandwidth ch u arg p) w = decides j (SwapBandwidth ch u arg p) w (hear j (SwapBandwidth ch u arg p) w) (either_stage (DecidesUnits j p w) (w == arg) (ConnectOutput ch u p) (decide_units j ch p w) tt (units_decided j ch p w))
+word_decides j (SwapBandwidth ch u arg p) w = decides j (SwapBandwidth ch u arg p) w (hear j (SwapBandwidth ch u arg p) w)
+    (either_stage (DecidesUnits j p w) (w == arg) (ConnectOutput ch u p) (decide_units j ch p w) tt (units_decided j ch p w))
 word_decides j (ConnectOutput ch u arg) w =
     let held : Option Held = Some (record { channel = ch; units = u }) in
-    decides j (ConnectOutput ch u arg) w (hear j (ConnectOutput ch u arg) w) (either_stage (DecidesOutput j w) (w == arg) (output_joined j (first_flow j ch u)) (decide_out j held w) (joined (DecidesOutput j w) j (first_flow j ch u)) (output_decided j held w))
-word_decides j (OverlayOutput arg) w = decides j (OverlayOutput arg) w (hear j (OverlayOutput arg) w) (either_stage (DecidesOutput j w) (w == arg) (output_joined j (overlaid_flow arg)) (decide_out j None w) (joined (DecidesOutput j w) j (overlaid_flow arg)) (output_decided j None w))
+    decides j (ConnectOutput ch u arg) w (hear j (ConnectOutput ch u arg) w)
+    (either_stage (DecidesOutput j w) (w == arg) (output_joined j (first_flow j ch u)) (decide_out j held w) (joined (DecidesOutput j w) j (first_flow j ch u)) (output_decided j held w))
+word_decides j (OverlayOutput arg) w = decides j (OverlayOutput arg) w (hear j (OverlayOutput arg) w)
+    (either_stage (DecidesOutput j w) (w == arg) (output_joined j (overlaid_flow arg)) (decide_out j None w) (joined (DecidesOutput j w) j (overlaid_flow arg)) (output_decided j None w))
 word_decides j (ReadInput f) w = decides j (ReadInput f) w (decide_in j f w) (input_decided j f w)
-word_decides j (ConnectInput f arg) w = decides j (ConnectInput f arg) w (hear j (ConnectInput f arg) w) (either_stage (DecidesInput j f w) (w == arg) (Made f) (decide_in j f w) tt (input_decided j f w))
+word_decides j (ConnectInput f arg) w = decides j (ConnectInput f arg) w (hear j (ConnectInput f arg) w)
+    (either_stage (DecidesInput j f w) (w == arg) (Made f) (decide_in j f w) tt (input_decided j f w))
 word_decides j (ReadInputToLeave ch u) w = stays j (ReadInputToLeave ch u) w (decide_leave_in j ch u w) (leaving_input j ch u w)
-word_decides j (LeaveInput ch u arg) w = stays j (LeaveInput ch u arg) w (hear j (LeaveInput ch u arg) w) (either_stage (λ e. Some Broken ≡ Some e) (w == arg) (input_left j ch u) (decide_leave_in j ch u w) (left_input j ch u) (leaving_input j ch u w))
+word_decides j (LeaveInput ch u arg) w = stays j (LeaveInput ch u arg) w (hear j (LeaveInput ch u arg) w)
+    (either_stage (λ e. Some Broken ≡ Some e) (w == arg) (input_left j ch u) (decide_leave_in j ch u w) (left_input j ch u) (leaving_input j ch u w))
 word_decides j (ReadOutputToLeave e ch u) w = stays j (ReadOutputToLeave e ch u) w (decide_leave_out j e ch u w) (leaving_output j e ch u w)
-word_decides j (LeaveOutput e ch u arg) w = stays j (LeaveOutput e ch u arg) w (hear j (LeaveOutput e ch u arg) w) (either_stage (λ x. Some e ≡ Some x) (w == arg) (output_left j e ch u arg) (decide_leave_out j e ch u w) (left_output j e ch u arg) (leaving_output j e ch u w))
+word_decides j (LeaveOutput e ch u arg) w = stays j (LeaveOutput e ch u arg) w (hear j (LeaveOutput e ch u arg) w)
+    (either_stage (λ x. Some e ≡ Some x) (w == arg) (output_left j e ch u arg) (decide_leave_out j e ch u w) (left_output j e ch u arg) (leaving_output j e ch u w))
 word_decides j (ReadBandwidthToRelease next ch u) w = stays j (ReadBandwidthToRelease next ch u) w (decide_raise next ch u w) (raised next ch u w)
-word_decides j (RaiseBandwidth next ch u arg) w = stays j (RaiseBandwidth next ch u arg) w (hear j (RaiseBandwidth next ch u arg) w) (either_stage (λ x. ending_of next ≡ Some x) (w == arg) (ReadChannelsToRelease next ch) (decide_raise next ch u w) (ending_stays next) (raised next ch u w))
+word_decides j (RaiseBandwidth next ch u arg) w = stays j (RaiseBandwidth next ch u arg) w (hear j (RaiseBandwidth next ch u arg) w)
+    (either_stage (λ x. ending_of next ≡ Some x) (w == arg) (ReadChannelsToRelease next ch) (decide_raise next ch u w) (ending_stays next) (raised next ch u w))
 word_decides j (ReadChannelsToRelease next ch) w = stays j (ReadChannelsToRelease next ch) w (RestoreChannel next ch w) (ending_stays next)
-word_decides j (RestoreChannel next ch arg) w = stays j (RestoreChannel next ch arg) w (hear j (RestoreChannel next ch arg) w) (either_stage (λ x. ending_of next ≡ Some x) (w == arg) (goes_on next) (RestoreChannel next ch w) (went_on next) (ending_stays next))
+word_decides j (RestoreChannel next ch arg) w = stays j (RestoreChannel next ch arg) w (hear j (RestoreChannel next ch arg) w)
+    (either_stage (λ x. ending_of next ≡ Some x) (w == arg) (goes_on next) (RestoreChannel next ch w) (went_on next) (ending_stays next))
 word_decides j (Made f) w = tt
 word_decides j (Ended e) w = inl refl
 
@@ -254,4 +261,5 @@ answer_decides j s r = go (r.rcode == 0) refl
 
     go : (b : Bool) → (r.rcode == 0) ≡ b → Has P (if b then hear j s r.value else refuse j s r.rcode)
     go true e = weaken (Known j s r.value) P (decision_of (hear j s r.value)) (known (grind (arith, nat_tests, e))) (word_decides j s r.value)
-    go false e = weaken (Refuses r.rcode) P (decision_of (refuse j s r.rcode)) (λ x h. inr (inr (λ z. let clash : (r.rcode == 0) ≡ true = grind (arith, nat_tests) in cc, h))) (refusal_decides j s r.rcode)
+    go false e = weaken (Refuses r.rcode) P (decision_of (refuse j s r.rcode)) (λ x h. inr (inr (λ z. let clash : (r.rcode == 0) ≡ true = grind (arith, nat_tests) in cc, h)))
+        (refusal_decides j s r.rcode)

@@ -1,23 +1,13 @@
 -- A job ends, or a bus reset overtakes it: what a controller keeps.
-use Rattle.std.proofs.Common.{◌≡◌, ◌≢◌, ℕ, ◌<◌, ◌≤◌, ◌==◌, Bool, true, false, List, length, refl, ap, sym, ◌∙◌, arith, Option, Some, None, ◌⊎◌, inl, inr, ◌&&◌}
-use Rattle.std.specs.Prelude.{⊤, if◌then◌else◌}
-use Rattle.std.proofs.lemmas.Bool.{cases_eq}
+use Rattle.fw_cmp.proofs.Common.{◌≡◌, ◌≢◌, ℕ, ◌<◌, ◌≤◌, Bool, true, false, List, length, refl, ap, sym, ◌∙◌, arith, Option, Some, None, ◌⊎◌, inl, inr, ◌&&◌, ⊤, if◌then◌else◌, cases_eq, Connection}
+use Rattle.fw_cmp.proofs.Common.{Slot, Free, Making, Standing, Restoring, Gone, Current, Nothing, Asking, Hearing, Overtaken, Task, Job, Purpose, Make, Restore, Break, Stage, Made, ControllerState}
+use Rattle.fw_cmp.proofs.Common.{slot_at, with_slot, count_of, breaks_waiting, job_for, SlotHasJobs, CurrentFits, RunsFitting, Fits, restores, SlotFits}
+use Rattle.std.proofs.Common.{◌==◌}
 use Rattle.std.proofs.lemmas.List.{length-set}
 use Rattle.std.proofs.lemmas.List.Elements.{All-set}
-use Rattle.fw_cmp.specs.declared.connection.Connection.{Connection}
-use Rattle.fw_cmp.specs.declared.connection.Slot.{Slot}
-use Rattle.fw_cmp.specs.declared.connection.Slot.TheVariants.{Free, Making, Standing, Restoring, Gone}
-use Rattle.fw_cmp.specs.declared.current.Current.{Current}
-use Rattle.fw_cmp.specs.declared.current.Current.TheVariants.{Nothing, Asking, Hearing, Overtaken}
-use Rattle.fw_cmp.specs.declared.current.Task.{Task}
-use Rattle.fw_cmp.specs.declared.job.Job.{Job}
-use Rattle.fw_cmp.specs.declared.job.Purpose.{Purpose}
-use Rattle.fw_cmp.specs.declared.job.Purpose.TheVariants.{Make, Restore, Break}
-use Rattle.fw_cmp.specs.declared.stage.Stage.{Stage}
-use Rattle.fw_cmp.specs.declared.stage.Stage.TheVariants.{Made}
-use Rattle.fw_cmp.specs.Controllers.{ControllerState, slot_at, with_slot, break_waits, is_make_at, is_break_at, count_of, makes_waiting, breaks_waiting, job_for, SlotHasJobs, CurrentFits, RunsFitting, Fits}
-use Rattle.fw_cmp.specs.Decisions.{restores}
-use Rattle.fw_cmp.specs.Fits.{SlotFits, ConnectionFits}
+use Rattle.fw_cmp.specs.Controllers.{break_waits, is_make_at, is_break_at}
+use Rattle.fw_cmp.specs.Controllers.{makes_waiting}
+use Rattle.fw_cmp.specs.Fits.{ConnectionFits}
 use Rattle.fw_cmp.specs.Turns.{ended}
 use Rattle.fw_cmp.proofs.Jobs.{same_count, other_count, breaks_none, breaks_some}
 use Rattle.fw_cmp.proofs.Fitting.{slot_here, slot_elsewhere}
@@ -111,12 +101,16 @@ stopped_here ts p i (Making conn asked overhead) w g = absurd g
 abbrev pub after_stop : ControllerState → Job → Slot → Current → ControllerState
 after_stop c j s cur = with_slot (record c { current = cur }) j.slot s
 
-jobs_stopped : (c : ControllerState) (j : Job) (t : Stage) (s : Slot) (cur : Current) (k : ℕ) → j.slot < length c.slots → IsStopped cur → job_for j.slot (slot_at c j.slot) ≡ Some j → GoesWith c.waiting j.purpose j.slot s → ((i : ℕ) → SlotHasJobs c.waiting (Asking j t) i (slot_at c i)) → (k ≡ j.slot) ⊎ (k ≢ j.slot) →
+jobs_stopped : (c : ControllerState) (j : Job) (t : Stage) (s : Slot) (cur : Current) (k : ℕ) → j.slot < length c.slots → IsStopped cur → job_for j.slot (slot_at c j.slot) ≡ Some j
+    → GoesWith c.waiting j.purpose j.slot s → ((i : ℕ) → SlotHasJobs c.waiting (Asking j t) i (slot_at c i)) → (k ≡ j.slot) ⊎ (k ≢ j.slot) →
     SlotHasJobs c.waiting cur k (slot_at (after_stop c j s cur) k)
-jobs_stopped c j t s cur k lt stop e g h (inl is) = rw is (rw (slot_here (record c { current = cur }) j.slot s lt) (stopped c.waiting cur j.slot s stop (stopped_here c.waiting j.purpose j.slot s (beside c.waiting j t (slot_at c j.slot) j.purpose refl e (h j.slot)) g)))
-jobs_stopped c j t s cur k lt stop e g h (inr ne) = rw (slot_elsewhere (record c { current = cur }) j.slot k s ne) (stopped c.waiting cur k (slot_at c k) stop (stopped_elsewhere c.waiting j t k (slot_at c k) (λ is. ne (sym is)) (h k)))
+jobs_stopped c j t s cur k lt stop e g h (inl is) = rw is (rw (slot_here (record c { current = cur }) j.slot s lt)
+    (stopped c.waiting cur j.slot s stop (stopped_here c.waiting j.purpose j.slot s (beside c.waiting j t (slot_at c j.slot) j.purpose refl e (h j.slot)) g)))
+jobs_stopped c j t s cur k lt stop e g h (inr ne) = rw (slot_elsewhere (record c { current = cur }) j.slot k s ne)
+    (stopped c.waiting cur k (slot_at c k) stop (stopped_elsewhere c.waiting j t k (slot_at c k) (λ is. ne (sym is)) (h k)))
 
-pub stop_fits : (c : ControllerState) (j : Job) (t : Stage) (s : Slot) (cur : Current) → Fits c → RunsFitting c j t → SlotFits s → IsStopped cur → CurrentFits (after_stop c j s cur) cur → GoesWith c.waiting j.purpose j.slot s → ((i : ℕ) → SlotHasJobs c.waiting (Asking j t) i (slot_at c i)) → Fits (after_stop c j s cur)
+pub stop_fits : (c : ControllerState) (j : Job) (t : Stage) (s : Slot) (cur : Current) → Fits c → RunsFitting c j t → SlotFits s → IsStopped cur → CurrentFits (after_stop c j s cur) cur
+    → GoesWith c.waiting j.purpose j.slot s → ((i : ℕ) → SlotHasJobs c.waiting (Asking j t) i (slot_at c i)) → Fits (after_stop c j s cur)
 stop_fits c j t s cur h runs fits stop current g jobs = record {
   slots = length-set c.slots j.slot s ∙ h.slots;
   each = All-set SlotFits c.slots j.slot s fits h.each;
@@ -132,7 +126,8 @@ restores_is : (j : Job) (p : Purpose) → j.purpose ≡ p → restores j ≡ eli
 restores_is j p e = ap (λ (q : Purpose). elim q as (λ _. Bool) [ Make ↦ false | Restore ↦ true | Break ↦ false ]) e
 
 -- a slot that is free or gone after the job goes with what waits
-goes_ended : (c : ControllerState) (j : Job) (t : Stage) → RunsFitting c j t → SlotHasJobs c.waiting (Asking j t) j.slot (slot_at c j.slot) → (p : Purpose) → j.purpose ≡ p → (b : Bool) → break_waits c j.slot ≡ b →
+goes_ended : (c : ControllerState) (j : Job) (t : Stage) → RunsFitting c j t → SlotHasJobs c.waiting (Asking j t) j.slot (slot_at c j.slot) → (p : Purpose) → j.purpose ≡ p → (b : Bool)
+    → break_waits c j.slot ≡ b →
     GoesWith c.waiting j.purpose j.slot (if restores j && b then Gone j.connection else Free)
 goes_ended c j t runs h Make is b w = rw (restores_is j Make is) ((beside c.waiting j t (slot_at c j.slot) Make is runs.of_slot h).alone (λ e. cc))
 goes_ended c j t runs h Break is b w = rw (restores_is j Break is) ((beside c.waiting j t (slot_at c j.slot) Break is runs.of_slot h).alone (λ e. cc))
@@ -145,4 +140,5 @@ fits_ended conn false h = tt
 
 pub ended_fits : (c : ControllerState) (j : Job) (t : Stage) → Fits c → RunsFitting c j t → ((i : ℕ) → SlotHasJobs c.waiting (Asking j t) i (slot_at c i)) → Fits (ended c j t)
 ended_fits c j (Made f) h runs jobs = stop_fits c j (Made f) (Standing j.connection f) Nothing h runs (runs.job.connection, runs.stage) tt tt tt jobs
-ended_fits c j t h runs jobs = stop_fits c j t (if restores j && break_waits c j.slot then Gone j.connection else Free) Nothing h runs (fits_ended j.connection (restores j && break_waits c j.slot) runs.job.connection) tt tt (goes_ended c j t runs (jobs j.slot) j.purpose refl (break_waits c j.slot) refl) jobs
+ended_fits c j t h runs jobs = stop_fits c j t (if restores j && break_waits c j.slot then Gone j.connection else Free) Nothing h runs
+    (fits_ended j.connection (restores j && break_waits c j.slot) runs.job.connection) tt tt (goes_ended c j t runs (jobs j.slot) j.purpose refl (break_waits c j.slot) refl) jobs

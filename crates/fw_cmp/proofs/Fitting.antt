@@ -1,20 +1,15 @@
 -- What a controller keeps at all times, as its calls change it.
-use Rattle.std.proofs.Common.{◌≡◌, ◌≢◌, ℕ, ◌<◌, ◌≤◌, Bool, true, false, not, ◌&&◌, ◌||◌, List, [], ◌∷◌, ◌++◌, length, get_or, refl, ap, sym, subst, ◌∙◌, arith, length-append, Some, None, ◌⊎◌, inl, inr}
+use Rattle.fw_cmp.proofs.Common.{◌≡◌, ◌≢◌, ℕ, ◌<◌, ◌≤◌, Bool, true, false, not, ◌&&◌, ◌||◌, List, [], ◌∷◌, ◌++◌, length, get_or, refl, ap, sym, subst, ◌∙◌, arith, Some, None, ◌⊎◌, inl, inr, cases_eq}
+use Rattle.fw_cmp.proofs.Common.{Slot, Free, Making, Standing, Restoring, Gone, Current, Nothing, Asking, Hearing, Overtaken, Task, Job, Stage, ControllerState, slot_at, with_slot, is_free}
+use Rattle.fw_cmp.proofs.Common.{break_runs, job_for, SlotHasJobs, CurrentFits, RunsFitting, Fits, IsMaking, SlotFits}
+use Rattle.std.proofs.Common.{length-append}
 use Rattle.std.specs.Prelude.{All}
 use Rattle.std.specs.List.{list_any}
-use Rattle.std.proofs.lemmas.Bool.{cases_eq, cases_lt}
+use Rattle.std.proofs.lemmas.Bool.{cases_lt}
 use Rattle.std.proofs.lemmas.List.{get_or-set_same, get_or-set_other, length-set, get_or_past, get_or-replicate, length-replicate}
 use Rattle.std.proofs.lemmas.List.Elements.{All-append, All-set}
-use Rattle.fw_cmp.specs.declared.connection.Slot.{Slot}
-use Rattle.fw_cmp.specs.declared.connection.Slot.TheVariants.{Free, Making, Standing, Restoring, Gone}
-use Rattle.fw_cmp.specs.declared.current.Current.{Current}
-use Rattle.fw_cmp.specs.declared.current.Current.TheVariants.{Nothing, Asking, Hearing, Overtaken}
-use Rattle.fw_cmp.specs.declared.current.Task.{Task}
-use Rattle.fw_cmp.specs.declared.job.Job.{Job}
-use Rattle.fw_cmp.specs.declared.stage.Stage.{Stage}
-use Rattle.fw_cmp.specs.Controllers.{ControllerState, first_state, slot_at, with_slot, is_free, is_breakable, breaks_slot, break_runs, job_for, SlotHasJobs, CurrentFits, RunsFitting, Fits}
-use Rattle.fw_cmp.specs.Starts.{IsMaking, with_task, can_break}
-use Rattle.fw_cmp.specs.Fits.{SlotFits}
+use Rattle.fw_cmp.specs.Controllers.{first_state, is_breakable, breaks_slot}
+use Rattle.fw_cmp.specs.Starts.{with_task, can_break}
 use Rattle.fw_cmp.proofs.Jobs.{making_task, breaking_task, made_here, made_elsewhere, broken_here, broken_elsewhere}
 
 -- ---- one slot is set
@@ -67,7 +62,8 @@ jobs_started c i k s lt free making h (inl e) = rw e (rw (slot_here c i s lt) (m
 jobs_started c i k s lt free making h (inr ne) = rw (slot_elsewhere c i k s ne) (made_elsewhere c.waiting c.current i k (slot_at c k) (λ e. ne (sym e)) h)
 
 -- a new connection takes a free slot, and waits
-pub start_fits : (c : ControllerState) (i : ℕ) (s : Slot) → Fits c → i < 32 → is_free (slot_at c i) ≡ true → length c.waiting < 8 → SlotFits s → IsMaking s → Fits (with_task (with_slot c i s) (making_task i))
+pub start_fits : (c : ControllerState) (i : ℕ) (s : Slot) → Fits c → i < 32 → is_free (slot_at c i) ≡ true → length c.waiting < 8 → SlotFits s → IsMaking s
+    → Fits (with_task (with_slot c i s) (making_task i))
 start_fits c i s h lt free room fits making =
     let is : slot_at c i ≡ Free = is_free-true (slot_at c i) free in
     let within : i < length c.slots = omega (arith, h.slots) in
@@ -80,13 +76,15 @@ start_fits c i s h lt free room fits making =
       jobs = λ k. jobs_started c i k s within is making (h.jobs k) (cases_eq k i);
     }
 
-jobs_broken : (c : ControllerState) (i k : ℕ) → is_breakable (slot_at c i) ≡ true → list_any (breaks_slot i) c.waiting ≡ false → break_runs c.current i ≡ false → SlotHasJobs c.waiting c.current k (slot_at c k) → (k ≡ i) ⊎ (k ≢ i) →
+jobs_broken : (c : ControllerState) (i k : ℕ) → is_breakable (slot_at c i) ≡ true → list_any (breaks_slot i) c.waiting ≡ false → break_runs c.current i ≡ false
+    → SlotHasJobs c.waiting c.current k (slot_at c k) → (k ≡ i) ⊎ (k ≢ i) →
     SlotHasJobs (c.waiting ++ breaking_task i ∷ []) c.current k (slot_at c k)
 jobs_broken c i k b none idle h (inl e) = rw e (broken_here c.waiting c.current i (slot_at c i) b none idle (rw e at h))
 jobs_broken c i k b none idle h (inr ne) = broken_elsewhere c.waiting c.current i k (slot_at c k) (λ e. ne (sym e)) h
 
 -- a break waits
-pub break_fits : (c : ControllerState) (i : ℕ) → Fits c → i < 32 → is_breakable (slot_at c i) ≡ true → list_any (breaks_slot i) c.waiting ≡ false → break_runs c.current i ≡ false → length c.waiting < 8 → Fits (with_task c (breaking_task i))
+pub break_fits : (c : ControllerState) (i : ℕ) → Fits c → i < 32 → is_breakable (slot_at c i) ≡ true → list_any (breaks_slot i) c.waiting ≡ false → break_runs c.current i ≡ false
+    → length c.waiting < 8 → Fits (with_task c (breaking_task i))
 break_fits c i h lt b none idle room = record {
   slots = h.slots;
   each = h.each;

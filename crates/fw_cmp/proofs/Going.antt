@@ -1,26 +1,16 @@
 -- The current job goes on from its stage: what a controller keeps, and where its requests go.
-use Rattle.std.proofs.Common.{◌≡◌, ℕ, Bool, true, false, List, refl, ap, Option, Some, None, IsSome}
-use Rattle.std.specs.Prelude.{if◌then◌else◌, IsFalse}
-use Rattle.fw_cmp.specs.declared.connection.Connection.{Connection}
+use Rattle.fw_cmp.proofs.Common.{◌≡◌, ℕ, Bool, true, false, List, refl, ap, Option, Some, None, if◌then◌else◌, Connection, Flow, Slot, Free, Making, Standing, Restoring, Gone, Current, Nothing}
+use Rattle.fw_cmp.proofs.Common.{Asking, Hearing, Overtaken, Task, Directory, Job, Purpose, Make, Restore, Break, Stage, Begin, ReadOutput, ReadChannels, SwapChannels, ReadBandwidth, SwapBandwidth}
+use Rattle.fw_cmp.proofs.Common.{ConnectOutput, OverlayOutput, ReadInput, ConnectInput, ReadInputToLeave, LeaveInput, ReadOutputToLeave, LeaveOutput, ReadBandwidthToRelease, RaiseBandwidth}
+use Rattle.fw_cmp.proofs.Common.{ReadChannelsToRelease, RestoreChannel, Made, Ended, is_listen, ControllerState, slot_at, job_for, SlotHasJobs, CurrentFits, Fits, CurrentReached, CanGoOn, is_late}
+use Rattle.fw_cmp.proofs.Common.{begun, resumed, resumed_current, going}
+use Rattle.std.proofs.Common.{IsSome}
+use Rattle.std.specs.Prelude.{IsFalse}
 use Rattle.fw_cmp.specs.declared.connection.Connection.TheVariants.{PlugToPlug, BroadcastOut, BroadcastIn}
-use Rattle.fw_cmp.specs.declared.connection.Flow.{Flow}
-use Rattle.fw_cmp.specs.declared.connection.Slot.{Slot}
-use Rattle.fw_cmp.specs.declared.connection.Slot.TheVariants.{Free, Making, Standing, Restoring, Gone}
-use Rattle.fw_cmp.specs.declared.current.Current.{Current}
-use Rattle.fw_cmp.specs.declared.current.Current.TheVariants.{Nothing, Asking, Hearing, Overtaken}
-use Rattle.fw_cmp.specs.declared.current.Task.{Task}
-use Rattle.fw_cmp.specs.declared.directory.Directory.{Directory}
-use Rattle.fw_cmp.specs.declared.job.Job.{Job}
-use Rattle.fw_cmp.specs.declared.job.Purpose.{Purpose}
-use Rattle.fw_cmp.specs.declared.job.Purpose.TheVariants.{Make, Restore, Break}
 use Rattle.fw_cmp.specs.declared.job.Ending.TheVariants as ending
-use Rattle.fw_cmp.specs.declared.stage.Stage.{Stage}
-use Rattle.fw_cmp.specs.declared.stage.Stage.TheVariants.{Begin, ReadOutput, ReadChannels, SwapChannels, ReadBandwidth, SwapBandwidth, ConnectOutput, OverlayOutput, ReadInput, ConnectInput, ReadInputToLeave, LeaveInput, ReadOutputToLeave, LeaveOutput, ReadBandwidthToRelease, RaiseBandwidth, ReadChannelsToRelease, RestoreChannel, Made, Ended}
-use Rattle.fw_cmp.specs.Connections.{is_listen}
 use Rattle.fw_cmp.specs.Nodes.{node_of}
-use Rattle.fw_cmp.specs.Controllers.{ControllerState, slot_at, job_for, SlotHasJobs, CurrentFits, Fits}
-use Rattle.fw_cmp.specs.Holdings.{IsReached, StageReached, CurrentReached, CanGoOn}
-use Rattle.fw_cmp.specs.Jobs.{own_flow, without_node, absent_of, begin_managed, begin_present, begin_making, begin_leaving, begin_breaking, is_late, begun, resumed, resumed_current, going}
+use Rattle.fw_cmp.specs.Holdings.{IsReached, StageReached}
+use Rattle.fw_cmp.specs.Jobs.{own_flow, without_node, absent_of, begin_managed, begin_present, begin_making, begin_leaving, begin_breaking}
 
 -- ---- what is kept
 
@@ -50,7 +40,7 @@ first_none : (a b : Option ℕ) → elim a as (λ _. Option ℕ) [ Some device �
 first_none None b e = (refl, e)
 first_none (Some x) b e = cc
 
--- the devices of a connection's plugs are on the bus where none is absent
+-- the devices of a connection's plugs are on the bus if none is absent
 reached_present : (d : Directory) (conn : Connection) → absent_of d conn ≡ None → (IsFalse (is_listen conn) → IsSome d.manager) → IsReached d conn
 reached_present d (PlugToPlug out into) e m =
     let parts = first_none (without_node d (Some out)) (without_node d (Some into)) e in
@@ -93,7 +83,9 @@ reached_leaving d j (BroadcastOut out) f e h = rw e at h
 reached_leaving d j (BroadcastIn into) f e h = rw e at h
 
 reached_breaking : (d : Directory) (j : Job) (s : Slot) → job_for j.slot s ≡ Some j → ((conn : Connection) (f : Flow) → s ≡ Standing conn f → IsReached d conn) → StageReached d j (begin_breaking s)
-reached_breaking d j (Standing conn f) e h = reached_leaving d j conn f (let same : Some (record { slot = j.slot; connection = conn; purpose = Break; asked = None; overhead = 0; units = None }) ≡ Some j = e in ap (λ (o : Option Job). elim o [ Some k ↦ k.connection | None ↦ conn ]) same) (h conn f refl)
+reached_breaking d j (Standing conn f) e h = reached_leaving d j conn f
+    (let same : Some (record { slot = j.slot; connection = conn; purpose = Break; asked = None; overhead = 0; units = None }) ≡ Some j = e in
+    ap (λ (o : Option Job). elim o [ Some k ↦ k.connection | None ↦ conn ]) same) (h conn f refl)
 reached_breaking d j Free e h = tt
 reached_breaking d j (Making conn asked overhead) e h = tt
 reached_breaking d j (Restoring conn f over) e h = tt
@@ -105,7 +97,8 @@ reached_begin d j s Make e h = reached_making d j
 reached_begin d j s Restore e h = reached_making d j
 reached_begin d j s Break e h = reached_breaking d j s e h
 
-reached_begun : (d : Directory) (j : Job) (s : Slot) (t : Stage) → job_for j.slot s ≡ Some j → ((conn : Connection) (f : Flow) → s ≡ Standing conn f → IsReached d conn) → StageReached d j t → StageReached d j (begun d s j t)
+reached_begun : (d : Directory) (j : Job) (s : Slot) (t : Stage) → job_for j.slot s ≡ Some j → ((conn : Connection) (f : Flow) → s ≡ Standing conn f → IsReached d conn) → StageReached d j t
+    → StageReached d j (begun d s j t)
 reached_begun d j s Begin e h r = reached_begin d j s j.purpose e h
 reached_begun d j s ReadOutput e h r = r
 reached_begun d j s (ReadChannels base w) e h r = r
@@ -127,14 +120,16 @@ reached_begun d j s (RestoreChannel next ch arg) e h r = r
 reached_begun d j s (Made f) e h r = r
 reached_begun d j s (Ended x) e h r = r
 
-reached_resumed : (d : Directory) (j : Job) (s : Slot) (t : Stage) → job_for j.slot s ≡ Some j → ((conn : Connection) (f : Flow) → s ≡ Standing conn f → IsReached d conn) → StageReached d j t → StageReached d j (resumed d s j t)
+reached_resumed : (d : Directory) (j : Job) (s : Slot) (t : Stage) → job_for j.slot s ≡ Some j → ((conn : Connection) (f : Flow) → s ≡ Standing conn f → IsReached d conn) → StageReached d j t
+    → StageReached d j (resumed d s j t)
 reached_resumed d j s t e h r = go (is_late s j t)
   where
     go : (b : Bool) → StageReached d j (if b then Ended ending.Late else begun d s j t)
     go true = tt
     go false = reached_begun d j s t e h r
 
-current_reached : (d : Directory) (c : ControllerState) (cur : Current) → CurrentFits c cur → ((i : ℕ) (conn : Connection) (f : Flow) → slot_at c i ≡ Standing conn f → IsReached d conn) → CurrentReached d cur → CurrentReached d (resumed_current c d cur)
+current_reached : (d : Directory) (c : ControllerState) (cur : Current) → CurrentFits c cur → ((i : ℕ) (conn : Connection) (f : Flow) → slot_at c i ≡ Standing conn f → IsReached d conn)
+    → CurrentReached d cur → CurrentReached d (resumed_current c d cur)
 current_reached d c Nothing fits h r = r
 current_reached d c (Asking j t) fits h r = reached_resumed d j (slot_at c j.slot) t fits.of_slot (h j.slot) r
 current_reached d c (Hearing j t) fits h r = r

@@ -1,36 +1,21 @@
 -- A bus at which a controller can go on is one at which it can go on after each of its steps, and after a bus reset each bus is.
-use Rattle.std.proofs.Common.{◌≡◌, ◌≢◌, ℕ, ◌<◌, ◌≤◌, ◌==◌, Bool, true, false, List, length, ap, sym, ◌∙◌, arith, Option, Some, None, Ok, Err, ◌⊎◌, inl, inr, ◌&&◌}
-use Rattle.std.specs.Prelude.{⊤, if◌then◌else◌, Result}
-use Rattle.std.proofs.lemmas.Bool.{cases_eq, cases_lt}
+use Rattle.fw_cmp.proofs.Common.{◌≡◌, ◌≢◌, ℕ, ◌<◌, ◌≤◌, Bool, true, false, List, length, ap, sym, ◌∙◌, arith, Option, Some, None, ◌⊎◌, inl, inr, ◌&&◌, ⊤, if◌then◌else◌, cases_eq, Reply, Connection}
+use Rattle.fw_cmp.proofs.Common.{Flow, Slot, Free, Making, Standing, Restoring, Gone, Current, Nothing, Asking, Hearing, Overtaken, Task, Directory, Job, Purpose, Make, Restore, Break, find_to_is}
+use Rattle.fw_cmp.proofs.Common.{IsFirst, Access, Stage, Begin, ReadInput, Made, Ended, ControllerState, slot_at, with_slot, is_free, Fits, CurrentFits, restores, CurrentReached, CanGoOn, access_of}
+use Rattle.fw_cmp.proofs.Common.{IsMaking, break_fault, after_hear, heard, current_reset, slot_reset, after_reset, slot_over, lost_reset, after_answer, after_next, picked, resumed_current}
+use Rattle.std.proofs.Common.{◌==◌, Ok, Err}
+use Rattle.std.specs.Prelude.{Result}
+use Rattle.std.proofs.lemmas.Bool.{cases_lt}
 use Rattle.std.proofs.lemmas.List.{get_or_past, get_or-replicate, length-replicate}
-use Rattle.fw_csr.specs.declared.reply.Reply.{Reply}
-use Rattle.fw_cmp.specs.declared.connection.Connection.{Connection}
-use Rattle.fw_cmp.specs.declared.connection.Flow.{Flow}
-use Rattle.fw_cmp.specs.declared.connection.Slot.{Slot}
-use Rattle.fw_cmp.specs.declared.connection.Slot.TheVariants.{Free, Making, Standing, Restoring, Gone}
-use Rattle.fw_cmp.specs.declared.current.Current.{Current}
-use Rattle.fw_cmp.specs.declared.current.Current.TheVariants.{Nothing, Asking, Hearing, Overtaken}
-use Rattle.fw_cmp.specs.declared.current.Task.{Task}
-use Rattle.fw_cmp.specs.declared.directory.Directory.{Directory}
-use Rattle.fw_cmp.specs.declared.job.Job.{Job}
-use Rattle.fw_cmp.specs.declared.job.Purpose.{Purpose}
-use Rattle.fw_cmp.specs.declared.job.Purpose.TheVariants.{Make, Restore, Break}
 use Rattle.fw_cmp.specs.declared.outcome.Outcome.TheVariants.{Reset}
 use Rattle.fw_cmp.specs.declared.outcome.StartFault.{StartFault}
 use Rattle.fw_cmp.specs.declared.outcome.StartFault.TheVariants.{TableFull, Busy}
-use Rattle.fw_base.proofs.Tables.{find_to_is, IsFirst}
-use Rattle.fw_cmp.specs.declared.request.Access.{Access}
-use Rattle.fw_cmp.specs.declared.stage.Stage.{Stage}
-use Rattle.fw_cmp.specs.declared.stage.Stage.TheVariants.{Begin, ReadInput, Made, Ended}
-use Rattle.fw_cmp.specs.Controllers.{ControllerState, first_state, slot_at, with_slot, is_free, Fits, break_waits, CurrentFits}
-use Rattle.fw_cmp.specs.Decisions.{restores}
-use Rattle.fw_cmp.specs.Holdings.{IsReached, StageReached, CurrentReached, CanGoOn}
-use Rattle.fw_cmp.specs.Requests.{access_of}
-use Rattle.fw_cmp.specs.Starts.{IsMaking, OkWithin, free_slot, is_crowded, start_at, start, started, with_task, break_started, break_fault}
+use Rattle.fw_cmp.specs.Controllers.{first_state, break_waits}
+use Rattle.fw_cmp.specs.Holdings.{IsReached, StageReached}
+use Rattle.fw_cmp.specs.Starts.{OkWithin, free_slot, is_crowded, start_at, start, started, with_task, break_started}
 use Rattle.fw_cmp.specs.Stages.{hear, refuse, hear_reply}
-use Rattle.fw_cmp.specs.Resets.{after_hear, heard, overtaken, current_reset, slot_reset, after_reset, slot_over, after_second, lost_reset, after_lost_reset, state_reset}
-use Rattle.fw_cmp.specs.Turns.{ended, after_asking, after_answer, after_next}
-use Rattle.fw_cmp.specs.Jobs.{picked, resumed_current}
+use Rattle.fw_cmp.specs.Resets.{overtaken, after_second, after_lost_reset, state_reset}
+use Rattle.fw_cmp.specs.Turns.{ended, after_asking}
 use Rattle.fw_cmp.proofs.Ended.{after_stop}
 use Rattle.fw_cmp.proofs.Fitting.{slot_here, slot_elsewhere}
 use Rattle.fw_cmp.proofs.Overtaken.{slot_at_reset, slot_at_over}
@@ -74,7 +59,8 @@ left_reached d conn false other g e = cc
 
 ended_reached : (d : Directory) (c : ControllerState) (j : Job) (s : Stage) → j.slot < length c.slots → AllReached d c → StageReached d j s → AllReached d (ended c j s)
 ended_reached d c j (Made f) lt all h = set_reached d (record c { current = Nothing }) j.slot (Standing j.connection f) lt (standing_reached d j.connection f h) all
-ended_reached d c j s lt all h = set_reached d (record c { current = Nothing }) j.slot (if restores j && break_waits c j.slot then Gone j.connection else Free) lt (left_reached d j.connection (restores j && break_waits c j.slot)) all
+ended_reached d c j s lt all h = set_reached d (record c { current = Nothing }) j.slot (if restores j && break_waits c j.slot then Gone j.connection else Free) lt
+    (left_reached d j.connection (restores j && break_waits c j.slot)) all
 
 asked_goes_on : (d : Directory) (c : ControllerState) (j : Job) (s : Stage) (o : Option Access) → j.slot < length c.slots → AllReached d c → StageReached d j s → CanGoOn d (after_asking c j s o)
 asked_goes_on d c j s None lt all h = record { standing = ended_reached d c j s lt all h; current = tt }
@@ -91,7 +77,8 @@ resumed_within c d (Asking j s) h = h.job.slot
 resumed_within c d (Hearing j s) h = tt
 resumed_within c d (Overtaken i o) h = tt
 
-answered_goes_on : (d : Directory) (ss : List Slot) (ts : List Task) (cur : Current) → length ss ≡ 32 → SlotWithin cur → AllReached d (record { slots = ss; waiting = ts; current = cur }) → CurrentReached d cur → CanGoOn d (after_answer (record { slots = ss; waiting = ts; current = cur }))
+answered_goes_on : (d : Directory) (ss : List Slot) (ts : List Task) (cur : Current) → length ss ≡ 32 → SlotWithin cur → AllReached d (record { slots = ss; waiting = ts; current = cur })
+    → CurrentReached d cur → CanGoOn d (after_answer (record { slots = ss; waiting = ts; current = cur }))
 answered_goes_on d ss ts Nothing len within all h = record { standing = all; current = tt }
 answered_goes_on d ss ts (Asking j s) len within all h = asked_goes_on d (record { slots = ss; waiting = ts; current = Asking j s }) j s (access_of j s) (omega arith) all h
 answered_goes_on d ss ts (Hearing j s) len within all h = record { standing = all; current = h }
@@ -183,23 +170,32 @@ reset_standing (Standing x y) conn f e = cc
 reset_standing (Restoring x y over) conn f e = cc
 reset_standing (Gone x) conn f e = cc
 
-decided_reached : (d : Directory) (c : ControllerState) (j : Job) (p : Purpose) → CurrentReached d c.current → CurrentReached d (elim p as (λ _. ControllerState) [ Make ↦ c | Restore ↦ c | Break ↦ with_slot c j.slot (Gone j.connection) ]).current
+decided_reached : (d : Directory) (c : ControllerState) (j : Job) (p : Purpose) → CurrentReached d c.current
+    → CurrentReached d (elim p as (λ _. ControllerState) [ Make ↦ c | Restore ↦ c | Break ↦ with_slot c j.slot (Gone j.connection) ]).current
 decided_reached d c j Make h = h
 decided_reached d c j Restore h = h
 decided_reached d c j Break h = h
 
-interrupted_reached : (d : Directory) (epoch : ℕ) (c : ControllerState) (j : Job) (p : Purpose) → CurrentReached d (elim p as (λ _. ControllerState) [ Make ↦ after_stop c j Free (Overtaken j.slot (Reset epoch)) | Restore ↦ record c { current = Asking j Begin } | Break ↦ after_stop c j Free (Overtaken j.slot (Reset epoch)) ]).current
+interrupted_reached : (d : Directory) (epoch : ℕ) (c : ControllerState) (j : Job) (p : Purpose)
+    → CurrentReached d (elim p as (λ _. ControllerState) [
+      | Make ↦ after_stop c j Free (Overtaken j.slot (Reset epoch))
+      | Restore ↦ record c { current = Asking j Begin }
+      | Break ↦ after_stop c j Free
+          (Overtaken j.slot (Reset epoch))
+    ]).current
 interrupted_reached d epoch c j Make = tt
 interrupted_reached d epoch c j Restore = tt
 interrupted_reached d epoch c j Break = tt
 
-overtaken_reached : (d : Directory) (epoch : ℕ) (ss : List Slot) (ts : List Task) (j : Job) (s : Stage) (hears : Bool) → let c : ControllerState = record { slots = ss; waiting = ts; current = (if hears then Hearing j s else Asking j s) } in CurrentReached d (overtaken epoch c j s).current
+overtaken_reached : (d : Directory) (epoch : ℕ) (ss : List Slot) (ts : List Task) (j : Job) (s : Stage) (hears : Bool)
+    → let c : ControllerState = record { slots = ss; waiting = ts; current = (if hears then Hearing j s else Asking j s) } in CurrentReached d (overtaken epoch c j s).current
 overtaken_reached d epoch ss ts j (Made f) b = tt
 overtaken_reached d epoch ss ts j (Ended e) true = decided_reached d (record { slots = ss; waiting = ts; current = Hearing j (Ended e) }) j j.purpose tt
 overtaken_reached d epoch ss ts j (Ended e) false = decided_reached d (record { slots = ss; waiting = ts; current = Asking j (Ended e) }) j j.purpose tt
 overtaken_reached d epoch ss ts j s b = interrupted_reached d epoch (record { slots = ss; waiting = ts; current = (if b then Hearing j s else Asking j s) }) j j.purpose
 
-current_reset_reached : (d : Directory) (epoch : ℕ) (ss : List Slot) (ts : List Task) (cur : Current) → CurrentReached d (current_reset epoch (record { slots = ss; waiting = ts; current = cur }) cur).current
+current_reset_reached : (d : Directory) (epoch : ℕ) (ss : List Slot) (ts : List Task) (cur : Current)
+    → CurrentReached d (current_reset epoch (record { slots = ss; waiting = ts; current = cur }) cur).current
 current_reset_reached d epoch ss ts Nothing = tt
 current_reset_reached d epoch ss ts (Asking j s) = overtaken_reached d epoch ss ts j s false
 current_reset_reached d epoch ss ts (Hearing j s) = overtaken_reached d epoch ss ts j s true
@@ -214,13 +210,14 @@ reset_goes_on d epoch c =
       current = current_reset_reached d epoch c.slots c.waiting c.current;
     }
 
-lost_reset_reached : (d : Directory) (epoch : ℕ) (ss : List Slot) (ts : List Task) (cur : Current) → CurrentReached d (lost_reset epoch (record { slots = ss; waiting = ts; current = cur }) cur).current
+lost_reset_reached : (d : Directory) (epoch : ℕ) (ss : List Slot) (ts : List Task) (cur : Current)
+    → CurrentReached d (lost_reset epoch (record { slots = ss; waiting = ts; current = cur }) cur).current
 lost_reset_reached d epoch ss ts Nothing = tt
 lost_reset_reached d epoch ss ts (Asking j s) = interrupted_reached d epoch (record { slots = ss; waiting = ts; current = Asking j s }) j j.purpose
 lost_reset_reached d epoch ss ts (Hearing j s) = interrupted_reached d epoch (record { slots = ss; waiting = ts; current = Hearing j s }) j j.purpose
 lost_reset_reached d epoch ss ts (Overtaken i o) = tt
 
--- the same where the response to its request was lost
+-- the same if the response to its request was lost
 pub lost_reset_goes_on : (d : Directory) (epoch : ℕ) (c : ControllerState) → CanGoOn d (after_lost_reset epoch c)
 lost_reset_goes_on d epoch c =
     let r : ControllerState = lost_reset epoch c c.current in

@@ -1,15 +1,12 @@
 -- The jobs of one slot, as the waiting jobs, the current job and the slot change.
-use Rattle.std.proofs.Common.{◌≡◌, ◌≢◌, ℕ, ◌+◌, ◌<◌, ◌≤◌, ◌||◌, Bool, true, false, List, [], ◌∷◌, ◌++◌, length, get_or, refl, ap, ◌∙◌, arith, eq-eqb}
+use Rattle.fw_cmp.proofs.Common.{◌≡◌, ◌≢◌, ℕ, ◌+◌, ◌<◌, ◌≤◌, ◌||◌, Bool, true, false, List, [], ◌∷◌, ◌++◌, length, get_or, refl, ap, ◌∙◌, arith, Slot, Free, Making, Standing, Restoring, Gone, Current}
+use Rattle.fw_cmp.proofs.Common.{Task, count_of, breaks_waiting, break_runs, SlotHasJobs, IsMaking}
+use Rattle.std.proofs.Common.{eq-eqb}
 use Rattle.std.specs.Prelude.{◌==◌}
 use Rattle.std.specs.List.{remove, list_any}
 use Rattle.std.proofs.lemmas.Bool.{ne_eqb}
 use Rattle.std.proofs.lemmas.List.Sums.{sum_by-append, sum_by-remove}
-use Rattle.fw_cmp.specs.declared.connection.Slot.{Slot}
-use Rattle.fw_cmp.specs.declared.connection.Slot.TheVariants.{Free, Making, Standing, Restoring, Gone}
-use Rattle.fw_cmp.specs.declared.current.Current.{Current}
-use Rattle.fw_cmp.specs.declared.current.Task.{Task}
-use Rattle.fw_cmp.specs.Controllers.{is_making, is_gone, is_breakable, count_of, makes_slot, breaks_slot, makes_waiting, breaks_waiting, break_runs, SlotHasJobs}
-use Rattle.fw_cmp.specs.Starts.{IsMaking}
+use Rattle.fw_cmp.specs.Controllers.{is_making, is_gone, is_breakable, makes_slot, breaks_slot, makes_waiting}
 
 abbrev pub making_task : ℕ → Task
 making_task i = record { slot = i; breaks = false }
@@ -87,7 +84,8 @@ made_elsewhere ts now i k s ne h = record {
   gone = omega (arith, breaks_pushed ts (making_task i) k, h.gone);
 }
 
-pub broken_here : (ts : List Task) (now : Current) (i : ℕ) (s : Slot) → is_breakable s ≡ true → list_any (breaks_slot i) ts ≡ false → break_runs now i ≡ false → SlotHasJobs ts now i s → SlotHasJobs (ts ++ breaking_task i ∷ []) now i s
+pub broken_here : (ts : List Task) (now : Current) (i : ℕ) (s : Slot) → is_breakable s ≡ true → list_any (breaks_slot i) ts ≡ false → break_runs now i ≡ false → SlotHasJobs ts now i s
+    → SlotHasJobs (ts ++ breaking_task i ∷ []) now i s
 broken_here ts now i s b none idle h = record {
   makes = omega (arith, makes_pushed ts (breaking_task i) i, h.makes);
   breaks = rw (b, idle) (omega (arith, breaks_pushed ts (breaking_task i) i, same_count i, breaks_none ts i none));

@@ -1,24 +1,15 @@
 -- What a controller does next that hears: it is never deaf, and forces nothing.
-use Rattle.std.proofs.Common.{◌≡◌, ℕ, true, false, List, [], ◌∷◌, Option, Some, None, refl, ap, subst, cond, ◌∙◌}
-use Rattle.std.specs.Prelude.{⊤}
-use Rattle.fw_cmp.specs.declared.connection.Slot.{Slot}
-use Rattle.fw_cmp.specs.declared.current.Current.{Current}
-use Rattle.fw_cmp.specs.declared.current.Current.TheVariants.{Nothing, Asking, Hearing, Overtaken}
-use Rattle.fw_cmp.specs.declared.current.Task.{Task}
-use Rattle.fw_cmp.specs.declared.directory.Directory.{Directory}
-use Rattle.fw_cmp.specs.declared.job.Job.{Job}
+use Rattle.fw_cmp.proofs.Common.{◌≡◌, ℕ, true, false, List, [], ◌∷◌, Option, Some, None, refl, ap, subst, ◌∙◌, ⊤, Slot, Current, Nothing, Asking, Hearing, Overtaken, Task, Directory, Job, Idle}
+use Rattle.fw_cmp.proofs.Common.{Waiting, Access, Stage, ControllerState, Listening, break_fault, access_of, rests, answer_of, next, after_next, ready}
+use Rattle.std.proofs.Common.{cond}
 use Rattle.fw_cmp.specs.declared.outcome.Next.{Next}
-use Rattle.fw_cmp.specs.declared.outcome.Next.TheVariants.{Send, End, Idle, Waiting, Deaf, Force}
-use Rattle.fw_cmp.specs.declared.request.Access.{Access}
-use Rattle.fw_cmp.specs.declared.stage.Stage.{Stage}
+use Rattle.fw_cmp.specs.declared.outcome.Next.TheVariants.{Send, End, Deaf, Force}
 use Rattle.fw_cmp.specs.declared.outcome.StartFault.{StartFault}
 use Rattle.fw_csr.specs.declared.access.QuadletAccess.{QuadletAccess}
-use Rattle.fw_cmp.specs.Controllers.{ControllerState}
-use Rattle.fw_cmp.specs.Losses.{Listening, deaf_turn, deaf_until, turn_of, asked_by, after_turn, with_state}
-use Rattle.fw_cmp.specs.Starts.{break_fault, break_started, with_task}
-use Rattle.fw_cmp.specs.Requests.{access_of, addressee_of}
-use Rattle.fw_cmp.specs.Turns.{sending, asks_or_ends, rests, answer_of, next, after_next}
-use Rattle.fw_cmp.specs.Jobs.{ready}
+use Rattle.fw_cmp.specs.Losses.{deaf_turn, deaf_until, turn_of, asked_by, after_turn, with_state}
+use Rattle.fw_cmp.specs.Starts.{break_started, with_task}
+use Rattle.fw_cmp.specs.Requests.{addressee_of}
+use Rattle.fw_cmp.specs.Turns.{sending, asks_or_ends}
 
 -- what comes next of one that hears
 abbrev pub Hears : Next → Type 0
@@ -66,7 +57,8 @@ not_asked now before (Waiting until) h = refl
 not_asked now before (Deaf until) h = refl
 not_asked now before Force h = refl
 
-pub rested : (now : ℕ) (d : Directory) (x : Listening) → x.lost ≡ false → ((to : ℕ) (r : QuadletAccess) → next now d x.state ≡ Send to r → ⊥) → after_turn now d x ≡ with_state x (after_next now d x.state)
+pub rested : (now : ℕ) (d : Directory) (x : Listening) → x.lost ≡ false → ((to : ℕ) (r : QuadletAccess) → next now d x.state ≡ Send to r → ⊥)
+    → after_turn now d x ≡ with_state x (after_next now d x.state)
 rested now d x e h =
     ap (λ b. cond b x (record x { state = after_next now d x.state; asked_at = asked_by now x.asked_at (next now d x.state) })) e
     ∙ ap (λ n. record x { state = after_next now d x.state; asked_at = n }) (not_asked now x.asked_at (next now d x.state) h)

@@ -1,32 +1,17 @@
 -- Between calls, what is decided of a current job was decided by answers.
-use Rattle.std.proofs.Common.{◌≡◌, ℕ, Bool, true, false, refl, subst, Option, Some, None, ◌⊎◌, inl, inr}
-use Rattle.std.specs.Prelude.{IfSome, if◌then◌else◌}
-use Rattle.fw_csr.specs.declared.reply.Reply.{Reply}
-use Rattle.fw_cmp.specs.declared.connection.Connection.{Connection}
+use Rattle.fw_cmp.proofs.Common.{◌≡◌, ℕ, Bool, true, false, refl, subst, Option, Some, None, ◌⊎◌, inl, inr, if◌then◌else◌, Reply, Connection, Flow, Slot, Free, Making, Standing, Restoring, Gone}
+use Rattle.fw_cmp.proofs.Common.{Current, Nothing, Asking, Hearing, Overtaken, Directory, Job, Purpose, Make, Restore, Break, Ending, Access, Stage, Begin, ReadOutput, ReadInput, Made, Ended}
+use Rattle.fw_cmp.proofs.Common.{is_listen, ControllerState, slot_at, with_slot, access_of, heard, after_hear, current_reset, after_reset, lost_reset, after_answer, after_next, current_for, is_late}
+use Rattle.fw_cmp.proofs.Common.{begun, resumed, resumed_current, picked}
+use Rattle.std.specs.Prelude.{IfSome}
 use Rattle.fw_cmp.specs.declared.connection.Connection.TheVariants.{PlugToPlug, BroadcastOut, BroadcastIn}
-use Rattle.fw_cmp.specs.declared.connection.Flow.{Flow}
-use Rattle.fw_cmp.specs.declared.connection.Slot.{Slot}
-use Rattle.fw_cmp.specs.declared.connection.Slot.TheVariants.{Free, Making, Standing, Restoring, Gone}
-use Rattle.fw_cmp.specs.declared.current.Current.{Current}
-use Rattle.fw_cmp.specs.declared.current.Current.TheVariants.{Nothing, Asking, Hearing, Overtaken}
-use Rattle.fw_cmp.specs.declared.directory.Directory.{Directory}
-use Rattle.fw_cmp.specs.declared.job.Job.{Job}
-use Rattle.fw_cmp.specs.declared.job.Purpose.{Purpose}
-use Rattle.fw_cmp.specs.declared.job.Purpose.TheVariants.{Make, Restore, Break}
-use Rattle.fw_cmp.specs.declared.job.Ending.{Ending}
 use Rattle.fw_cmp.specs.declared.job.Ending.TheVariants.{NoManager, Absent, Late}
 use Rattle.fw_cmp.specs.declared.outcome.Outcome.TheVariants.{Reset}
-use Rattle.fw_cmp.specs.declared.request.Access.{Access}
-use Rattle.fw_cmp.specs.declared.stage.Stage.{Stage}
-use Rattle.fw_cmp.specs.declared.stage.Stage.TheVariants.{Begin, ReadOutput, ReadInput, Made, Ended}
 use Rattle.fw_cmp.specs.Answers.{decision_of, Decides, DecidedBy, IsOfAnswers, IsDecidedByAnswers}
-use Rattle.fw_cmp.specs.Connections.{is_listen}
-use Rattle.fw_cmp.specs.Controllers.{ControllerState, slot_at, with_slot}
-use Rattle.fw_cmp.specs.Requests.{access_of}
-use Rattle.fw_cmp.specs.Resets.{heard, after_hear, overtaken, current_reset, after_reset, lost_reset, state_reset}
+use Rattle.fw_cmp.specs.Resets.{overtaken, state_reset}
 use Rattle.fw_cmp.specs.Stages.{hear_reply}
-use Rattle.fw_cmp.specs.Turns.{after_asking, after_answer, after_next}
-use Rattle.fw_cmp.specs.Jobs.{current_for, own_flow, absent_of, begin_managed, begin_present, begin_making, begin_leaving, begin_breaking, is_late, begun, resumed, resumed_current, picked}
+use Rattle.fw_cmp.specs.Turns.{after_asking}
+use Rattle.fw_cmp.specs.Jobs.{own_flow, absent_of, begin_managed, begin_present, begin_making, begin_leaving, begin_breaking}
 use Rattle.fw_cmp.proofs.Deciding.{answer_decides}
 use Rattle.fw_cmp.proofs.Ended.{after_stop}
 use Rattle.fw_cmp.proofs.Picking.{picked_holds}
@@ -64,7 +49,7 @@ hear_decides c r h = heard_current c.current r h
 
 -- ---- a turn
 
--- where the stage makes a request, what is decided was decided by answers
+-- if the stage makes a request, what is decided was decided by answers
 abbrev AsksDecided : Job → Stage → Type 0
 AsksDecided j s = (a : Access) → access_of j s ≡ Some a → IfSome (decision_of s) IsOfAnswers
 
@@ -132,12 +117,19 @@ next_decides now d c h =
 
 -- ---- a bus reset
 
-decided_kept : (c : ControllerState) (j : Job) (p : Purpose) → IsDecidedByAnswers c.current → IsDecidedByAnswers (elim p as (λ _. ControllerState) [ Make ↦ c | Restore ↦ c | Break ↦ with_slot c j.slot (Gone j.connection) ]).current
+decided_kept : (c : ControllerState) (j : Job) (p : Purpose) → IsDecidedByAnswers c.current
+    → IsDecidedByAnswers (elim p as (λ _. ControllerState) [ Make ↦ c | Restore ↦ c | Break ↦ with_slot c j.slot (Gone j.connection) ]).current
 decided_kept c j Make h = h
 decided_kept c j Restore h = h
 decided_kept c j Break h = h
 
-interrupted_kept : (epoch : ℕ) (c : ControllerState) (j : Job) (p : Purpose) → IsDecidedByAnswers (elim p as (λ _. ControllerState) [ Make ↦ after_stop c j Free (Overtaken j.slot (Reset epoch)) | Restore ↦ record c { current = Asking j Begin } | Break ↦ after_stop c j Free (Overtaken j.slot (Reset epoch)) ]).current
+interrupted_kept : (epoch : ℕ) (c : ControllerState) (j : Job) (p : Purpose)
+    → IsDecidedByAnswers (elim p as (λ _. ControllerState) [
+      | Make ↦ after_stop c j Free (Overtaken j.slot (Reset epoch))
+      | Restore ↦ record c { current = Asking j Begin }
+      | Break ↦ after_stop c j Free
+          (Overtaken j.slot (Reset epoch))
+    ]).current
 interrupted_kept epoch c j Make = tt
 interrupted_kept epoch c j Restore = tt
 interrupted_kept epoch c j Break = tt
@@ -156,7 +148,7 @@ reset_kept epoch c (Overtaken i o) h = h
 pub reset_decides : (epoch : ℕ) (c : ControllerState) → IsDecidedByAnswers c.current → IsDecidedByAnswers (after_reset epoch c).current
 reset_decides epoch c h = reset_kept epoch c c.current h
 
--- the same where the response to the request was lost
+-- the same if the response to the request was lost
 lost_kept : (epoch : ℕ) (c : ControllerState) (cur : Current) → IsDecidedByAnswers c.current → IsDecidedByAnswers (lost_reset epoch c cur).current
 lost_kept epoch c Nothing h = h
 lost_kept epoch c (Asking j s) h = interrupted_kept epoch c j j.purpose

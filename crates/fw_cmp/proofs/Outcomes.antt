@@ -1,36 +1,21 @@
--- A job ends with an outcome only where its cause holds.
-use Rattle.std.proofs.Common.{◌≡◌, ℕ, Bool, true, false, List, get_or, refl, ap, subst, Option, Some, None, inl, inr}
-use Rattle.std.specs.Prelude.{⊤, if◌then◌else◌}
+-- A job ends with an outcome only if its cause holds.
+use Rattle.fw_cmp.proofs.Common.{◌≡◌, ℕ, Bool, true, false, List, get_or, refl, ap, subst, Option, Some, None, inl, inr, ⊤, if◌then◌else◌, Connection, Flow, Slot, Free, Making, Standing, Restoring}
+use Rattle.fw_cmp.proofs.Common.{Gone, Current, Nothing, Asking, Hearing, Overtaken, Task, Directory, Job, Purpose, Make, Restore, Break, Ending, Idle, Waiting, Access, Stage, Begin, ReadOutput}
+use Rattle.fw_cmp.proofs.Common.{ReadChannels, SwapChannels, ReadBandwidth, SwapBandwidth, ConnectOutput, OverlayOutput, ReadInput, ConnectInput, ReadInputToLeave, LeaveInput, ReadOutputToLeave}
+use Rattle.fw_cmp.proofs.Common.{LeaveOutput, ReadBandwidthToRelease, RaiseBandwidth, ReadChannelsToRelease, RestoreChannel, Made, Ended, is_listen, restores, ControllerState, slot_at, CurrentFits}
+use Rattle.fw_cmp.proofs.Common.{Fits, access_of, rests, answer_of, next, current_for, is_late, begun, resumed, resumed_current, picked, ready, is_empty}
 use Rattle.std.specs.Option.{option_map}
 use Rattle.fw_words.specs.declared.swap.Swap.{Swap}
-use Rattle.fw_cmp.specs.declared.connection.Connection.{Connection}
 use Rattle.fw_cmp.specs.declared.connection.Connection.TheVariants.{PlugToPlug, BroadcastOut, BroadcastIn}
-use Rattle.fw_cmp.specs.declared.connection.Flow.{Flow}
-use Rattle.fw_cmp.specs.declared.connection.Slot.{Slot}
-use Rattle.fw_cmp.specs.declared.connection.Slot.TheVariants.{Free, Making, Standing, Restoring, Gone}
-use Rattle.fw_cmp.specs.declared.current.Current.{Current}
-use Rattle.fw_cmp.specs.declared.current.Current.TheVariants.{Nothing, Asking, Hearing, Overtaken}
-use Rattle.fw_cmp.specs.declared.current.Task.{Task}
-use Rattle.fw_cmp.specs.declared.directory.Directory.{Directory}
-use Rattle.fw_cmp.specs.declared.job.Job.{Job}
-use Rattle.fw_cmp.specs.declared.job.Purpose.{Purpose}
-use Rattle.fw_cmp.specs.declared.job.Purpose.TheVariants.{Make, Restore, Break}
-use Rattle.fw_cmp.specs.declared.job.Ending.{Ending}
 use Rattle.fw_cmp.specs.declared.job.Ending.TheVariants.{Broken, NoChannel, NoUnits, PlugFull, InputBusy, NoPlug, NoManager, Absent, Late}
-use Rattle.fw_cmp.specs.declared.outcome.Next.TheVariants.{Idle, Waiting}
 use Rattle.fw_cmp.specs.declared.outcome.Outcome.TheVariants as outcome
-use Rattle.fw_cmp.specs.declared.request.Access.{Access}
 use Rattle.fw_cmp.specs.declared.request.Target.TheVariants.{OutputPlug, InputPlug}
-use Rattle.fw_cmp.specs.declared.stage.Stage.{Stage}
-use Rattle.fw_cmp.specs.declared.stage.Stage.TheVariants.{Begin, ReadOutput, ReadChannels, SwapChannels, ReadBandwidth, SwapBandwidth, ConnectOutput, OverlayOutput, ReadInput, ConnectInput, ReadInputToLeave, LeaveInput, ReadOutputToLeave, LeaveOutput, ReadBandwidthToRelease, RaiseBandwidth, ReadChannelsToRelease, RestoreChannel, Made, Ended}
-use Rattle.fw_cmp.specs.Connections.{output_of, input_of, is_listen}
-use Rattle.fw_cmp.specs.Decisions.{restores}
+use Rattle.fw_cmp.specs.Connections.{output_of, input_of}
 use Rattle.fw_cmp.specs.Fits.{StageFits, HasOutput, HasInput}
-use Rattle.fw_cmp.specs.Controllers.{ControllerState, slot_at, CurrentFits, Fits}
 use Rattle.fw_cmp.specs.Outcomes.{EndsBy, EndsWithCause}
-use Rattle.fw_cmp.specs.Requests.{access_at, access_of, addressee_of, swap_of}
-use Rattle.fw_cmp.specs.Turns.{outcome_for, made_outcome, outcome_of, sending, asks_or_ends, rests, answer_of, next}
-use Rattle.fw_cmp.specs.Jobs.{own_flow, current_for, absent_of, begin_managed, begin_present, begin_making, begin_leaving, begin_breaking, is_late, begun, resumed, resumed_current, picked, ready, is_empty}
+use Rattle.fw_cmp.specs.Requests.{access_at, addressee_of, swap_of}
+use Rattle.fw_cmp.specs.Turns.{outcome_for, made_outcome, outcome_of, sending, asks_or_ends}
+use Rattle.fw_cmp.specs.Jobs.{own_flow, absent_of, begin_managed, begin_present, begin_making, begin_leaving, begin_breaking}
 use Rattle.fw_cmp.proofs.Picking.{picked_slots, picked_holds}
 
 -- ---- the stages that make no request
@@ -88,7 +73,8 @@ breaking now d (Making conn asked overhead) j p h e = inr (refl, p, refl)
 breaking now d (Restoring conn f over) j p h e = inr (refl, p, refl)
 breaking now d (Gone conn) j p h e = inr (refl, p, refl)
 
-beginning : (now : ℕ) (d : Directory) (slot : Slot) (j : Job) (p : Purpose) → j.purpose ≡ p → Caused now d slot j Begin (elim p [ Make ↦ begin_making d j | Restore ↦ begin_making d j | Break ↦ begin_breaking slot ])
+beginning : (now : ℕ) (d : Directory) (slot : Slot) (j : Job) (p : Purpose) → j.purpose ≡ p
+    → Caused now d slot j Begin (elim p [ Make ↦ begin_making d j | Restore ↦ begin_making d j | Break ↦ begin_breaking slot ])
 beginning now d slot j Make is h e = making now d slot j h e
 beginning now d slot j Restore is h e = making now d slot j h e
 beginning now d slot j Break is h e = breaking now d slot j is h e
@@ -157,7 +143,8 @@ rests_no_end now d c ts = go (is_empty ts)
     go true = tt
     go false = tt
 
-asked_cause : (now : ℕ) (d : Directory) (c : ControllerState) (j : Job) (s r : Stage) → (picked now d c).current ≡ Asking j s → Caused now d (slot_at c j.slot) j s r → StageFits j r → (o : Option Access) → access_of j r ≡ o → EndsWithCause now d c (asks_or_ends now d j r o)
+asked_cause : (now : ℕ) (d : Directory) (c : ControllerState) (j : Job) (s r : Stage) → (picked now d c).current ≡ Asking j s → Caused now d (slot_at c j.slot) j s r → StageFits j r
+    → (o : Option Access) → access_of j r ≡ o → EndsWithCause now d c (asks_or_ends now d j r o)
 asked_cause now d c j s r p cause fits None e = inr (j, (s, record { current = p; of_slot = refl; cause = cause fits e }))
 asked_cause now d c j s r p cause fits (Some a) e = sends_no_end now d c (addressee_of d a.target) a
 
@@ -179,7 +166,8 @@ itself (Asking j s) = tt
 itself (Hearing j s) = tt
 itself (Overtaken i o) = refl
 
-going_cause : (now : ℕ) (d : Directory) (c p : ControllerState) (cur : Current) → (picked now d c).current ≡ cur → p.slots ≡ c.slots → WasOvertaken c.current cur → CurrentFits (record p { current = resumed_current p d cur }) (resumed_current p d cur) → EndsWithCause now d c (answer_of now d (record p { current = resumed_current p d cur }))
+going_cause : (now : ℕ) (d : Directory) (c p : ControllerState) (cur : Current) → (picked now d c).current ≡ cur → p.slots ≡ c.slots → WasOvertaken c.current cur
+    → CurrentFits (record p { current = resumed_current p d cur }) (resumed_current p d cur) → EndsWithCause now d c (answer_of now d (record p { current = resumed_current p d cur }))
 going_cause now d c p Nothing e same was fits = rests_no_end now d c p.waiting
 going_cause now d c p (Hearing j s) e same was fits = tt
 going_cause now d c p (Overtaken i o) e same was fits = inl was

@@ -1,26 +1,15 @@
 -- A bus reset overtakes the current job: what a controller keeps.
-use Rattle.std.proofs.Common.{◌≡◌, ◌≢◌, ℕ, ◌<◌, Bool, true, false, List, length, get_or, map, refl, ap, sym, ◌∙◌, arith, Option, Some, ◌⊎◌, inl, inr}
-use Rattle.std.specs.Prelude.{⊤}
-use Rattle.std.proofs.lemmas.Bool.{cases_eq}
+use Rattle.fw_cmp.proofs.Common.{◌≡◌, ◌≢◌, ℕ, ◌<◌, Bool, true, false, List, length, get_or, refl, ap, sym, ◌∙◌, arith, Option, Some, ◌⊎◌, inl, inr, ⊤, cases_eq, Connection, Slot, Free, Making}
+use Rattle.fw_cmp.proofs.Common.{Standing, Restoring, Gone, Current, Nothing, Asking, Hearing, Overtaken, Task, Job, Purpose, Make, Restore, Break, Stage, Begin, Made, Ended, ControllerState, slot_at}
+use Rattle.fw_cmp.proofs.Common.{with_slot, count_of, breaks_waiting, job_for, SlotHasJobs, CurrentFits, RunsFitting, Fits, SlotFits, current_reset, lost_reset, slot_reset, after_reset, slot_over}
+use Rattle.std.proofs.Common.{map}
 use Rattle.std.proofs.lemmas.List.{length-set, length-map}
 use Rattle.std.proofs.Math.ListN.{get_or-map}
 use Rattle.std.proofs.lemmas.List.Elements.{All-set, All-map}
-use Rattle.fw_cmp.specs.declared.connection.Connection.{Connection}
-use Rattle.fw_cmp.specs.declared.connection.Slot.{Slot}
-use Rattle.fw_cmp.specs.declared.connection.Slot.TheVariants.{Free, Making, Standing, Restoring, Gone}
-use Rattle.fw_cmp.specs.declared.current.Current.{Current}
-use Rattle.fw_cmp.specs.declared.current.Current.TheVariants.{Nothing, Asking, Hearing, Overtaken}
-use Rattle.fw_cmp.specs.declared.current.Task.{Task}
-use Rattle.fw_cmp.specs.declared.job.Job.{Job}
-use Rattle.fw_cmp.specs.declared.job.Purpose.{Purpose}
-use Rattle.fw_cmp.specs.declared.job.Purpose.TheVariants.{Make, Restore, Break}
-use Rattle.fw_cmp.specs.declared.stage.Stage.{Stage}
-use Rattle.fw_cmp.specs.declared.stage.Stage.TheVariants.{Begin, Made, Ended}
-use Rattle.fw_cmp.specs.Controllers.{ControllerState, slot_at, with_slot, is_make_at, is_break_at, count_of, breaks_waiting, job_for, SlotHasJobs, CurrentFits, RunsFitting, Fits}
-use Rattle.fw_cmp.specs.Fits.{SlotFits}
+use Rattle.fw_cmp.specs.Controllers.{is_make_at, is_break_at}
 use Rattle.fw_cmp.specs.Turns.{made_outcome}
 use Rattle.fw_cmp.specs.declared.outcome.Outcome.TheVariants.{Reset}
-use Rattle.fw_cmp.specs.Resets.{overtaken, current_reset, lost_reset, slot_reset, slots_reset, after_reset, after_lost_reset, state_reset, slot_over, after_second}
+use Rattle.fw_cmp.specs.Resets.{overtaken, slots_reset, after_lost_reset, state_reset, after_second}
 use Rattle.fw_cmp.proofs.Ended.{purpose_or, connection_or, make_count, break_count, WaitsBeside, beside, after_stop, stop_fits}
 use Rattle.fw_cmp.proofs.Jobs.{same_count}
 use Rattle.fw_cmp.proofs.Fitting.{slot_here, slot_elsewhere}
@@ -47,13 +36,15 @@ gone_here ts j t conn p w =
     let none : breaks_waiting ts j.slot ≡ 0 = w.alone (λ e. cc) in
     record { makes = omega (arith, w.makes); breaks = omega arith; gone = omega arith }
 
-jobs_gone : (c : ControllerState) (j : Job) (t : Stage) (k : ℕ) → j.slot < length c.slots → j.purpose ≡ Break → job_for j.slot (slot_at c j.slot) ≡ Some j → ((i : ℕ) → SlotHasJobs c.waiting (Asking j t) i (slot_at c i)) → (k ≡ j.slot) ⊎ (k ≢ j.slot) →
+jobs_gone : (c : ControllerState) (j : Job) (t : Stage) (k : ℕ) → j.slot < length c.slots → j.purpose ≡ Break → job_for j.slot (slot_at c j.slot) ≡ Some j
+    → ((i : ℕ) → SlotHasJobs c.waiting (Asking j t) i (slot_at c i)) → (k ≡ j.slot) ⊎ (k ≢ j.slot) →
     SlotHasJobs c.waiting (Asking j t) k (slot_at (with_slot c j.slot (Gone j.connection)) k)
 jobs_gone c j t k lt p e h (inl is) = rw is (rw (slot_here c j.slot (Gone j.connection) lt) (gone_here c.waiting j t j.connection p (beside c.waiting j t (slot_at c j.slot) Break p e (h j.slot))))
 jobs_gone c j t k lt p e h (inr ne) = rw (slot_elsewhere c j.slot k (Gone j.connection) ne) (h k)
 
 -- a current job that is decided stays current; the connection of a break is gone
-decided_fits : (c : ControllerState) (j : Job) (t : Stage) → Fits c → RunsFitting c j t → ((i : ℕ) → SlotHasJobs c.waiting (Asking j t) i (slot_at c i)) → ((i : ℕ) (s : Slot) → SlotHasJobs c.waiting (Asking j t) i s → SlotHasJobs c.waiting c.current i s) → ((d : ControllerState) → RunsFitting d j t → CurrentFits d c.current) →
+decided_fits : (c : ControllerState) (j : Job) (t : Stage) → Fits c → RunsFitting c j t → ((i : ℕ) → SlotHasJobs c.waiting (Asking j t) i (slot_at c i))
+    → ((i : ℕ) (s : Slot) → SlotHasJobs c.waiting (Asking j t) i s → SlotHasJobs c.waiting c.current i s) → ((d : ControllerState) → RunsFitting d j t → CurrentFits d c.current) →
     (p : Purpose) → j.purpose ≡ p → Fits (elim p [ Make ↦ c | Restore ↦ c | Break ↦ with_slot c j.slot (Gone j.connection) ])
 decided_fits c j t h runs jobs same current Make is = h
 decided_fits c j t h runs jobs same current Restore is = h
@@ -73,10 +64,13 @@ decided_fits c j t h runs jobs same current Break is =
     }
 
 -- a job that is not decided: a restoring begins again, and another is over
-interrupted_fits : (epoch : ℕ) (c : ControllerState) (j : Job) (t : Stage) → Fits c → RunsFitting c j t → ((i : ℕ) → SlotHasJobs c.waiting (Asking j t) i (slot_at c i)) → (p : Purpose) → j.purpose ≡ p →
+interrupted_fits : (epoch : ℕ) (c : ControllerState) (j : Job) (t : Stage) → Fits c → RunsFitting c j t → ((i : ℕ) → SlotHasJobs c.waiting (Asking j t) i (slot_at c i)) → (p : Purpose)
+    → j.purpose ≡ p →
     Fits (elim p [ Make ↦ after_stop c j Free (Overtaken j.slot (Reset epoch)) | Restore ↦ record c { current = Asking j Begin } | Break ↦ after_stop c j Free (Overtaken j.slot (Reset epoch)) ])
-interrupted_fits epoch c j t h runs jobs Make is = stop_fits c j t Free (Overtaken j.slot (Reset epoch)) h runs tt tt runs.job.slot ((beside c.waiting j t (slot_at c j.slot) j.purpose refl runs.of_slot (jobs j.slot)).alone (λ e. cc)) jobs
-interrupted_fits epoch c j t h runs jobs Break is = stop_fits c j t Free (Overtaken j.slot (Reset epoch)) h runs tt tt runs.job.slot ((beside c.waiting j t (slot_at c j.slot) j.purpose refl runs.of_slot (jobs j.slot)).alone (λ e. cc)) jobs
+interrupted_fits epoch c j t h runs jobs Make is = stop_fits c j t Free (Overtaken j.slot (Reset epoch)) h runs tt tt runs.job.slot
+    ((beside c.waiting j t (slot_at c j.slot) j.purpose refl runs.of_slot (jobs j.slot)).alone (λ e. cc)) jobs
+interrupted_fits epoch c j t h runs jobs Break is = stop_fits c j t Free (Overtaken j.slot (Reset epoch)) h runs tt tt runs.job.slot
+    ((beside c.waiting j t (slot_at c j.slot) j.purpose refl runs.of_slot (jobs j.slot)).alone (λ e. cc)) jobs
 interrupted_fits epoch c j t h runs jobs Restore is = record {
   slots = h.slots;
   each = h.each;
@@ -86,22 +80,27 @@ interrupted_fits epoch c j t h runs jobs Restore is = record {
   jobs = λ k. let r = jobs k in record { makes = r.makes; breaks = r.breaks; gone = r.gone };
 }
 
-overtaken_fits : (epoch : ℕ) (c : ControllerState) (j : Job) (t : Stage) → Fits c → RunsFitting c j t → ((i : ℕ) → SlotHasJobs c.waiting (Asking j t) i (slot_at c i)) → ((i : ℕ) (s : Slot) → SlotHasJobs c.waiting (Asking j t) i s → SlotHasJobs c.waiting c.current i s) → ((d : ControllerState) → RunsFitting d j t → CurrentFits d c.current) →
+overtaken_fits : (epoch : ℕ) (c : ControllerState) (j : Job) (t : Stage) → Fits c → RunsFitting c j t → ((i : ℕ) → SlotHasJobs c.waiting (Asking j t) i (slot_at c i))
+    → ((i : ℕ) (s : Slot) → SlotHasJobs c.waiting (Asking j t) i s → SlotHasJobs c.waiting c.current i s) → ((d : ControllerState) → RunsFitting d j t → CurrentFits d c.current) →
     Fits (overtaken epoch c j t)
-overtaken_fits epoch c j (Made f) h runs jobs same current = stop_fits c j (Made f) (Restoring j.connection f false) (Overtaken j.slot (made_outcome j f)) h runs (runs.job.connection, runs.stage) tt runs.job.slot tt jobs
+overtaken_fits epoch c j (Made f) h runs jobs same current =
+    stop_fits c j (Made f) (Restoring j.connection f false) (Overtaken j.slot (made_outcome j f)) h runs (runs.job.connection, runs.stage) tt runs.job.slot tt jobs
 overtaken_fits epoch c j (Ended e) h runs jobs same current = decided_fits c j (Ended e) h runs jobs same current j.purpose refl
 overtaken_fits epoch c j t h runs jobs same current = interrupted_fits epoch c j t h runs jobs j.purpose refl
 
-current_reset_fits : (epoch : ℕ) (ss : List Slot) (ts : List Task) (cur : Current) → Fits (record { slots = ss; waiting = ts; current = cur }) → Fits (current_reset epoch (record { slots = ss; waiting = ts; current = cur }) cur)
+current_reset_fits : (epoch : ℕ) (ss : List Slot) (ts : List Task) (cur : Current) → Fits (record { slots = ss; waiting = ts; current = cur })
+    → Fits (current_reset epoch (record { slots = ss; waiting = ts; current = cur }) cur)
 current_reset_fits epoch ss ts Nothing h = h
 current_reset_fits epoch ss ts (Asking j t) h = overtaken_fits epoch (record { slots = ss; waiting = ts; current = Asking j t }) j t h h.current h.jobs (λ i s r. r) (λ d r. r)
 current_reset_fits epoch ss ts (Hearing j t) h =
     let runs : RunsFitting (record { slots = ss; waiting = ts; current = Hearing j t }) j t = h.current in
-    overtaken_fits epoch (record { slots = ss; waiting = ts; current = Hearing j t }) j t h runs (λ i. settled ts j t t i (get_or ss i Free) (h.jobs i)) (λ i s r. record { makes = r.makes; breaks = r.breaks; gone = r.gone }) (λ d r. r)
+    overtaken_fits epoch (record { slots = ss; waiting = ts; current = Hearing j t }) j t h runs (λ i. settled ts j t t i (get_or ss i Free) (h.jobs i))
+    (λ i s r. record { makes = r.makes; breaks = r.breaks; gone = r.gone }) (λ d r. r)
 current_reset_fits epoch ss ts (Overtaken i o) h = h
 
--- the same where the response to its request was lost
-lost_fits : (epoch : ℕ) (ss : List Slot) (ts : List Task) (cur : Current) → Fits (record { slots = ss; waiting = ts; current = cur }) → Fits (lost_reset epoch (record { slots = ss; waiting = ts; current = cur }) cur)
+-- the same if the response to its request was lost
+lost_fits : (epoch : ℕ) (ss : List Slot) (ts : List Task) (cur : Current) → Fits (record { slots = ss; waiting = ts; current = cur })
+    → Fits (lost_reset epoch (record { slots = ss; waiting = ts; current = cur }) cur)
 lost_fits epoch ss ts Nothing h = h
 lost_fits epoch ss ts (Asking j t) h = interrupted_fits epoch (record { slots = ss; waiting = ts; current = Asking j t }) j t h h.current h.jobs j.purpose refl
 lost_fits epoch ss ts (Hearing j t) h =
@@ -174,24 +173,32 @@ not_standing i (Standing conn f) j e p is ne = absurd (ne (sym is ∙ sym (ap (�
 not_standing i (Restoring conn f over) j e p is ne = refl
 not_standing i (Gone conn) j e p is ne = refl
 
-decided_moved : (c : ControllerState) (j : Job) (t : Stage) → j.slot < length c.slots → job_for j.slot (slot_at c j.slot) ≡ Some j → ((d : ControllerState) → is_standing (slot_at d j.slot) ≡ false → IsMoved d c.current) → (p : Purpose) → j.purpose ≡ p →
+decided_moved : (c : ControllerState) (j : Job) (t : Stage) → j.slot < length c.slots → job_for j.slot (slot_at c j.slot) ≡ Some j
+    → ((d : ControllerState) → is_standing (slot_at d j.slot) ≡ false → IsMoved d c.current) → (p : Purpose) → j.purpose ≡ p →
     let r : ControllerState = elim p as (λ _. ControllerState) [ Make ↦ c | Restore ↦ c | Break ↦ with_slot c j.slot (Gone j.connection) ] in IsMoved r r.current
 decided_moved c j t lt e moved Make is = moved c (not_standing j.slot (slot_at c j.slot) j e Make is (λ x. cc))
 decided_moved c j t lt e moved Restore is = moved c (not_standing j.slot (slot_at c j.slot) j e Restore is (λ x. cc))
 decided_moved c j t lt e moved Break is = moved (with_slot c j.slot (Gone j.connection)) (ap is_standing (slot_here c j.slot (Gone j.connection) lt))
 
 interrupted_moved : (epoch : ℕ) (c : ControllerState) (j : Job) → job_for j.slot (slot_at c j.slot) ≡ Some j → (p : Purpose) → j.purpose ≡ p →
-    let r : ControllerState = elim p as (λ _. ControllerState) [ Make ↦ after_stop c j Free (Overtaken j.slot (Reset epoch)) | Restore ↦ record c { current = Asking j Begin } | Break ↦ after_stop c j Free (Overtaken j.slot (Reset epoch)) ] in IsMoved r r.current
+    let r : ControllerState = elim p as (λ _. ControllerState) [
+      | Make ↦ after_stop c j Free
+          (Overtaken j.slot (Reset epoch))
+      | Restore ↦ record c { current = Asking j Begin }
+      | Break ↦ after_stop c j Free (Overtaken j.slot (Reset epoch))
+    ] in IsMoved r r.current
 interrupted_moved epoch c j e Make is = tt
 interrupted_moved epoch c j e Break is = tt
 interrupted_moved epoch c j e Restore is = not_standing j.slot (slot_at c j.slot) j e Restore is (λ x. cc)
 
-overtaken_moved : (epoch : ℕ) (c : ControllerState) (j : Job) (t : Stage) → j.slot < length c.slots → job_for j.slot (slot_at c j.slot) ≡ Some j → ((d : ControllerState) → is_standing (slot_at d j.slot) ≡ false → IsMoved d c.current) → IsMoved (overtaken epoch c j t) (overtaken epoch c j t).current
+overtaken_moved : (epoch : ℕ) (c : ControllerState) (j : Job) (t : Stage) → j.slot < length c.slots → job_for j.slot (slot_at c j.slot) ≡ Some j
+    → ((d : ControllerState) → is_standing (slot_at d j.slot) ≡ false → IsMoved d c.current) → IsMoved (overtaken epoch c j t) (overtaken epoch c j t).current
 overtaken_moved epoch c j (Made f) lt e moved = tt
 overtaken_moved epoch c j (Ended x) lt e moved = decided_moved c j (Ended x) lt e moved j.purpose refl
 overtaken_moved epoch c j t lt e moved = interrupted_moved epoch c j e j.purpose refl
 
-current_reset_moved : (epoch : ℕ) (ss : List Slot) (ts : List Task) (cur : Current) → Fits (record { slots = ss; waiting = ts; current = cur }) → let r : ControllerState = current_reset epoch (record { slots = ss; waiting = ts; current = cur }) cur in IsMoved r r.current
+current_reset_moved : (epoch : ℕ) (ss : List Slot) (ts : List Task) (cur : Current) → Fits (record { slots = ss; waiting = ts; current = cur })
+    → let r : ControllerState = current_reset epoch (record { slots = ss; waiting = ts; current = cur }) cur in IsMoved r r.current
 current_reset_moved epoch ss ts Nothing h = tt
 current_reset_moved epoch ss ts (Asking j t) h =
     let runs : RunsFitting (record { slots = ss; waiting = ts; current = Asking j t }) j t = h.current in
@@ -201,7 +208,8 @@ current_reset_moved epoch ss ts (Hearing j t) h =
     overtaken_moved epoch (record { slots = ss; waiting = ts; current = Hearing j t }) j t (omega (arith, h.slots, runs.job.slot)) runs.of_slot (λ d e. e)
 current_reset_moved epoch ss ts (Overtaken i o) h = tt
 
-lost_moved : (epoch : ℕ) (ss : List Slot) (ts : List Task) (cur : Current) → Fits (record { slots = ss; waiting = ts; current = cur }) → let r : ControllerState = lost_reset epoch (record { slots = ss; waiting = ts; current = cur }) cur in IsMoved r r.current
+lost_moved : (epoch : ℕ) (ss : List Slot) (ts : List Task) (cur : Current) → Fits (record { slots = ss; waiting = ts; current = cur })
+    → let r : ControllerState = lost_reset epoch (record { slots = ss; waiting = ts; current = cur }) cur in IsMoved r r.current
 lost_moved epoch ss ts Nothing h = tt
 lost_moved epoch ss ts (Asking j t) h = interrupted_moved epoch (record { slots = ss; waiting = ts; current = Asking j t }) j h.current.of_slot j.purpose refl
 lost_moved epoch ss ts (Hearing j t) h = interrupted_moved epoch (record { slots = ss; waiting = ts; current = Hearing j t }) j h.current.of_slot j.purpose refl
@@ -219,7 +227,13 @@ decided_waiting c j Make = refl
 decided_waiting c j Restore = refl
 decided_waiting c j Break = refl
 
-interrupted_waiting : (epoch : ℕ) (c : ControllerState) (j : Job) (p : Purpose) → (elim p as (λ _. ControllerState) [ Make ↦ after_stop c j Free (Overtaken j.slot (Reset epoch)) | Restore ↦ record c { current = Asking j Begin } | Break ↦ after_stop c j Free (Overtaken j.slot (Reset epoch)) ]).waiting ≡ c.waiting
+interrupted_waiting : (epoch : ℕ) (c : ControllerState) (j : Job) (p : Purpose)
+    → (elim p as (λ _. ControllerState) [
+      | Make ↦ after_stop c j Free (Overtaken j.slot (Reset epoch))
+      | Restore ↦ record c { current = Asking j Begin }
+      | Break ↦ after_stop c j Free
+          (Overtaken j.slot (Reset epoch))
+    ]).waiting ≡ c.waiting
 interrupted_waiting epoch c j Make = refl
 interrupted_waiting epoch c j Restore = refl
 interrupted_waiting epoch c j Break = refl
@@ -241,7 +255,8 @@ lost_reset_waiting epoch c (Asking j t) = interrupted_waiting epoch c j j.purpos
 lost_reset_waiting epoch c (Hearing j t) = interrupted_waiting epoch c j j.purpose
 lost_reset_waiting epoch c (Overtaken i o) = refl
 
-pub is_slots_reset : (r : ControllerState) (ss us : List Slot) (ts : List Task) (cur : Current) → us ≡ map slot_reset ss → ss ≡ r.slots → ts ≡ r.waiting → cur ≡ r.current → record { slots = us; waiting = ts; current = cur } ≡ slots_reset r
+pub is_slots_reset : (r : ControllerState) (ss us : List Slot) (ts : List Task) (cur : Current) → us ≡ map slot_reset ss → ss ≡ r.slots → ts ≡ r.waiting → cur ≡ r.current
+    → record { slots = us; waiting = ts; current = cur } ≡ slots_reset r
 is_slots_reset r ss us ts cur a b d e = cc
 
 pub state_reset_fits : (epoch : ℕ) (lost : Bool) (c : ControllerState) → Fits c → Fits (state_reset epoch lost c)

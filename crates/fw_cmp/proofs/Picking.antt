@@ -1,6 +1,9 @@
 -- Which job becomes current keeps what a controller keeps at all times.
-use Rattle.std.proofs.Common.{◌≡◌, ℕ, ◌+◌, ◌<◌, ◌≤◌, Bool, true, false, List, [], ◌∷◌, length, get_or, take, drop, refl, ap, sym, ◌∙◌, arith, Option, Some, None, ◌⊎◌, inl, inr, suc}
-use Rattle.std.specs.Prelude.{⊤, All, slice_get, nat_lt, position, if◌then◌else◌}
+use Rattle.fw_cmp.proofs.Common.{◌≡◌, ℕ, ◌+◌, ◌<◌, ◌≤◌, Bool, true, false, List, [], ◌∷◌, length, get_or, take, refl, ap, sym, ◌∙◌, arith, Option, Some, None, ◌⊎◌, inl, inr, ⊤, if◌then◌else◌}
+use Rattle.fw_cmp.proofs.Common.{find_to_is, IsFirst, Slot, Free, Making, Standing, Restoring, Gone, Current, Nothing, Asking, Hearing, Overtaken, Task, Directory, ControllerState, slot_at}
+use Rattle.fw_cmp.proofs.Common.{is_restoring, count_of, breaks_waiting, job_for, SlotHasJobs, CurrentFits, Fits, SlotFits, CurrentReached, CanGoOn, current_for, is_empty, picked}
+use Rattle.std.proofs.Common.{drop, suc}
+use Rattle.std.specs.Prelude.{All, slice_get, nat_lt, position}
 use Rattle.std.specs.List.{remove}
 use Rattle.std.proofs.lemmas.Bool.{cases_lt}
 use Rattle.std.proofs.lemmas.List.{get_or_past}
@@ -8,17 +11,8 @@ use Rattle.std.proofs.lemmas.List.Elements.{All-get_or, All-append, All-take, Al
 use Rattle.std.proofs.lemmas.List.Edits.{length-remove}
 use Rattle.std.proofs.lemmas.List.Quantifiers.{position-Some}
 use Rattle.std.proofs.lemmas.Option.{slice_get-get_or}
-use Rattle.fw_base.proofs.Tables.{find_to_is, IsFirst}
-use Rattle.fw_cmp.specs.declared.connection.Slot.{Slot}
-use Rattle.fw_cmp.specs.declared.connection.Slot.TheVariants.{Free, Making, Standing, Restoring, Gone}
-use Rattle.fw_cmp.specs.declared.current.Current.{Current}
-use Rattle.fw_cmp.specs.declared.current.Current.TheVariants.{Nothing, Asking, Hearing, Overtaken}
-use Rattle.fw_cmp.specs.declared.current.Task.{Task}
-use Rattle.fw_cmp.specs.declared.directory.Directory.{Directory}
-use Rattle.fw_cmp.specs.Controllers.{ControllerState, slot_at, is_restoring, count_of, makes_slot, breaks_slot, makes_waiting, breaks_waiting, job_for, SlotHasJobs, CurrentFits, Fits}
-use Rattle.fw_cmp.specs.Fits.{SlotFits}
-use Rattle.fw_cmp.specs.Holdings.{CurrentReached, CanGoOn}
-use Rattle.fw_cmp.specs.Jobs.{current_for, takes_slot, takes_task, slot_of_task, to_restore, waiting_break, is_break, is_empty, takes_making, takes_waiting, takes_next, picked}
+use Rattle.fw_cmp.specs.Controllers.{makes_slot, breaks_slot, makes_waiting}
+use Rattle.fw_cmp.specs.Jobs.{takes_slot, takes_task, slot_of_task, to_restore, waiting_break, is_break, takes_making, takes_waiting, takes_next}
 use Rattle.fw_cmp.proofs.Jobs.{makes_removed, breaks_removed, same_count}
 
 -- a slot has what a task of it is for
@@ -32,7 +26,8 @@ abbrev pub task_of : ℕ → Bool → Task
 task_of i b = record { slot = i; breaks = b }
 
 -- a slot of which a job waits has what that is for
-pub suits : (b : Bool) (i : ℕ) (ts : List Task) (s : Slot) → count_of (makes_slot i (task_of i b)) ≤ makes_waiting ts i → count_of (breaks_slot i (task_of i b)) ≤ breaks_waiting ts i → is_restoring s ≡ false → SlotHasJobs ts Nothing i s → Suits b s
+pub suits : (b : Bool) (i : ℕ) (ts : List Task) (s : Slot) → count_of (makes_slot i (task_of i b)) ≤ makes_waiting ts i → count_of (breaks_slot i (task_of i b)) ≤ breaks_waiting ts i
+    → is_restoring s ≡ false → SlotHasJobs ts Nothing i s → Suits b s
 suits false i ts (Making conn asked overhead) m b r h = tt
 suits false i ts Free m b r h = absurd (omega (arith, same_count i, h.makes))
 suits false i ts (Standing conn f) m b r h = absurd (omega (arith, same_count i, h.makes))
@@ -45,7 +40,8 @@ suits true i ts (Restoring conn f over) m b r h = cc
 suits true i ts (Gone conn) m b r h = tt
 
 -- the job of a task that was taken is current
-pub task_taken : (b : Bool) (i k : ℕ) (ts us : List Task) (s sk : Slot) → makes_waiting us k + count_of (makes_slot k (task_of i b)) ≡ makes_waiting ts k → breaks_waiting us k + count_of (breaks_slot k (task_of i b)) ≡ breaks_waiting ts k → Suits b s → SlotHasJobs ts Nothing k sk → SlotHasJobs us (current_for i s) k sk
+pub task_taken : (b : Bool) (i k : ℕ) (ts us : List Task) (s sk : Slot) → makes_waiting us k + count_of (makes_slot k (task_of i b)) ≡ makes_waiting ts k
+    → breaks_waiting us k + count_of (breaks_slot k (task_of i b)) ≡ breaks_waiting ts k → Suits b s → SlotHasJobs ts Nothing k sk → SlotHasJobs us (current_for i s) k sk
 task_taken false i k ts us (Making conn asked overhead) sk m b h old = record { makes = omega (arith, old.makes); breaks = omega (arith, old.breaks); gone = omega (arith, old.gone) }
 task_taken true i k ts us (Standing conn f) sk m b h old = record { makes = omega (arith, old.makes); breaks = omega (arith, old.breaks); gone = omega (arith, old.gone) }
 task_taken true i k ts us (Gone conn) sk m b h old = record { makes = omega (arith, old.makes); breaks = omega (arith, old.breaks); gone = omega (arith, old.gone) }
@@ -70,7 +66,11 @@ pub current_fits : (c : ControllerState) (i : ℕ) (s : Slot) → i < 32 → slo
 current_fits c i Free lt e h = tt
 current_fits c i (Making conn asked overhead) lt e h = record { of_slot = ap (job_for i) e; job = record { slot = lt; connection = h.0; asked = h.1; overhead = h.2; units = tt }; stage = tt }
 current_fits c i (Standing conn f) lt e h = record { of_slot = ap (job_for i) e; job = record { slot = lt; connection = h.0; asked = tt; overhead = omega arith; units = tt }; stage = tt }
-current_fits c i (Restoring conn f over) lt e h = record { of_slot = ap (job_for i) e; job = record { slot = lt; connection = h.0; asked = h.1.channel; overhead = h.1.overhead; units = h.1.units }; stage = tt }
+current_fits c i (Restoring conn f over) lt e h = record {
+  of_slot = ap (job_for i) e;
+  job = record { slot = lt; connection = h.0; asked = h.1.channel; overhead = h.1.overhead; units = h.1.units };
+  stage = tt;
+}
 current_fits c i (Gone conn) lt e h = record { of_slot = ap (job_for i) e; job = record { slot = lt; connection = h; asked = tt; overhead = omega arith; units = tt }; stage = tt }
 
 -- ---- the next job
@@ -126,7 +126,8 @@ making_taken_fits now d ss (t ∷ ts) h none = go (nat_lt now d.over_at)
     go true = h
     go false = task_taken_fits ss (t ∷ ts) 0 h (omega arith) none
 
-waiting_taken_fits : (now : ℕ) (d : Directory) (ss : List Slot) (ts : List Task) (o : Option ℕ) → position is_break ts ≡ o → Fits (at_rest ss ts) → NoneToRestore ss → Fits (takes_waiting o now d (at_rest ss ts))
+waiting_taken_fits : (now : ℕ) (d : Directory) (ss : List Slot) (ts : List Task) (o : Option ℕ) → position is_break ts ≡ o → Fits (at_rest ss ts) → NoneToRestore ss
+    → Fits (takes_waiting o now d (at_rest ss ts))
 waiting_taken_fits now d ss ts (Some k) e h none = task_taken_fits ss ts k h (position-Some is_break ts k (task_of 0 false) e).0 none
 waiting_taken_fits now d ss ts None e h none = making_taken_fits now d ss ts h none
 
@@ -137,11 +138,13 @@ none_to_restore ss len first i = go (cases_lt i 32)
     go (inl lt) = first i lt
     go (inr le) = ap is_restoring (get_or_past ss i Free (omega (arith, len)))
 
-next_taken_fits : (now : ℕ) (d : Directory) (ss : List Slot) (ts : List Task) (o : Option ℕ) → IsFirst 32 (λ i. is_restoring (get_or ss i Free)) o → Fits (at_rest ss ts) → Fits (takes_next o now d (at_rest ss ts))
+next_taken_fits : (now : ℕ) (d : Directory) (ss : List Slot) (ts : List Task) (o : Option ℕ) → IsFirst 32 (λ i. is_restoring (get_or ss i Free)) o → Fits (at_rest ss ts)
+    → Fits (takes_next o now d (at_rest ss ts))
 next_taken_fits now d ss ts (Some i) first h = slot_taken_fits ss ts i h first.0 first.1
 next_taken_fits now d ss ts None first h = waiting_taken_fits now d ss ts (position is_break ts) refl h (none_to_restore ss h.slots first)
 
-picked_from : (now : ℕ) (d : Directory) (ss : List Slot) (ts : List Task) (cur : Current) → Fits (record { slots = ss; waiting = ts; current = cur }) → Fits (picked now d (record { slots = ss; waiting = ts; current = cur }))
+picked_from : (now : ℕ) (d : Directory) (ss : List Slot) (ts : List Task) (cur : Current) → Fits (record { slots = ss; waiting = ts; current = cur })
+    → Fits (picked now d (record { slots = ss; waiting = ts; current = cur }))
 picked_from now d ss ts Nothing h = next_taken_fits now d ss ts (to_restore (at_rest ss ts)) (find_to_is 32 (λ i. is_restoring (get_or ss i Free))) h
 picked_from now d ss ts (Asking j s) h = h
 picked_from now d ss ts (Hearing j s) h = h
@@ -177,7 +180,8 @@ picked_slots now d c = picked_slots_from now d c.slots c.waiting c.current
 -- ---- where requests go
 
 -- what holds of the job of each slot, and of what a controller is at, holds of what it is at after the pick
-waiting_taken_holds : (P : Current → Type 0) → ((i : ℕ) (s : Slot) → P (current_for i s)) → (o : Option ℕ) (now : ℕ) (d : Directory) (ss : List Slot) (ts : List Task) → P Nothing → P (takes_waiting o now d (at_rest ss ts)).current
+waiting_taken_holds : (P : Current → Type 0) → ((i : ℕ) (s : Slot) → P (current_for i s)) → (o : Option ℕ) (now : ℕ) (d : Directory) (ss : List Slot) (ts : List Task) → P Nothing
+    → P (takes_waiting o now d (at_rest ss ts)).current
 waiting_taken_holds P each (Some k) now d ss ts h = each (slot_of_task (slice_get ts k)) (get_or ss (slot_of_task (slice_get ts k)) Free)
 waiting_taken_holds P each None now d ss ts h = go (is_empty ts) (nat_lt now d.over_at)
   where
@@ -186,11 +190,13 @@ waiting_taken_holds P each None now d ss ts h = go (is_empty ts) (nat_lt now d.o
     go false true = h
     go false false = each (slot_of_task (slice_get ts 0)) (get_or ss (slot_of_task (slice_get ts 0)) Free)
 
-next_taken_holds : (P : Current → Type 0) → ((i : ℕ) (s : Slot) → P (current_for i s)) → (o : Option ℕ) (now : ℕ) (d : Directory) (ss : List Slot) (ts : List Task) → P Nothing → P (takes_next o now d (at_rest ss ts)).current
+next_taken_holds : (P : Current → Type 0) → ((i : ℕ) (s : Slot) → P (current_for i s)) → (o : Option ℕ) (now : ℕ) (d : Directory) (ss : List Slot) (ts : List Task) → P Nothing
+    → P (takes_next o now d (at_rest ss ts)).current
 next_taken_holds P each (Some i) now d ss ts h = each i (get_or ss i Free)
 next_taken_holds P each None now d ss ts h = waiting_taken_holds P each (position is_break ts) now d ss ts h
 
-pub picked_holds : (P : Current → Type 0) → ((i : ℕ) (s : Slot) → P (current_for i s)) → (now : ℕ) (d : Directory) (ss : List Slot) (ts : List Task) (cur : Current) → P cur → P (picked now d (record { slots = ss; waiting = ts; current = cur })).current
+pub picked_holds : (P : Current → Type 0) → ((i : ℕ) (s : Slot) → P (current_for i s)) → (now : ℕ) (d : Directory) (ss : List Slot) (ts : List Task) (cur : Current) → P cur
+    → P (picked now d (record { slots = ss; waiting = ts; current = cur })).current
 picked_holds P each now d ss ts Nothing h = next_taken_holds P each (to_restore (at_rest ss ts)) now d ss ts h
 picked_holds P each now d ss ts (Asking j s) h = h
 picked_holds P each now d ss ts (Hearing j s) h = h

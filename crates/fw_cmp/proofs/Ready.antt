@@ -1,13 +1,6 @@
 -- The controller with its current job, as it is picked.
-use Rattle.std.proofs.Common.{◌≡◌, ℕ, List, [], refl, ap, sym}
-use Rattle.fw_cmp.specs.declared.connection.Slot.{Slot}
-use Rattle.fw_cmp.specs.declared.current.Current.{Current}
-use Rattle.fw_cmp.specs.declared.current.Current.TheVariants.{Nothing, Asking, Hearing, Overtaken}
-use Rattle.fw_cmp.specs.declared.current.Task.{Task}
-use Rattle.fw_cmp.specs.declared.directory.Directory.{Directory}
-use Rattle.fw_cmp.specs.Controllers.{ControllerState, Fits}
-use Rattle.fw_cmp.specs.Holdings.{CurrentReached, CanGoOn}
-use Rattle.fw_cmp.specs.Jobs.{resumed_current, picked, ready}
+use Rattle.fw_cmp.proofs.Common.{◌≡◌, ℕ, List, [], refl, ap, sym, Slot, Current, Nothing, Asking, Hearing, Overtaken, Task, Directory, ControllerState, Fits, CurrentReached, CanGoOn, resumed_current}
+use Rattle.fw_cmp.proofs.Common.{picked, ready}
 use Rattle.fw_cmp.proofs.Picking.{picked_fits, picked_slots, picked_goes_on}
 use Rattle.fw_cmp.proofs.Going.{going_reached}
 
@@ -25,7 +18,8 @@ same_state : (p : ControllerState) (ss : List Slot) (ts : List Task) (cur : Curr
 same_state p ss ts cur a b e = λ i. record { slots = a i; waiting = b i; current = e i }
 
 -- what is picked, by its parts
-pub is_picked : (now : ℕ) (d : Directory) (c : ControllerState) (ts : List Task) (cur : Current) → cur ≡ (picked now d c).current → ts ≡ (picked now d c).waiting → record { slots = c.slots; waiting = ts; current = cur } ≡ picked now d c
+pub is_picked : (now : ℕ) (d : Directory) (c : ControllerState) (ts : List Task) (cur : Current) → cur ≡ (picked now d c).current → ts ≡ (picked now d c).waiting
+    → record { slots = c.slots; waiting = ts; current = cur } ≡ picked now d c
 is_picked now d c ts cur current waiting = same_state (picked now d c) c.slots ts cur (sym (picked_slots now d c)) waiting current
 
 pub ready_reached : (now : ℕ) (d : Directory) (c : ControllerState) → Fits c → CanGoOn d c → CurrentReached d (ready now d c).current

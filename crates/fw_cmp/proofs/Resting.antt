@@ -1,20 +1,13 @@
--- A controller has nothing to do exactly where it has no job, none waits and no connection is to be restored; and it waits
--- exactly where the end of the reclaim second holds a new connection back.
-use Rattle.std.proofs.Common.{◌≡◌, ℕ, ◌<◌, Bool, true, false, not, ◌&&◌, ◌||◌, List, [], ◌∷◌, length, get_or, refl, ap, sym, subst, ◌∙◌, arith, Option, Some, None, is_some}
-use Rattle.std.specs.Prelude.{nat_lt, if◌then◌else◌}
-use Rattle.std.proofs.lemmas.Bool.Decides.{nat_tests}
-use Rattle.fw_base.proofs.Tables.{find_to_is, IsFirst}
-use Rattle.fw_cmp.specs.declared.connection.Slot.{Slot}
-use Rattle.fw_cmp.specs.declared.connection.Slot.TheVariants.{Free}
-use Rattle.fw_cmp.specs.declared.current.Current.{Current}
-use Rattle.fw_cmp.specs.declared.current.Current.TheVariants.{Nothing, Asking, Hearing, Overtaken}
-use Rattle.fw_cmp.specs.declared.current.Task.{Task}
-use Rattle.fw_cmp.specs.declared.directory.Directory.{Directory}
-use Rattle.fw_cmp.specs.declared.outcome.Next.TheVariants.{Idle, Waiting}
-use Rattle.fw_cmp.specs.Controllers.{ControllerState, is_restoring, IsHeard, Fits}
+-- A controller has nothing to do exactly if it has no job, none waits and no connection is to be restored; and it waits
+-- exactly if the end of the reclaim second holds a new connection back.
+use Rattle.fw_cmp.proofs.Common.{◌≡◌, ℕ, ◌<◌, Bool, true, false, not, ◌&&◌, ◌||◌, List, [], ◌∷◌, length, get_or, refl, ap, sym, subst, ◌∙◌, arith, Option, Some, None, if◌then◌else◌, nat_tests}
+use Rattle.fw_cmp.proofs.Common.{find_to_is, IsFirst, Slot, Free, Current, Nothing, Asking, Hearing, Overtaken, Task, Directory, Idle, Waiting, ControllerState, is_restoring, IsHeard, Fits, rests}
+use Rattle.fw_cmp.proofs.Common.{answer_of, next, after_answer, after_next, is_empty, going}
+use Rattle.std.proofs.Common.{is_some}
+use Rattle.std.specs.Prelude.{nat_lt}
 use Rattle.fw_cmp.specs.Causes.{HasNoJob, IsAtRest, IsHeldBack}
-use Rattle.fw_cmp.specs.Turns.{rests, answer_of, next, is_busy, after_answer, after_next}
-use Rattle.fw_cmp.specs.Jobs.{to_restore, waiting_break, is_empty, takes_task, takes_making, takes_waiting, takes_next, can_pick, going}
+use Rattle.fw_cmp.specs.Turns.{is_busy}
+use Rattle.fw_cmp.specs.Jobs.{to_restore, waiting_break, takes_task, takes_making, takes_waiting, takes_next, can_pick}
 use Rattle.fw_cmp.proofs.Busy.{rest_busy, job_busy}
 use Rattle.fw_cmp.proofs.Picking.{at_rest, none_to_restore}
 
@@ -29,7 +22,7 @@ nothing_of : (o : Option ℕ) → is_some o ≡ false → o ≡ None
 nothing_of None e = refl
 nothing_of (Some k) e = cc
 
--- what is left where nothing can be picked
+-- what is left if nothing can be picked
 pub record Unpicked (now : ℕ) (d : Directory) (ss : List Slot) (ts : List Task) : Type 0 where
   pub restoring : to_restore (at_rest ss ts) ≡ None
   pub breaks : waiting_break (at_rest ss ts) ≡ None
@@ -45,12 +38,13 @@ making_stays c true b e = refl
 making_stays c false true e = refl
 making_stays c false false e = cc
 
-next_stays : (now : ℕ) (d : Directory) (c : ControllerState) (o p : Option ℕ) → o ≡ None → p ≡ None → takes_making now d c ≡ c → takes_waiting p now d c ≡ c × takes_next o now d c ≡ takes_waiting (waiting_break c) now d c
+next_stays : (now : ℕ) (d : Directory) (c : ControllerState) (o p : Option ℕ) → o ≡ None → p ≡ None → takes_making now d c ≡ c → takes_waiting p now d c ≡ c
+    × takes_next o now d c ≡ takes_waiting (waiting_break c) now d c
 next_stays now d c None None a b e = (e, refl)
 next_stays now d c (Some i) p a b e = cc
 next_stays now d c None (Some k) a b e = cc
 
--- where nothing can be picked, the controller rests
+-- if nothing can be picked, the controller rests
 pub rests_next : (now : ℕ) (d : Directory) (ss : List Slot) (ts : List Task) → Unpicked now d ss ts → next now d (at_rest ss ts) ≡ rests d ts
 rests_next now d ss ts h =
     let c : ControllerState = at_rest ss ts in
@@ -62,11 +56,14 @@ record Rests (now : ℕ) (d : Directory) (c : ControllerState) : Type 0 where
   pub current : c.current ≡ Nothing
   pub unpicked : Unpicked now d c.slots c.waiting
 
-rests_from : (now : ℕ) (d : Directory) (ss : List Slot) (ts : List Task) (cur : Current) → Fits (record { slots = ss; waiting = ts; current = cur }) → IsHeard cur → is_busy (next now d (record { slots = ss; waiting = ts; current = cur })) ≡ false → Rests now d (record { slots = ss; waiting = ts; current = cur })
+rests_from : (now : ℕ) (d : Directory) (ss : List Slot) (ts : List Task) (cur : Current) → Fits (record { slots = ss; waiting = ts; current = cur }) → IsHeard cur
+    → is_busy (next now d (record { slots = ss; waiting = ts; current = cur })) ≡ false → Rests now d (record { slots = ss; waiting = ts; current = cur })
 rests_from now d ss ts Nothing h heard e = record { current = refl; unpicked = unpicked now d ss ts (sym (rest_busy now d ss ts h) ∙ e) }
-rests_from now d ss ts (Asking j s) h heard e = let busy : is_busy (next now d (record { slots = ss; waiting = ts; current = Asking j s })) ≡ true = job_busy now d ss ts (Asking j s) (λ x. cc) heard in cc
+rests_from now d ss ts (Asking j s) h heard e = let busy : is_busy (next now d (record { slots = ss; waiting = ts; current = Asking j s })) ≡ true =
+    job_busy now d ss ts (Asking j s) (λ x. cc) heard in cc
 rests_from now d ss ts (Hearing j s) h heard e = absurd heard
-rests_from now d ss ts (Overtaken i o) h heard e = let busy : is_busy (next now d (record { slots = ss; waiting = ts; current = Overtaken i o })) ≡ true = job_busy now d ss ts (Overtaken i o) (λ x. cc) heard in cc
+rests_from now d ss ts (Overtaken i o) h heard e = let busy : is_busy (next now d (record { slots = ss; waiting = ts; current = Overtaken i o })) ≡ true =
+    job_busy now d ss ts (Overtaken i o) (λ x. cc) heard in cc
 
 -- the same, of the controller as it rests
 rested : (now : ℕ) (d : Directory) (c : ControllerState) → Rests now d c → next now d c ≡ rests d c.waiting
@@ -75,7 +72,8 @@ rested now d c h = subst (λ (x : Current). next now d (record c { current = x }
 no_job : (now : ℕ) (d : Directory) (c : ControllerState) → Fits c → Rests now d c → HasNoJob c
 no_job now d c fits h = record {
   current = h.current;
-  restoring = none_to_restore c.slots fits.slots (subst (λ (o : Option ℕ). IsFirst 32 (λ i. is_restoring (get_or c.slots i Free)) o) h.unpicked.restoring (find_to_is 32 (λ i. is_restoring (get_or c.slots i Free))));
+  restoring = none_to_restore c.slots fits.slots (subst (λ (o : Option ℕ). IsFirst 32 (λ i. is_restoring (get_or c.slots i Free)) o) h.unpicked.restoring
+      (find_to_is 32 (λ i. is_restoring (get_or c.slots i Free))));
 }
 
 none_found : (ss : List Slot) (o : Option ℕ) → IsFirst 32 (λ i. is_restoring (get_or ss i Free)) o → ((i : ℕ) → is_restoring (get_or ss i Free) ≡ false) → o ≡ None
@@ -127,7 +125,11 @@ waits d (t ∷ ts) some = refl
 
 pub held_back_waits : (now : ℕ) (d : Directory) (c : ControllerState) → IsHeldBack now d c → next now d c ≡ Waiting d.over_at
 held_back_waits now d c h =
-    let none : Unpicked now d c.slots c.waiting = record { restoring = none_found c.slots (to_restore c) (find_to_is 32 (λ i. is_restoring (get_or c.slots i Free))) h.no_job.restoring; breaks = h.breaks; makings = late_makings now d.over_at c.waiting h.early } in
+    let none : Unpicked now d c.slots c.waiting = record {
+      restoring = none_found c.slots (to_restore c) (find_to_is 32 (λ i. is_restoring (get_or c.slots i Free))) h.no_job.restoring;
+      breaks = h.breaks;
+      makings = late_makings now d.over_at c.waiting h.early;
+    } in
     rested now d c (record { current = h.no_job.current; unpicked = none }) ∙ waits d c.waiting h.some
 
 -- ---- a turn that does nothing

@@ -1,15 +1,10 @@
--- That no slot is to be restored, where it is known, stays so as a slot changes.
-use Rattle.std.proofs.Common.{◌≡◌, ◌≢◌, ◌⊎◌, inl, inr, ℕ, ◌<◌, Bool, true, false, IsTrue, IsFalse, Option, Some, None, List, length, slice_index_or, slice_set, refl, ap, sym, subst, ◌∙◌}
+-- That no slot is to be restored, if it is known, stays so as a slot changes.
+use Rattle.fw_cmp.proofs.Common.{◌≡◌, ◌≢◌, ◌⊎◌, inl, inr, ℕ, ◌<◌, Bool, true, false, IsTrue, IsFalse, Option, Some, None, List, length, refl, ap, sym, subst, ◌∙◌, cases_eq, false≢true, find_to}
+use Rattle.fw_cmp.proofs.Common.{find_to_is, IsFirst, Slot, Free, Making, Standing, Restoring, Gone, is_restoring, IsMaking}
+use Rattle.std.proofs.Common.{slice_index_or, slice_set}
 use Rattle.std.specs.Prelude.{is_some, not}
-use Rattle.std.proofs.lemmas.Bool.{cases_eq, false≢true}
 use Rattle.std.proofs.lemmas.List.{get_or-set_same, get_or-set_other}
-use Rattle.fw_base.specs.Tables.{find_to}
-use Rattle.fw_base.proofs.Tables.{find_to_is, IsFirst}
-use Rattle.fw_cmp.specs.declared.connection.Slot.{Slot}
-use Rattle.fw_cmp.specs.declared.connection.Slot.TheVariants.{Free, Making, Standing, Restoring, Gone}
-use Rattle.fw_cmp.specs.Controllers.{is_restoring}
 use Rattle.fw_cmp.specs.Known.{NoneToRestore}
-use Rattle.fw_cmp.specs.Starts.{IsMaking}
 use Rattle.fw_cmp.proofs.Picking.{none_to_restore}
 
 abbrev restores_at : List Slot → ℕ → Bool
@@ -19,11 +14,11 @@ none_of : (n : ℕ) (test : ℕ → Bool) (o : Option ℕ) → IsFirst n test o 
 none_of n test None first h = refl
 none_of n test (Some k) first h = absurd (false≢true (sym (h k) ∙ first.1))
 
--- where it is known that none is, none is found
+-- if it is known that none is, none is found
 pub none_found : (ss : List Slot) → NoneToRestore true ss → None ≡ find_to 32 (restores_at ss)
 none_found ss h = sym (none_of 32 (restores_at ss) (find_to 32 (restores_at ss)) (find_to_is 32 (restores_at ss)) (h refl))
 
--- where none is found, none is
+-- if none is found, none is
 pub found_none : (b : Bool) (ss : List Slot) (o : Option ℕ) → length ss ≡ 32 → o ≡ find_to 32 (restores_at ss) → is_some o ≡ not b → NoneToRestore b ss
 found_none b ss None len e is = λ on. none_to_restore ss len (first None e)
   where

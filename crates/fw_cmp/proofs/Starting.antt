@@ -1,14 +1,12 @@
 -- A start is refused by the rules, and a new connection takes the lowest free slot.
-use Rattle.std.proofs.Common.{◌≡◌, ℕ, zero, suc, ◌<◌, ◌≤◌, Bool, true, false, length, refl, ap, ◌∙◌, arith, Option, Some, None, Ok, Err}
-use Rattle.std.specs.Prelude.{if◌then◌else◌, Result}
-use Rattle.std.proofs.lemmas.Bool.Decides.{nat_tests}
-use Rattle.fw_base.specs.Tables.{find_to}
-use Rattle.fw_base.proofs.Tables.{find_to_is, IsFirst}
+use Rattle.fw_cmp.proofs.Common.{◌≡◌, ℕ, ◌<◌, ◌≤◌, Bool, true, false, length, refl, ap, ◌∙◌, arith, Option, Some, None, if◌then◌else◌, nat_tests, find_to, find_to_is, IsFirst, ControllerState}
+use Rattle.fw_cmp.proofs.Common.{slot_at, is_free, break_fault}
+use Rattle.std.proofs.Common.{zero, suc, Ok, Err}
+use Rattle.std.specs.Prelude.{Result}
 use Rattle.fw_cmp.specs.declared.outcome.StartFault.{StartFault}
 use Rattle.fw_cmp.specs.declared.outcome.StartFault.TheVariants.{TableFull, Busy, NoSuchConnection}
-use Rattle.fw_cmp.specs.Controllers.{ControllerState, slot_at, is_free}
 use Rattle.fw_cmp.specs.Refusals.{IsFull, HasFree, TakesSlot}
-use Rattle.fw_cmp.specs.Starts.{free_slot, is_crowded, start_at, start, can_break, break_fault, start_break}
+use Rattle.fw_cmp.specs.Starts.{free_slot, is_crowded, start_at, start, can_break, start_break}
 
 -- no place before the first one passes
 before_first : (n : ℕ) (test : ℕ → Bool) (k : ℕ) → find_to n test ≡ Some k → (j : ℕ) → j < k → test j ≡ false
@@ -16,7 +14,8 @@ unfolding find_to
 before_first zero test k e j lt = cc
 before_first (suc n) test k e j lt = step (before_first n test k) (find_to n test) refl (test n) refl e
   where
-    step : (find_to n test ≡ Some k → (i : ℕ) → i < k → test i ≡ false) → (o : Option ℕ) → find_to n test ≡ o → (b : Bool) → test n ≡ b → elim o as (λ _. Option ℕ) [ Some i ↦ Some i | None ↦ (if b then Some n else None) ] ≡ Some k → test j ≡ false
+    step : (find_to n test ≡ Some k → (i : ℕ) → i < k → test i ≡ false) → (o : Option ℕ) → find_to n test ≡ o → (b : Bool) → test n ≡ b
+        → elim o as (λ _. Option ℕ) [ Some i ↦ Some i | None ↦ (if b then Some n else None) ] ≡ Some k → test j ≡ false
     step below (Some i) f b t e = below (f ∙ e) j lt
     step below None f true t e = let none : IsFirst n test None = rw f at (find_to_is n test) in none j (let same : n ≡ k = cc in omega arith)
     step below None f false t e = cc
@@ -81,7 +80,8 @@ taken_slot c i e = taken_from c i (free_slot c) refl (find_to_is 32 (λ k. is_fr
 abbrev answer_by : Bool → Bool → Result (Unit {0}) StartFault
 answer_by b k = elim (if b then (if k then Some Busy else None) else Some NoSuchConnection) as (λ _. Result (Unit {0}) StartFault) [ None ↦ Ok tt | Some fault ↦ Err fault ]
 
-break_by : (b k : Bool) → elim (if b then (if k then Some Busy else None) else Some NoSuchConnection) as (λ _. Result (Unit {0}) StartFault) [ None ↦ Ok tt | Some fault ↦ Err fault ] ≡ Err NoSuchConnection → b ≡ false
+break_by : (b k : Bool) → elim (if b then (if k then Some Busy else None) else Some NoSuchConnection) as (λ _. Result (Unit {0}) StartFault) [ None ↦ Ok tt | Some fault ↦ Err fault ]
+    ≡ Err NoSuchConnection → b ≡ false
 break_by true true e = cc
 break_by true false e = cc
 break_by false k e = refl
@@ -92,7 +92,8 @@ no_connection_means c i e = break_by (can_break c i) (is_crowded c) e
 pub no_connection_refused : (c : ControllerState) (i : ℕ) → can_break c i ≡ false → start_break c i ≡ Err NoSuchConnection
 no_connection_refused c i e = ap (λ (b : Bool). answer_by b (is_crowded c)) e
 
-busy_by : (b k : Bool) → elim (if b then (if k then Some Busy else None) else Some NoSuchConnection) as (λ _. Result (Unit {0}) StartFault) [ None ↦ Ok tt | Some fault ↦ Err fault ] ≡ Err Busy → (b ≡ true) × (k ≡ true)
+busy_by : (b k : Bool) → elim (if b then (if k then Some Busy else None) else Some NoSuchConnection) as (λ _. Result (Unit {0}) StartFault) [ None ↦ Ok tt | Some fault ↦ Err fault ] ≡ Err Busy
+    → (b ≡ true) × (k ≡ true)
 busy_by true true e = (refl, refl)
 busy_by true false e = cc
 busy_by false k e = cc

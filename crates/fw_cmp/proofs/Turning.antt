@@ -1,16 +1,8 @@
 -- A job that has begun and is not late goes on from the stage at which it stands.
-use Rattle.std.proofs.Common.{◌≡◌, Bool, false, refl, ap, sym, ◌∙◌}
-use Rattle.std.specs.Prelude.{if◌then◌else◌}
-use Rattle.fw_cmp.specs.declared.connection.Slot.{Slot}
-use Rattle.fw_cmp.specs.declared.current.Current.{Current}
-use Rattle.fw_cmp.specs.declared.current.Current.TheVariants.{Asking}
-use Rattle.fw_cmp.specs.declared.directory.Directory.{Directory}
-use Rattle.fw_cmp.specs.declared.job.Job.{Job}
+use Rattle.fw_cmp.proofs.Common.{◌≡◌, Bool, false, refl, ap, sym, ◌∙◌, if◌then◌else◌, Slot, Current, Asking, Directory, Job, Stage, Begin, ReadOutput, ReadChannels, SwapChannels, ReadBandwidth}
+use Rattle.fw_cmp.proofs.Common.{SwapBandwidth, ConnectOutput, OverlayOutput, ReadInput, ConnectInput, ReadInputToLeave, LeaveInput, ReadOutputToLeave, LeaveOutput, ReadBandwidthToRelease}
+use Rattle.fw_cmp.proofs.Common.{RaiseBandwidth, ReadChannelsToRelease, RestoreChannel, Made, Ended, ControllerState, slot_at, is_late, begun, resumed, resumed_current, going}
 use Rattle.fw_cmp.specs.declared.job.Ending.TheVariants as ending
-use Rattle.fw_cmp.specs.declared.stage.Stage.{Stage}
-use Rattle.fw_cmp.specs.declared.stage.Stage.TheVariants.{Begin, ReadOutput, ReadChannels, SwapChannels, ReadBandwidth, SwapBandwidth, ConnectOutput, OverlayOutput, ReadInput, ConnectInput, ReadInputToLeave, LeaveInput, ReadOutputToLeave, LeaveOutput, ReadBandwidthToRelease, RaiseBandwidth, ReadChannelsToRelease, RestoreChannel, Made, Ended}
-use Rattle.fw_cmp.specs.Controllers.{ControllerState, slot_at}
-use Rattle.fw_cmp.specs.Jobs.{is_late, begun, resumed, resumed_current, going}
 
 begun_stays : (d : Directory) (s : Slot) (j : Job) (t : Stage) → (t ≡ Begin → ⊥) → begun d s j t ≡ t
 begun_stays d s j Begin ne = absurd (ne refl)

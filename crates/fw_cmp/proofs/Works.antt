@@ -1,16 +1,7 @@
 -- What a controller is at, and whether its request stands.
-use Rattle.std.proofs.Common.{◌≡◌, ℕ, Bool, true, false, IsTrue, IsFalse, List, refl}
-use Rattle.std.proofs.lemmas.Bool.{false≢true}
-use Rattle.fw_csr.specs.declared.reply.Reply.{Reply}
-use Rattle.fw_cmp.specs.declared.connection.Slot.{Slot}
-use Rattle.fw_cmp.specs.declared.current.Current.{Current}
-use Rattle.fw_cmp.specs.declared.current.Current.TheVariants.{Nothing, Asking, Hearing, Overtaken}
-use Rattle.fw_cmp.specs.declared.current.Task.{Task}
-use Rattle.fw_cmp.specs.declared.job.Job.{Job}
-use Rattle.fw_cmp.specs.declared.stage.Stage.{Stage}
-use Rattle.fw_cmp.specs.Controllers.{ControllerState, CurrentFits, Fits, IsHeard, IsStanding, SlotHasJobs, break_runs, slot_at}
-use Rattle.fw_cmp.specs.Resets.{after_hear, heard}
-use Rattle.fw_cmp.specs.Works.{CurrentRuns, IsAsking, MayStand, asked, shown}
+use Rattle.fw_cmp.proofs.Common.{◌≡◌, ℕ, Bool, true, false, IsTrue, IsFalse, List, refl, false≢true, Reply, Slot, Current, Nothing, Asking, Hearing, Overtaken, Task, Job, Stage, ControllerState}
+use Rattle.fw_cmp.proofs.Common.{CurrentFits, Fits, IsHeard, IsStanding, SlotHasJobs, break_runs, slot_at, after_hear, heard, asked}
+use Rattle.fw_cmp.specs.Works.{CurrentRuns, IsAsking, MayStand, shown}
 
 -- ---- what is kept, and what it is at
 
@@ -50,7 +41,7 @@ heard_shows true (Hearing j s) h = absurd h.heard
 heard_shows true (Overtaken i o) h = absurd (h.asking refl)
 heard_shows false x h = (λ e. h.heard, λ e. refl)
 
--- where no request stands, what is kept is what it is at
+-- if no request stands, what is kept is what it is at
 pub heard_kept : (b : Bool) (x : Current) → MayStand b x → IsHeard (shown b x) → x ≡ shown b x
 heard_kept true Nothing h e = refl
 heard_kept true (Asking j s) h e = absurd e
@@ -58,7 +49,7 @@ heard_kept true (Hearing j s) h e = refl
 heard_kept true (Overtaken i o) h e = refl
 heard_kept false x h e = refl
 
--- where a request stands, it went out from what is kept
+-- if a request stands, it went out from what is kept
 pub standing_kept : (b : Bool) (x : Current) → MayStand b x → IsStanding (shown b x) → IsAsking x × (asked x ≡ shown b x)
 standing_kept true x h e = (h.asking refl, refl)
 standing_kept false Nothing h e = absurd e

@@ -11,14 +11,15 @@ use Rattle.fw_cmp.specs.declared.job.Ending.TheVariants.{Broken, NoChannel, NoUn
 use Rattle.fw_cmp.specs.declared.job.Then.{Then}
 use Rattle.fw_cmp.specs.declared.job.Then.TheVariants.{EndsAs, Again}
 use Rattle.fw_cmp.specs.declared.stage.Stage.{Stage}
-use Rattle.fw_cmp.specs.declared.stage.Stage.TheVariants.{ReadOutput, ReadChannels, SwapChannels, ReadBandwidth, SwapBandwidth, ConnectOutput, OverlayOutput, ReadInput, ConnectInput, ReadInputToLeave, LeaveInput, ReadOutputToLeave, LeaveOutput, ReadBandwidthToRelease, RaiseBandwidth, ReadChannelsToRelease, RestoreChannel, Ended}
+use Rattle.fw_cmp.specs.declared.stage.Stage.TheVariants.{ReadOutput, ReadChannels, SwapChannels, ReadBandwidth, SwapBandwidth, ConnectOutput, OverlayOutput, ReadInput, ConnectInput, ReadInputToLeave}
+use Rattle.fw_cmp.specs.declared.stage.Stage.TheVariants.{LeaveInput, ReadOutputToLeave, LeaveOutput, ReadBandwidthToRelease, RaiseBandwidth, ReadChannelsToRelease, RestoreChannel, Ended}
 use Rattle.fw_cmp.specs.Connections.{kind_of, is_listen}
 use Rattle.fw_cmp.specs.Decisions.{restores, is_lost, needs}
 use Rattle.fw_cmp.specs.Plugs.{has_broadcast, counter_of, channel_of, is_full, half_of, is_bit, remainder_of}
 
 -- ---- how a job is to end, as far as it is decided
 
--- the end that a job comes to once what it holds is given back; none where it begins again
+-- the end that a job comes to once what it holds is given back; none if it begins again
 abbrev pub ending_of : Then → Option Ending
 ending_of (EndsAs e) = Some e
 ending_of Again = None

@@ -1,8 +1,8 @@
 -- A connection: its kind in the plug control registers (IEC 61883-1), and its plugs.
 use Rattle.std.specs.Prelude.{Bool, true, false, Option, Some, None}
-use Rattle.fw_base.specs.declared.plug.ConnectionKind.{ConnectionKind}
-use Rattle.fw_base.specs.declared.plug.ConnectionKind.TheVariants.{PointToPoint, Broadcast}
-use Rattle.fw_base.specs.declared.plug.PlugAt.{PlugAt}
+use Rattle.fw_terms.specs.declared.plug.ConnectionKind.{ConnectionKind}
+use Rattle.fw_terms.specs.declared.plug.ConnectionKind.TheVariants.{PointToPoint, Broadcast}
+use Rattle.fw_terms.specs.declared.plug.PlugAt.{PlugAt}
 use Rattle.fw_cmp.specs.declared.connection.Connection.{Connection}
 use Rattle.fw_cmp.specs.declared.connection.Connection.TheVariants.{PlugToPlug, BroadcastOut, BroadcastIn}
 

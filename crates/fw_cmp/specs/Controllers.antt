@@ -1,5 +1,6 @@
 -- A controller as contracts see it: its slots, the waiting jobs and the current one.
-use Rattle.std.specs.Prelude.{ℕ, ◌+◌, ◌<◌, ◌≤◌, ◌≡◌, ◌==◌, ◌&&◌, ◌||◌, not, if◌then◌else◌, Bool, true, false, Option, Some, None, List, [], length, slice_index_or, slice_set, sum_by, replicate, All, ⊤}
+use Rattle.std.specs.Prelude.{ℕ, ◌+◌, ◌<◌, ◌≤◌, ◌≡◌, ◌==◌, ◌&&◌, ◌||◌, not, if◌then◌else◌, Bool, true, false}
+use Rattle.std.specs.Prelude.{Option, Some, None, List, [], length, slice_index_or, slice_set, sum_by, replicate, All, ⊤}
 use Rattle.std.specs.List.{list_any}
 use Rattle.fw_cmp.specs.declared.connection.Connection.{Connection}
 use Rattle.fw_cmp.specs.declared.connection.Slot.{Slot}
@@ -93,7 +94,7 @@ restoring_job i conn f = record { slot = i; connection = conn; purpose = Restore
 abbrev pub breaking_job : ℕ → Connection → Job
 breaking_job i conn = record { slot = i; connection = conn; purpose = Break; asked = None; overhead = 0; units = None }
 
--- none where the slot is free
+-- none if the slot is free
 abbrev pub job_for : ℕ → Slot → Option Job
 job_for i Free = None
 job_for i (Making conn asked overhead) = Some (making_job i conn asked overhead)
@@ -141,8 +142,8 @@ break_runs (Asking j s) i = is_break_at j i
 break_runs (Hearing j s) i = is_break_at j i
 break_runs (Overtaken k o) i = false
 
--- A slot has exactly one job that makes its connection while that is being made, and at most one that breaks it, only where
--- there is a connection, and surely where it is gone.
+-- A slot has exactly one job that makes its connection while that is being made, and at most one that breaks it, only if
+-- there is a connection, and surely if it is gone.
 pub record SlotHasJobs (waiting : List Task) (current : Current) (i : ℕ) (s : Slot) : Type 0 where
   pub makes : makes_waiting waiting i + count_of (make_runs current i) ≡ count_of (is_making s)
   pub breaks : breaks_waiting waiting i + count_of (break_runs current i) ≤ count_of (is_breakable s || is_gone s)

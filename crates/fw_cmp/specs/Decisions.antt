@@ -1,6 +1,6 @@
 -- What a word that an answer shows means for a job: the decisions of a connection controller (IEC 61883-1, connection management).
 use Rattle.std.specs.Prelude.{ℕ, ◌+◌, ◌-◌, ◌==◌, nat_le, Bool, true, false, not, ◌&&◌, if◌then◌else◌, Option, Some, None}
-use Rattle.fw_base.specs.Tables.{find_to}
+use Rattle.fw_terms.specs.Tables.{find_to}
 use Rattle.fw_plug.specs.Words.{is_connected}
 use Rattle.fw_cmp.specs.declared.connection.Connection.{Connection}
 use Rattle.fw_cmp.specs.declared.connection.Flow.{Flow}
@@ -12,7 +12,8 @@ use Rattle.fw_cmp.specs.declared.job.Ending.TheVariants.{Broken, NoChannel, NoUn
 use Rattle.fw_cmp.specs.declared.job.Then.{Then}
 use Rattle.fw_cmp.specs.declared.job.Then.TheVariants.{EndsAs, Again}
 use Rattle.fw_cmp.specs.declared.stage.Stage.{Stage}
-use Rattle.fw_cmp.specs.declared.stage.Stage.TheVariants.{ReadOutput, ReadChannels, SwapChannels, SwapBandwidth, ConnectOutput, OverlayOutput, ReadInput, ConnectInput, LeaveInput, ReadOutputToLeave, LeaveOutput, ReadBandwidthToRelease, RaiseBandwidth, ReadChannelsToRelease, Made, Ended}
+use Rattle.fw_cmp.specs.declared.stage.Stage.TheVariants.{ReadOutput, ReadChannels, SwapChannels, SwapBandwidth, ConnectOutput, OverlayOutput, ReadInput, ConnectInput}
+use Rattle.fw_cmp.specs.declared.stage.Stage.TheVariants.{LeaveInput, ReadOutputToLeave, LeaveOutput, ReadBandwidthToRelease, RaiseBandwidth, ReadChannelsToRelease, Made, Ended}
 use Rattle.fw_cmp.specs.Connections.{kind_of, is_listen, is_point_to_point}
 use Rattle.fw_cmp.specs.Plugs.{has_broadcast, counter_of, channel_of, overhead_of, is_full, shows_connection, one_less, units_with, half_of, is_bit, remainder_of}
 
@@ -32,7 +33,7 @@ abbrev pub give_back : Option Held → Then → Stage
 give_back None next = goes_on next
 give_back (Some h) next = if h.units == 0 then ReadChannelsToRelease next h.channel else ReadBandwidthToRelease next h.channel h.units
 
--- where the connection stands at the output plug it is left first
+-- if the connection stands at the output plug it is left first
 abbrev pub leave_output : Connection → Ending → Flow → Stage
 leave_output conn e f = if is_listen conn then Ended e else ReadOutputToLeave e f.channel f.units
 
@@ -146,10 +147,10 @@ decide_leave_in j ch u v = if shows_connection (kind_of j.connection) v then Lea
 abbrev pub decide_leave_out : Job → Ending → ℕ → ℕ → ℕ → Stage
 decide_leave_out j e ch u v = if shows_connection (kind_of j.connection) v then LeaveOutput e ch u v else Ended e
 
--- where the plug's last connection was left, its units and its channel are given back
+-- if the plug's last connection was left, its units and its channel are given back
 abbrev pub output_left : Job → Ending → ℕ → ℕ → ℕ → Stage
 output_left j e ch u w = if is_connected (one_less (kind_of j.connection) w) then Ended e else ReadBandwidthToRelease (EndsAs e) ch u
 
--- units are given back only where the sum stays within those of the bus
+-- units are given back only if the sum stays within those of the bus
 abbrev pub decide_raise : Then → ℕ → ℕ → ℕ → Stage
 decide_raise next ch u v = if nat_le (u + remainder_of v) 4915 then RaiseBandwidth next ch u v else ReadChannelsToRelease next ch

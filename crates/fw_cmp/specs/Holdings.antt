@@ -1,9 +1,9 @@
 -- What a controller holds: channel and units of its current job, and its connections at plugs; and what it wants.
 use Rattle.std.specs.Prelude.{ℕ, ◌+◌, ◌==◌, ◌&&◌, not, Bool, true, false, Option, Some, None, ◌≡◌, ⊤, IsFalse, IsSome}
-use Rattle.fw_base.specs.Tables.{same_plug, sum_to}
-use Rattle.fw_base.specs.declared.plug.ConnectionKind.{ConnectionKind}
-use Rattle.fw_base.specs.declared.plug.ConnectionKind.TheVariants.{PointToPoint, Broadcast}
-use Rattle.fw_base.specs.declared.plug.PlugAt.{PlugAt}
+use Rattle.fw_terms.specs.Tables.{same_plug, sum_to}
+use Rattle.fw_terms.specs.declared.plug.ConnectionKind.{ConnectionKind}
+use Rattle.fw_terms.specs.declared.plug.ConnectionKind.TheVariants.{PointToPoint, Broadcast}
+use Rattle.fw_terms.specs.declared.plug.PlugAt.{PlugAt}
 use Rattle.fw_cmp.specs.declared.connection.Connection.{Connection}
 use Rattle.fw_cmp.specs.declared.connection.Flow.{Flow}
 use Rattle.fw_cmp.specs.declared.connection.Slot.{Slot}
@@ -14,7 +14,8 @@ use Rattle.fw_cmp.specs.declared.directory.Directory.{Directory}
 use Rattle.fw_cmp.specs.declared.job.Held.{Held}
 use Rattle.fw_cmp.specs.declared.job.Job.{Job}
 use Rattle.fw_cmp.specs.declared.stage.Stage.{Stage}
-use Rattle.fw_cmp.specs.declared.stage.Stage.TheVariants.{Begin, SwapChannels, ReadBandwidth, SwapBandwidth, ConnectOutput, ReadInput, ConnectInput, ReadInputToLeave, LeaveInput, ReadOutputToLeave, LeaveOutput, ReadBandwidthToRelease, RaiseBandwidth, ReadChannelsToRelease, RestoreChannel, Made, Ended}
+use Rattle.fw_cmp.specs.declared.stage.Stage.TheVariants.{Begin, SwapChannels, ReadBandwidth, SwapBandwidth, ConnectOutput, ReadInput, ConnectInput, ReadInputToLeave, LeaveInput}
+use Rattle.fw_cmp.specs.declared.stage.Stage.TheVariants.{ReadOutputToLeave, LeaveOutput, ReadBandwidthToRelease, RaiseBandwidth, ReadChannelsToRelease, RestoreChannel, Made, Ended}
 use Rattle.fw_cmp.specs.Connections.{kind_of, output_of, input_of, is_listen}
 use Rattle.fw_cmp.specs.Nodes.{node_of}
 use Rattle.fw_cmp.specs.Controllers.{ControllerState, slot_at, count_of}
@@ -48,7 +49,7 @@ addressed_by (Overtaken i o) = None
 
 -- ---- connections at plugs
 
--- the job's connection stands at its output plug, where it has one
+-- the job's connection stands at its output plug, if it has one
 abbrev pub is_at_output : Stage → Bool
 is_at_output (ReadInput f) = true
 is_at_output (ConnectInput f arg) = true
@@ -59,7 +60,7 @@ is_at_output (LeaveOutput e ch u arg) = true
 is_at_output (Made f) = true
 is_at_output _ = false
 
--- the job's connection stands at its input plug, where it has one
+-- the job's connection stands at its input plug, if it has one
 abbrev pub is_at_input : Stage → Bool
 is_at_input (ReadInputToLeave ch u) = true
 is_at_input (LeaveInput ch u arg) = true
@@ -119,14 +120,14 @@ job_outputs j s kind q = count_of (is_at_output s && has_output j.connection kin
 abbrev pub job_inputs : Job → Stage → ConnectionKind → PlugAt → ℕ
 job_inputs j s kind q = count_of (is_at_input s && has_input j.connection kind q)
 
--- how many connections the current job has at an output plug, 0 where there is none
+-- how many connections the current job has at an output plug, 0 if there is none
 abbrev pub current_outputs : Current → ConnectionKind → PlugAt → ℕ
 current_outputs Nothing kind q = 0
 current_outputs (Asking j s) kind q = job_outputs j s kind q
 current_outputs (Hearing j s) kind q = job_outputs j s kind q
 current_outputs (Overtaken i o) kind q = 0
 
--- how many connections the current job has at an input plug, 0 where there is none
+-- how many connections the current job has at an input plug, 0 if there is none
 abbrev pub current_inputs : Current → ConnectionKind → PlugAt → ℕ
 current_inputs Nothing kind q = 0
 current_inputs (Asking j s) kind q = job_inputs j s kind q

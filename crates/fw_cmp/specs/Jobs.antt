@@ -1,7 +1,7 @@
 -- Which job comes next, how it begins, and where a restoring comes too late.
 use Rattle.std.specs.Prelude.{ℕ, ◌&&◌, ◌||◌, nat_lt, not, is_some, slice_index_or, Bool, true, false, Option, Some, None, List, [], ◌∷◌, slice_get, remove, position, if◌then◌else◌}
-use Rattle.fw_base.specs.Tables.{find_to}
-use Rattle.fw_base.specs.declared.plug.PlugAt.{PlugAt}
+use Rattle.fw_terms.specs.Tables.{find_to}
+use Rattle.fw_terms.specs.declared.plug.PlugAt.{PlugAt}
 use Rattle.fw_cmp.specs.declared.connection.Connection.{Connection}
 use Rattle.fw_cmp.specs.declared.connection.Connection.TheVariants.{PlugToPlug, BroadcastOut, BroadcastIn}
 use Rattle.fw_cmp.specs.declared.connection.Flow.{Flow}
@@ -22,7 +22,7 @@ use Rattle.fw_cmp.specs.Nodes.{node_of}
 use Rattle.fw_cmp.specs.Controllers.{ControllerState, slot_at, is_restoring, job_for}
 
 -- ---- the order of jobs: connections to be restored, lowest slot first; then the first waiting break; then the first other
--- waiting job, where no reclaim second runs
+-- waiting job, if no reclaim second runs
 
 -- a job that has become current, at its beginning
 abbrev pub job_current : Option Job → Current
@@ -77,11 +77,11 @@ abbrev pub takes_next : Option ℕ → ℕ → Directory → ControllerState →
 takes_next (Some i) now d c = takes_slot c i
 takes_next None now d c = takes_waiting (waiting_break c) now d c
 
--- a job is to be had: a connection to be restored, a waiting break, or another waiting job where no reclaim second runs
+-- a job is to be had: a connection to be restored, a waiting break, or another waiting job if no reclaim second runs
 abbrev pub can_pick : ℕ → Directory → List Slot → List Task → Bool
 can_pick now d slots waiting = is_some (find_to 32 (λ i. is_restoring (slice_index_or slots i Free))) || is_some (position is_break waiting) || (not (is_empty waiting) && not (nat_lt now d.over_at))
 
--- the controller with a current job, where there is one to be had
+-- the controller with a current job, if there is one to be had
 abbrev pub picked : ℕ → Directory → ControllerState → ControllerState
 picked now d c = elim c.current [
   | Nothing ↦ takes_next (to_restore c) now d c
@@ -92,11 +92,11 @@ picked now d c = elim c.current [
 
 -- ---- how a job begins
 
--- the flow that a job asks for, channel 63 where it asks for none
+-- the flow that a job asks for, channel 63 if it asks for none
 abbrev pub own_flow : Job → Flow
 own_flow j = record { channel = channel_or j.asked 63; overhead = j.overhead; units = units_or j.units 0 }
 
--- the device of a plug, where it is not on the bus
+-- the device of a plug, if it is not on the bus
 abbrev pub without_node : Directory → Option PlugAt → Option ℕ
 without_node d None = None
 without_node d (Some p) = elim (node_of d p.device) [ None ↦ Some p.device | Some n ↦ None ]
@@ -105,7 +105,7 @@ without_node d (Some p) = elim (node_of d p.device) [ None ↦ Some p.device | S
 abbrev pub absent_of : Directory → Connection → Option ℕ
 absent_of d conn = elim (without_node d (output_of conn)) [ Some device ↦ Some device | None ↦ without_node d (input_of conn) ]
 
--- a job that needs the isochronous resource manager begins, or ends where the bus has none
+-- a job that needs the isochronous resource manager begins, or ends if the bus has none
 abbrev pub begin_managed : Option ℕ → Stage
 begin_managed None = Ended ending.NoManager
 begin_managed (Some n) = ReadOutput
@@ -175,6 +175,6 @@ resumed_current c d (Overtaken i o) = Overtaken i o
 abbrev pub going : Directory → ControllerState → ControllerState
 going d c = record c { current = resumed_current c d c.current }
 
--- the controller as it takes its turn: with a job, where one is to be had, at the stage from which it goes on
+-- the controller as it takes its turn: with a job, if one is to be had, at the stage from which it goes on
 abbrev pub ready : ℕ → Directory → ControllerState → ControllerState
 ready now d c = going d (picked now d c)

@@ -4,6 +4,6 @@ use Rattle.fw_cmp.specs.declared.connection.Slot.{Slot}
 use Rattle.fw_cmp.specs.declared.connection.Slot.TheVariants.{Free}
 use Rattle.fw_cmp.specs.Controllers.{is_restoring}
 
--- no slot is to be restored, where that is known
+-- no slot is to be restored, if that is known
 abbrev pub NoneToRestore : Bool → List Slot → Type 0
 NoneToRestore known slots = IsTrue known → (i : ℕ) → IsFalse (is_restoring (slice_index_or slots i Free))

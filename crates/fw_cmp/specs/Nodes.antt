@@ -2,12 +2,12 @@
 use Rattle.std.specs.Prelude.{ℕ, ◌<◌, Option, Some, None, slice_get, IfSome}
 use Rattle.fw_cmp.specs.declared.directory.Directory.{Directory}
 
--- a number, where there is one inside and outside
+-- a number, if there is one inside and outside
 abbrev pub joined : Option (Option ℕ) → Option ℕ
 joined None = None
 joined (Some n) = n
 
--- the node number of a device; none where it is not on the bus with its link
+-- the node number of a device; none if it is not on the bus with its link
 abbrev pub node_of : Directory → ℕ → Option ℕ
 node_of d device = joined (slice_get d.node device)
 

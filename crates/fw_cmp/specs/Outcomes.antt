@@ -29,7 +29,7 @@ IsMadeOn (Made f) ch = f.channel ≡ ch
 IsMadeOn _ ch = ⊥
 
 -- A job at a stage ends so in this cycle: its last swap succeeded, answers that it heard have decided it, or as it begins the
--- directory or its slot decide it; a restoring ends late where answers say so, or its slot's own second is over.
+-- directory or its slot decide it; a restoring ends late if answers say so, or its slot's own second is over.
 abbrev pub EndsBy : ℕ → Directory → Slot → Job → Stage → Outcome → Type 0
 EndsBy now d slot j s (Connected ch) = (restores j ≡ false) × IsMadeOn s ch
 EndsBy now d slot j s Broken = (s ≡ Ended ending.Broken) ⊎ ((s ≡ Begin) × (j.purpose ≡ Break) × (is_standing slot ≡ false))
@@ -54,7 +54,7 @@ pub record JobEnds (now : ℕ) (d : Directory) (c : ControllerState) (slot : ℕ
 abbrev pub Ends : ℕ → Directory → ControllerState → ℕ → Outcome → Type 0
 Ends now d c slot o = (c.current ≡ Overtaken slot o) ⊎ ((j : Job) × ((s : Stage) × JobEnds now d c slot o j s))
 
--- where a turn ends a job, the job ends with that outcome
+-- if a turn ends a job, the job ends with that outcome
 abbrev pub EndsWithCause : ℕ → Directory → ControllerState → Next → Type 0
 EndsWithCause now d c (End slot o) = Ends now d c slot o
 EndsWithCause now d c _ = ⊤

@@ -11,7 +11,9 @@ use Rattle.fw_cmp.specs.declared.request.Target.{Target}
 use Rattle.fw_cmp.specs.declared.request.Target.TheVariants.{OutputPlug, InputPlug, Channels, BandwidthAvailable}
 use Rattle.fw_cmp.specs.declared.request.Access.{Access}
 use Rattle.fw_cmp.specs.declared.stage.Stage.{Stage}
-use Rattle.fw_cmp.specs.declared.stage.Stage.TheVariants.{Begin, ReadOutput, ReadChannels, SwapChannels, ReadBandwidth, SwapBandwidth, ConnectOutput, OverlayOutput, ReadInput, ConnectInput, ReadInputToLeave, LeaveInput, ReadOutputToLeave, LeaveOutput, ReadBandwidthToRelease, RaiseBandwidth, ReadChannelsToRelease, RestoreChannel, Made, Ended}
+use Rattle.fw_cmp.specs.declared.stage.Stage.TheVariants.{Begin, ReadOutput, ReadChannels, SwapChannels, ReadBandwidth, SwapBandwidth, ConnectOutput}
+use Rattle.fw_cmp.specs.declared.stage.Stage.TheVariants.{OverlayOutput, ReadInput, ConnectInput, ReadInputToLeave, LeaveInput, ReadOutputToLeave, LeaveOutput}
+use Rattle.fw_cmp.specs.declared.stage.Stage.TheVariants.{ReadBandwidthToRelease, RaiseBandwidth, ReadChannelsToRelease, RestoreChannel, Made, Ended}
 use Rattle.fw_cmp.specs.declared.current.Current.{Current}
 use Rattle.fw_cmp.specs.declared.current.Current.TheVariants.{Nothing, Asking, Hearing, Overtaken}
 use Rattle.fw_cmp.specs.declared.directory.Directory.{Directory}
@@ -21,15 +23,15 @@ use Rattle.fw_cmp.specs.Nodes.{node_of}
 
 -- ---- the register
 
--- the oPCR of the job's connection, where it has an output plug
+-- the oPCR of the job's connection, if it has an output plug
 abbrev pub output_target : Job → Option Target
 output_target j = option_map OutputPlug (output_of j.connection)
 
--- the iPCR of the job's connection, where it has an input plug
+-- the iPCR of the job's connection, if it has an input plug
 abbrev pub input_target : Job → Option Target
 input_target j = option_map InputPlug (input_of j.connection)
 
--- the register of a stage's request; none where the stage makes none
+-- the register of a stage's request; none if the stage makes none
 abbrev pub target_of : Job → Stage → Option Target
 target_of j Begin = None
 target_of j ReadOutput = output_target j
@@ -66,7 +68,7 @@ input_word j ch arg = one_more (kind_of j.connection) (if is_connected arg then 
 abbrev pub swapping : ℕ → ℕ → Option Swap
 swapping arg new = Some (record { argument = arg; new = new })
 
--- the swap of a stage, where it makes one
+-- the swap of a stage, if it makes one
 abbrev pub swap_of : Job → Stage → Option Swap
 swap_of j (SwapChannels ch arg w) = swapping arg (without_bit arg (ch - half_of ch))
 swap_of j (SwapBandwidth ch u arg w) = swapping arg (arg - u)
@@ -83,7 +85,7 @@ swap_of j _ = None
 abbrev pub access_at : Option Swap → Target → Access
 access_at s t = record { target = t; swap = s }
 
--- the access of a stage: a read, or a swap; none where the stage makes no request
+-- the access of a stage: a read, or a swap; none if the stage makes no request
 abbrev pub access_of : Job → Stage → Option Access
 access_of j s = option_map (access_at (swap_of j s)) (target_of j s)
 
@@ -107,7 +109,7 @@ offset_of BandwidthAvailable = BANDWIDTH_AVAILABLE
 abbrev pub request_of : Access → Request
 request_of a = request_at (offset_of a.target) a.swap
 
--- the node that a request goes to: that of the plug's device, or the manager; none where the directory has none
+-- the node that a request goes to: that of the plug's device, or the manager; none if the directory has none
 abbrev pub addressee_of : Directory → Target → Option ℕ
 addressee_of d (OutputPlug p) = node_of d p.device
 addressee_of d (InputPlug p) = node_of d p.device

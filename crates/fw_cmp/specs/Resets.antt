@@ -74,7 +74,7 @@ slots_reset c = record c { slots = map slot_reset c.slots }
 abbrev pub after_reset : ℕ → ControllerState → ControllerState
 after_reset epoch c = slots_reset (current_reset epoch c c.current)
 
--- The same where the response to the request was lost: its job counts as one whose answer was not heard, so it is not decided.
+-- The same if the response to the request was lost: its job counts as one whose answer was not heard, so it is not decided.
 abbrev pub lost_reset : ℕ → ControllerState → Current → ControllerState
 lost_reset epoch c Nothing = c
 lost_reset epoch c (Asking j s) = interrupted epoch c j

@@ -4,11 +4,14 @@ use Rattle.fw_csr.specs.declared.reply.Reply.{Reply}
 use Rattle.fw_cmp.specs.declared.job.Job.{Job}
 use Rattle.fw_cmp.specs.declared.job.Ending.TheVariants.{NoPlug}
 use Rattle.fw_cmp.specs.declared.stage.Stage.{Stage}
-use Rattle.fw_cmp.specs.declared.stage.Stage.TheVariants.{Begin, ReadOutput, ReadChannels, SwapChannels, ReadBandwidth, SwapBandwidth, ConnectOutput, OverlayOutput, ReadInput, ConnectInput, ReadInputToLeave, LeaveInput, ReadOutputToLeave, LeaveOutput, ReadBandwidthToRelease, RaiseBandwidth, ReadChannelsToRelease, RestoreChannel, Made, Ended}
+use Rattle.fw_cmp.specs.declared.stage.Stage.TheVariants.{Begin, ReadOutput, ReadChannels, SwapChannels, ReadBandwidth, SwapBandwidth, ConnectOutput}
+use Rattle.fw_cmp.specs.declared.stage.Stage.TheVariants.{OverlayOutput, ReadInput, ConnectInput, ReadInputToLeave, LeaveInput, ReadOutputToLeave, LeaveOutput}
+use Rattle.fw_cmp.specs.declared.stage.Stage.TheVariants.{ReadBandwidthToRelease, RaiseBandwidth, ReadChannelsToRelease, RestoreChannel, Made, Ended}
 use Rattle.fw_cmp.specs.Plugs.{half_of}
-use Rattle.fw_cmp.specs.Decisions.{goes_on, leave_output, decide_out, decide_channel, decide_units, first_flow, overlaid_flow, output_joined, decide_in, input_left, decide_leave_in, decide_leave_out, output_left, decide_raise}
+use Rattle.fw_cmp.specs.Decisions.{goes_on, leave_output, decide_out, decide_channel, decide_units, first_flow, overlaid_flow}
+use Rattle.fw_cmp.specs.Decisions.{output_joined, decide_in, input_left, decide_leave_in, decide_leave_out, output_left, decide_raise}
 
--- The stage after a complete answer that shows the word v. A swap has succeeded exactly where v equals its argument.
+-- The stage after a complete answer that shows the word v. A swap has succeeded exactly if v equals its argument.
 abbrev pub hear : Job → Stage → ℕ → Stage
 hear j Begin v = Begin
 hear j ReadOutput v = decide_out j None v
@@ -31,7 +34,7 @@ hear j (RestoreChannel next ch arg) v = if v == arg then goes_on next else Resto
 hear j (Made f) v = Made f
 hear j (Ended e) v = Ended e
 
--- The stage after an answer that is not complete: the job ends, and leaves its output plug first where the input plug was
+-- The stage after an answer that is not complete: the job ends, and leaves its output plug first if the input plug was
 -- read to be joined.
 abbrev pub refuse : Job → Stage → ℕ → Stage
 refuse j (ReadInput f) rcode = leave_output j.connection (NoPlug rcode) f

@@ -1,7 +1,7 @@
 -- What starts a job: a new connection takes the lowest free slot, and waits; a break waits.
 use Rattle.std.specs.Prelude.{ℕ, ◌<◌, nat_le, ◌==◌, ◌&&◌, ◌||◌, not, ◌++◌, ◌∷◌, [], length, Bool, true, false, Option, Some, None, Result, Ok, Err, if◌then◌else◌, ⊤}
-use Rattle.fw_base.specs.Tables.{find_to}
-use Rattle.fw_base.specs.declared.plug.PlugAt.{PlugAt}
+use Rattle.fw_terms.specs.Tables.{find_to}
+use Rattle.fw_terms.specs.declared.plug.PlugAt.{PlugAt}
 use Rattle.fw_cmp.specs.declared.connection.Connection.TheVariants.{PlugToPlug, BroadcastOut, BroadcastIn}
 use Rattle.fw_cmp.specs.declared.connection.Slot.{Slot}
 use Rattle.fw_cmp.specs.declared.connection.Slot.TheVariants.{Making}
@@ -18,7 +18,7 @@ free_slot c = find_to 32 (λ i. is_free (slot_at c i))
 abbrev pub is_crowded : ControllerState → Bool
 is_crowded c = nat_le 8 (length c.waiting)
 
--- the controller with one job more that waits, behind the others
+-- the controller with one job more that waits, after the others
 abbrev pub with_task : ControllerState → Task → ControllerState
 with_task c t = record c { waiting = c.waiting ++ t ∷ [] }
 
@@ -59,7 +59,7 @@ IsMaking _ = ⊥
 abbrev pub start_own : ℕ → PlugAt → ControllerState → Result ℕ StartFault
 start_own own p c = if p.device == own then start c else Err NotOwnPlug
 
--- the controller after it: unchanged where it was refused
+-- the controller after it: unchanged if it was refused
 abbrev pub started : Result ℕ StartFault → Slot → ControllerState → ControllerState
 started (Ok i) s c = with_task (with_slot c i s) (record { slot = i; breaks = false })
 started (Err fault) s c = c
@@ -78,6 +78,6 @@ break_fault c i = if can_break c i then (if is_crowded c then Some Busy else Non
 abbrev pub start_break : ControllerState → ℕ → Result (Unit {0}) StartFault
 start_break c i = elim (break_fault c i) [ None ↦ Ok tt | Some fault ↦ Err fault ]
 
--- the controller after a break was asked for: unchanged where it was refused
+-- the controller after a break was asked for: unchanged if it was refused
 abbrev pub break_started : ControllerState → ℕ → ControllerState
 break_started c i = elim (break_fault c i) [ None ↦ with_task c (record { slot = i; breaks = true }) | Some fault ↦ c ]

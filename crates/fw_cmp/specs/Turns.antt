@@ -56,12 +56,12 @@ ended c j s = with_slot (record c { current = Nothing }) j.slot (slot_after c j 
 
 -- ---- the turn
 
--- a request without an addressee does not come about, where the directory is one at which the controller can go on
+-- a request without an addressee does not come about, if the directory is one at which the controller can go on
 abbrev pub sending : Option ℕ → Access → Next
 sending None a = Send 63 (request_of a)
 sending (Some to) a = Send to (request_of a)
 
--- a job sends the request of its stage, or ends where the stage makes none
+-- a job sends the request of its stage, or ends if the stage makes none
 abbrev pub asks_or_ends : ℕ → Directory → Job → Stage → Option Access → Next
 asks_or_ends now d j s None = End j.slot (outcome_of now j s)
 asks_or_ends now d j s (Some a) = sending (addressee_of d a.target) a

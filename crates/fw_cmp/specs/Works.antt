@@ -22,12 +22,12 @@ abbrev pub shown : Bool → Current → Current
 shown true x = asked x
 shown false x = x
 
--- what is kept is what it is at while no request stands, and one stands only where a job is at a stage
+-- what is kept is what it is at while no request stands, and one stands only if a job is at a stage
 pub record MayStand (stands : Bool) (x : Current) : Type 0 where
   pub heard : IsHeard x
   pub asking : IsTrue stands → IsAsking x
 
--- the job and the stage fit each other, where there is a job
+-- the job and the stage fit each other, if there is a job
 abbrev pub CurrentRuns : Current → Type 0
 CurrentRuns Nothing = ⊤
 CurrentRuns (Asking j s) = JobFits j × StageFits j s

@@ -90,7 +90,7 @@ impl Agenda {
         self.waiting.push(Task { slot, breaks: true });
     }
 
-    /// Why a break of the connection in this slot would be refused. None where it would not.
+    /// Why a break of the connection in this slot would be refused. None if it would not.
     pub fn check_break(&self, slot: u8) -> Option<StartFault>
         ensures { result ≡ break_fault self.now slot }
     {
@@ -152,7 +152,7 @@ impl Agenda {
         slots::reset(&mut self.slots);
     }
 
-    /// A bus reset that begins this epoch, where the response to the request was lost: no answer has decided the current job.
+    /// A bus reset that begins this epoch, if the response to the request was lost: no answer has decided the current job.
     pub fn reset_unheard(&mut self, epoch: u32)
         ensures state { self.new ≡ after_lost_reset epoch self.old }
         ensures fits { Fits self.new }

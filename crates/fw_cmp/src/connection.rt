@@ -2,7 +2,7 @@ ghost use Rattle.std.specs.Prelude.{◌≡◌};
 ghost use Rattle.fw_cmp.specs.Connections.{kind_of, output_of, input_of, is_listen, is_point_to_point};
 ghost use Rattle.fw_cmp.specs.Starts.{broadcast_slot, connect_slot, listen_slot};
 
-use fw_base::{ConnectionKind, PlugAt};
+use fw_terms::{ConnectionKind, PlugAt};
 
 /// The channel of a first broadcast connection (IEC 61883-1, broadcast channel base).
 const BROADCAST_CHANNEL: u8 = 63;
@@ -31,7 +31,7 @@ impl Connection {
         }
     }
 
-    /// Its output plug, where it has one.
+    /// Its output plug, if it has one.
     pub fn output(self) -> Option<PlugAt>
         ensures { result ≡ output_of self }
     {
@@ -43,7 +43,7 @@ impl Connection {
         }
     }
 
-    /// Its input plug, where it has one.
+    /// Its input plug, if it has one.
     pub fn input(self) -> Option<PlugAt>
         ensures { result ≡ input_of self }
     {

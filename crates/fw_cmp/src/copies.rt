@@ -7,8 +7,8 @@ use crate::controller::Controller;
 use crate::marks::{slot_mark, work_mark};
 use crate::work::Work;
 use crate::{Connection, Current, Job, Outcome, Slot, Stage, Task};
-use fw_base::PlugAt;
-use fw_parts::{Part, mixed};
+use fw_kept_parts::{Part, mixed};
+use fw_terms::PlugAt;
 use std::alloc::{AllocError, Global};
 
 // Two that are found the same are the same.

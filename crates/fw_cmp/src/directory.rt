@@ -6,7 +6,7 @@ ghost use Rattle.fw_cmp.specs.Jobs.{without_node, absent_of};
 ghost use Rattle.fw_cmp.specs.Fits.{PlugFit, TargetFits};
 
 use crate::{Connection, Target};
-use fw_base::PlugAt;
+use fw_terms::PlugAt;
 
 /// What a controller knows of the bus.
 #[derive(Clone, Copy)]
@@ -20,7 +20,7 @@ pub struct Directory {
 }
 
 impl Directory {
-    /// The node number of a device; None where it is not on the bus with its link.
+    /// The node number of a device; None if it is not on the bus with its link.
     pub fn node_of(&self, device: u8) -> Option<u8>
         requires { device < 63 }
         ensures { result ≡ node_of self.now device }
@@ -28,7 +28,7 @@ impl Directory {
         self.node[device as usize]
     }
 
-    /// The node that carries out a request at a register; None where the directory has none.
+    /// The node that carries out a request at a register; None if the directory has none.
     pub fn addressee(&self, target: Target) -> Option<u8>
         requires { TargetFits target }
         ensures { result ≡ addressee_of self.now target }
@@ -39,7 +39,7 @@ impl Directory {
         }
     }
 
-    /// The plug's device, where it is not on the bus.
+    /// The plug's device, if it is not on the bus.
     fn without_node(&self, plug: Option<PlugAt>) -> Option<u8>
         requires { PlugFit plug }
         ensures { result ≡ without_node self.now plug }

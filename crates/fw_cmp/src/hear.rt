@@ -37,7 +37,7 @@ impl Job {
         }
     }
 
-    /// The stage that follows a complete answer with this word. A swap has succeeded exactly where the word equals
+    /// The stage that follows a complete answer with this word. A swap has succeeded exactly if the word equals
     /// its argument.
     fn heard(&self, stage: &Stage, word: u32) -> Stage
         requires job { JobFits self.now }

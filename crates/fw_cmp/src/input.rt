@@ -10,7 +10,7 @@ use crate::release::leave_output;
 use crate::{Ending, Flow, Job, Stage};
 use fw_plug::InWord;
 
-/// The channel that is asked for, or another where none is.
+/// The channel that is asked for, or another if none is.
 pub(crate) fn channel_or(asked: Option<u8>, other: u8) -> u8
     requires asked { AskedFits asked }
     requires other { other < 64 }

@@ -58,7 +58,7 @@ pub enum Then {
     Again,
 }
 
-/// The channel that a job has allocated, and the units, 0 where it has none yet.
+/// The channel that a job has allocated, and the units, 0 if it has none yet.
 #[derive(Clone, Copy)]
 pub struct Held {
     pub channel: u8,

@@ -15,8 +15,8 @@ ghost use Rattle.fw_cmp.specs.Starts.{IsMaking, start, started, start_break, can
 ghost use Rattle.fw_cmp.specs.Turns.{after_next};
 ghost use Rattle.fw_cmp.specs.Plugs.{remainder_of};
 
-/// A new connection takes the lowest free slot. It is refused exactly where all 32 slots are in use, or else eight jobs
-/// wait. A break is refused exactly where the slot's connection does not stand and is not to be restored, or a break of
+/// A new connection takes the lowest free slot. It is refused exactly if all 32 slots are in use, or else eight jobs
+/// wait. A break is refused exactly if the slot's connection does not stand and is not to be restored, or a break of
 /// it waits or is current, or else eight jobs wait.
 pub fn starts_are_refused_by_the_rules()
     ensures full { (c : ControllerState) → (start c ≡ Err TableFull) ↔ IsFull c }
@@ -38,7 +38,7 @@ pub fn controllers_go_on()
     ensures second { (d : BusDirectory) (c : ControllerState) → CanGoOn d c → CanGoOn d (after_second c) }
 {}
 
-/// An answer decides how a job ends, only where it shows the cause: the asked channel taken, or no free one; too few units;
+/// An answer decides how a job ends, only if it shows the cause: the asked channel taken, or no free one; too few units;
 /// a plug that is full, or an input plug that is busy; an output plug on another channel than the one to be restored; or
 /// a response code other than 0. What was decided stays so.
 pub fn answers_decide_by_what_they_show()

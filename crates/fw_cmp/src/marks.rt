@@ -1,7 +1,7 @@
 //! Numbers by which most controllers differ, so that one that is kept is found soon. What is found by them is compared.
 
 use crate::{Connection, Current, Flow, Slot, Stage};
-use fw_base::PlugAt;
+use fw_terms::PlugAt;
 
 // A number by which most connections differ: those of one bus have plugs of different devices.
 fn connection_mark(connection: Connection) -> u32 {

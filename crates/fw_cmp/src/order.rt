@@ -1,5 +1,5 @@
 //! The order of jobs: connections to be restored, lowest slot first; then the first waiting break; then the first other waiting
-//! job, where no reclaim second runs.
+//! job, if no reclaim second runs.
 
 ghost use Rattle.std.specs.Prelude.{◌≡◌, ◌<◌, IfSome, length, slice_index_or, position, All};
 ghost use Rattle.fw_cmp.specs.declared.connection.Slot.TheVariants.{Free};
@@ -32,7 +32,7 @@ fn job_of(slots: &[Slot; 32], slot: u8) -> Current
 }
 
 /// The next job, taken in the order of jobs: connections to be restored, lowest slot first; then the first waiting
-/// break; then the first other waiting job, where no reclaim second runs.
+/// break; then the first other waiting job, if no reclaim second runs.
 pub(crate) fn pick(
     now: u64,
     directory: &Directory,

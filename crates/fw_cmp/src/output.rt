@@ -53,7 +53,7 @@ impl Job {
         self.restores() && is_other(self.asked, OutWord(word).channel())
     }
 
-    /// What follows where the plug has no connection.
+    /// What follows if the plug has no connection.
     fn decide_free(&self, held: Option<Held>, word: u32) -> Stage
         requires job { JobFits self.now }
         requires output { HasOutput self.now.connection }
@@ -71,7 +71,7 @@ impl Job {
         }
     }
 
-    /// What follows where the plug has a connection.
+    /// What follows if the plug has a connection.
     fn decide_connected(&self, held: Option<Held>, word: u32) -> Stage
         requires output { HasOutput self.now.connection }
         requires held { HeldFits held }
@@ -131,7 +131,7 @@ impl Job {
         }
     }
 
-    /// What follows where the connection stands at the output plug.
+    /// What follows if the connection stands at the output plug.
     pub(crate) fn output_joined(&self, flow: Flow) -> Stage
         requires flow { FlowFits flow }
         ensures value { result ≡ output_joined self.now flow }

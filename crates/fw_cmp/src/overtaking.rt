@@ -32,7 +32,7 @@ pub(crate) fn overtake(epoch: u32, slots: &mut [Slot; 32], current: Current) -> 
     }
 }
 
-/// What a bus reset makes of the current job, and of its slot, where the response to its request was lost.
+/// What a bus reset makes of the current job, and of its slot, if the response to its request was lost.
 pub(crate) fn overtake_unheard(epoch: u32, slots: &mut [Slot; 32], current: Current) -> Current
     requires { CurrentFits (record { slots = slots.old; waiting = []; current = current }) current }
     ensures current { (ts : List TaskRecord) → result ≡ (lost_reset epoch (record { slots = slots.old; waiting = ts; current = current }) current).current }

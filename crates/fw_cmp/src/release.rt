@@ -11,7 +11,7 @@ use crate::words::remainder;
 use crate::{Connection, Ending, Flow, Held, Job, Stage, Then};
 use fw_plug::{OutWord, one_less, shows_connection};
 
-/// What follows where nothing is left to give back.
+/// What follows if nothing is left to give back.
 pub(crate) fn goes_on(next: Then) -> Stage
     ensures value { result ≡ goes_on next }
     ensures fits { (j : JobRecord) → HasOutput j.connection → StageFits j result }
@@ -22,7 +22,7 @@ pub(crate) fn goes_on(next: Then) -> Stage
     }
 }
 
-/// The first stage of giving back what is held, or what follows where nothing is.
+/// The first stage of giving back what is held, or what follows if nothing is.
 pub(crate) fn give_back(held: Option<Held>, next: Then) -> Stage
     requires { HeldFits held }
     ensures value { result ≡ give_back held next }
@@ -40,7 +40,7 @@ pub(crate) fn give_back(held: Option<Held>, next: Then) -> Stage
     }
 }
 
-/// How a job ends so that has its connection at the output plug, where it has one.
+/// How a job ends so that has its connection at the output plug, if it has one.
 pub(crate) fn leave_output(connection: Connection, ending: Ending, flow: Flow) -> Stage
     requires { FlowFits flow }
     ensures value { result ≡ leave_output connection ending flow }
@@ -53,7 +53,7 @@ pub(crate) fn leave_output(connection: Connection, ending: Ending, flow: Flow) -
     }
 }
 
-/// What a word of BANDWIDTH_AVAILABLE means for units that are given back: they are added where the sum stays
+/// What a word of BANDWIDTH_AVAILABLE means for units that are given back: they are added if the sum stays
 /// within the 4915 of the bus.
 pub(crate) fn decide_raise(next: Then, channel: u8, units: u32, word: u32) -> Stage
     requires { channel < 64 }
@@ -68,7 +68,7 @@ pub(crate) fn decide_raise(next: Then, channel: u8, units: u32, word: u32) -> St
 }
 
 impl Job {
-    /// What follows where a break has left the input plug.
+    /// What follows if a break has left the input plug.
     pub(crate) fn input_left(&self, channel: u8, units: u32) -> Stage
         requires { channel < 64 }
         ensures value { result ≡ input_left self.now channel units }

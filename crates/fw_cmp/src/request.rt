@@ -8,9 +8,9 @@ ghost use Rattle.std.specs.Prelude.{IsFalse};
 
 use crate::words::{half_of, with_bit, without_bit};
 use crate::{Job, Stage};
-use fw_base::PlugAt;
 use fw_csr::{BANDWIDTH_AVAILABLE, CHANNELS_AVAILABLE_HI, CHANNELS_AVAILABLE_LO};
 use fw_plug::{IPCR, OPCR, OutWord, one_less, one_more, with_channel, with_overhead};
+use fw_terms::PlugAt;
 use fw_words::Swap;
 
 /// A register that a job asks for: that of a plug, or one of the isochronous resource manager's.
@@ -46,7 +46,7 @@ impl Target {
 }
 
 impl Job {
-    /// The register of a stage's request; None where it makes none.
+    /// The register of a stage's request; None if it makes none.
     #[inline(always)]
     pub(crate) fn target(&self, stage: &Stage) -> Option<Target>
         ensures { result ≡ target_of self.now stage.now }
@@ -73,7 +73,7 @@ impl Job {
         }
     }
 
-    /// The swap of a stage, where it makes one.
+    /// The swap of a stage, if it makes one.
     #[inline(always)]
     pub(crate) fn swap(&self, stage: &Stage) -> Option<Swap>
         requires job { JobFits self.now }

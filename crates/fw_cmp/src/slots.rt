@@ -2,7 +2,7 @@
 //! second make of them.
 
 ghost use Rattle.std.specs.Prelude.{◌≡◌, ◌<◌, slice_index_or, is_some, map, IfSome};
-ghost use Rattle.fw_base.specs.Tables.{find_to};
+ghost use Rattle.fw_terms.specs.Tables.{find_to};
 ghost use Rattle.fw_cmp.specs.declared.connection.Slot.TheVariants.{Free};
 ghost use Rattle.fw_cmp.specs.Controllers.{is_free, is_restoring, is_breakable, job_for};
 ghost use Rattle.fw_cmp.specs.Known.{NoneToRestore};
@@ -107,7 +107,7 @@ fn first_restoring(slots: &[Slot; 32]) -> Option<u8>
     None
 }
 
-/// The lowest slot that is to be restored. Where it is known that there is none, no slot is looked at; and where none is found,
+/// The lowest slot that is to be restored. If it is known that there is none, no slot is looked at; and where none is found,
 /// that is known from then on.
 pub(crate) fn to_restore(slots: &[Slot; 32], none: &mut bool) -> Option<u8>
     requires { NoneToRestore none.old slots.now }
@@ -123,7 +123,7 @@ pub(crate) fn to_restore(slots: &[Slot; 32], none: &mut bool) -> Option<u8>
     lowest
 }
 
-/// Whether a slot is to be restored. Where it is known that none is, no slot is looked at.
+/// Whether a slot is to be restored. If it is known that none is, no slot is looked at.
 pub(crate) fn has_restoring(slots: &[Slot; 32], none: bool) -> bool
     requires { NoneToRestore none slots.now }
     ensures { result ≡ is_some (find_to 32 (λ i. is_restoring (slice_index_or slots.now i Free))) }

@@ -18,7 +18,7 @@ use crate::order::{can_pick, pick};
 use crate::work::Work;
 use crate::{Current, Directory, Job, Next, Slot, Stage};
 
-/// The current job goes on from its stage: it begins where it has not, and ends where it restores too late.
+/// The current job goes on from its stage: it begins if it has not, and ends if it restores too late.
 fn resume(directory: &Directory, slots: &[Slot; 32], current: Current) -> Current
     requires slots { All SlotFits slots.now }
     requires heard { IsHeard current }
@@ -37,7 +37,7 @@ fn resume(directory: &Directory, slots: &[Slot; 32], current: Current) -> Curren
 }
 
 impl Agenda {
-    /// What the controller does next in this cycle, where it hears. The directory is that of each call since the latest bus reset.
+    /// What the controller does next in this cycle, if it hears. The directory is that of each call since the latest bus reset.
     pub fn next(&mut self, now: u64, directory: &Directory) -> Next
         requires heard { IsHeard self.old.current }
         requires nodes { HasNodeNumbers directory.now }
@@ -95,7 +95,7 @@ impl Agenda {
         }
     }
 
-    /// The next job becomes current, where none is.
+    /// The next job becomes current, if none is.
     fn take(&mut self, now: u64, directory: &Directory)
         requires heard { IsHeard self.old.current }
         ensures state { self.new ≡ picked now directory.now self.old }

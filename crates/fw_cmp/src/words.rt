@@ -1,7 +1,7 @@
 //! What the words of the isochronous resource manager's registers say, and the words that a controller writes there.
 
 ghost use Rattle.std.specs.Prelude.{◌≡◌, ◌<◌, ◌≤◌, ◌-◌, ◌^◌, IfSome, IsTrue};
-ghost use Rattle.fw_base.specs.Tables.{find_to};
+ghost use Rattle.fw_terms.specs.Tables.{find_to};
 ghost use Rattle.fw_cmp.specs.Plugs.{half_of, is_bit, with_bit, without_bit, remainder_of};
 
 use fw_words::Quadlet;

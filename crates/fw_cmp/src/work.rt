@@ -12,7 +12,7 @@ use std::marker::Model;
 /// stays where it is kept.
 #[derive(Drop)]
 pub(crate) struct Work {
-    /// What it is at, told as where no request stands.
+    /// What it is at, told as when no request stands.
     current: Current,
     /// The request of the job's stage stands.
     stands: bool,
@@ -76,7 +76,7 @@ impl Work {
         self.stands
     }
 
-    /// What it is at, where no request stands.
+    /// What it is at, if no request stands.
     #[inline(always)]
     pub fn unasked(&self) -> &Current
         requires { IsHeard self.now }

@@ -16,7 +16,7 @@ pub record ManagerWords : Type 0 where
   -- whether the bus withholds channel 31
   pub withheld : Bool
 
--- no bus manager, all units, and all channels but 31 where the bus withholds it
+-- no bus manager, all units, and all channels but 31 if the bus withholds it
 abbrev pub initial_words : Bool → ManagerWords
 initial_words withheld = record {
   bus_manager_id = 0x3F;

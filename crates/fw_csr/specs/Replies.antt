@@ -40,7 +40,7 @@ abbrev pub reply : Option Register → Request → Reply
 reply None r = address_error
 reply (Some register) r = reply_at register r
 
--- a compare_swap stores its new value exactly where the register equals its argument
+-- a compare_swap stores its new value exactly if the register equals its argument
 abbrev pub swapped : ℕ → Option Swap → ℕ
 swapped word None = word
 swapped word (Some swap) = if word == swap.argument then swap.new else word

@@ -5,7 +5,7 @@ use crate::{Register, RegisterRequest, Reply};
 use fw_words::Swap;
 use std::marker::Model;
 
-/// A read, or a compare_swap, of the quadlet at an offset. It stands for the request that it is, and is short where a
+/// A read, or a compare_swap, of the quadlet at an offset. It stands for the request that it is, and is short if a
 /// `Request` is as long as its longest kind.
 #[derive(Drop)]
 pub struct QuadletAccess {
@@ -24,7 +24,7 @@ impl Model for QuadletAccess {
 }
 
 impl QuadletAccess {
-    /// The read of the quadlet at an offset, or its compare_swap where there is one.
+    /// The read of the quadlet at an offset, or its compare_swap if there is one.
     pub fn new(offset: u64, swap: Option<Swap>) -> QuadletAccess
         ensures { result ≡ request_at offset swap }
     {

@@ -53,7 +53,7 @@ impl Model for Manager {
 }
 
 impl Manager {
-    /// The registers with their initial values, on a bus that withholds channel 31 where `withhold` is true.
+    /// The registers with their initial values, on a bus that withholds channel 31 if `withhold` is true.
     pub fn new(withhold: bool) -> Manager
         ensures { result ≡ initial_words withhold }
     {
@@ -78,7 +78,7 @@ impl Manager {
         *self = Manager::new(self.withhold);
     }
 
-    /// Carries a request out: address_error where it is at none of the four registers, type_error where it is no
+    /// Carries a request out: address_error if it is at none of the four registers, type_error if it is no
     /// quadlet read and no quadlet compare_swap, else complete.
     pub fn answer<R: RegisterRequest>(&mut self, r: &R) -> Reply
         ensures reply { result ≡ reply (register_at self.old (offset_of (R.request r.now))) (R.request r.now) }
@@ -93,7 +93,7 @@ impl Manager {
         }
     }
 
-    /// The register at an offset, where it is one of the four.
+    /// The register at an offset, if it is one of the four.
     pub fn register(&self, offset: u64) -> Option<Register>
         ensures { result ≡ register_at self.now offset }
     {

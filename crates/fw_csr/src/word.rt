@@ -44,7 +44,7 @@ impl Word {
         self.value
     }
 
-    /// A compare_swap: answers the old value, and stores `new` exactly where the old value equals `arg`.
+    /// A compare_swap: answers the old value, and stores `new` exactly if the old value equals `arg`.
     pub fn lock(&mut self, arg: u32, new: u32) -> u32
         ensures old { result ≡ self.old }
         ensures stored { self.old ≡ arg → self.new ≡ new }

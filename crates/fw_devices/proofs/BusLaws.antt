@@ -1,11 +1,11 @@
--- Which devices are on the bus: only declared ones, and the same where a cable is added that does not touch it.
-use Rattle.std.proofs.Common.{◌≡◌, ◌↔◌, ℕ, ◌<◌, length, Option, Some, None, refl, sym, subst}
+-- Which devices are on the bus: only declared ones, and the same if a cable is added that does not touch it.
+use Rattle.fw_devices.proofs.Common.{◌≡◌, ℕ, ◌<◌, length, Option, Some, None, refl, sym, subst, IsOnBus, Topology, Made, sound_made}
+use Rattle.std.proofs.Common.{◌↔◌}
 use Rattle.fw_tree.specs.declared.facts.End.{End}
-use Rattle.fw_tree.specs.Cables.{Peers, peer, LeadsTo, Walk, here, along, IsOnBus}
+use Rattle.fw_tree.specs.Cables.{Peers, peer, LeadsTo, Walk, here, along}
 use Rattle.fw_tree.specs.Forest.{IsAdded}
-use Rattle.fw_tree.specs.Topology.{Topology, Made, IsJoined}
+use Rattle.fw_tree.specs.Topology.{IsJoined}
 use Rattle.fw_tree.proofs.TopologyLaws.{is_added, ends_within, ports_within}
-use Rattle.fw_tree.proofs.ReachLaws.{sound_made}
 
 -- the end to which a cable leads
 record Far (o : Option End) (d : ℕ) : Type 0 where
@@ -28,7 +28,7 @@ on_bus_declared t made some d (along {b = b} w j) =
     let P : ℕ → Type 0 = λ n. n < length t.devices in
     subst P far.device within.0
 
--- a walk keeps to its cables where a new one touches none of its devices
+-- a walk keeps to its cables if a new one touches none of its devices
 keeps : (g h : Peers) (a b : End) → IsAdded g h a b → (Walk g 0 a.device → ⊥) → (Walk g 0 b.device → ⊥) → (x p : ℕ) → Walk g 0 x → peer h x p ≡ peer g x p
 keeps g h a b added off_a off_b x p w =
     let P : ℕ → Type 0 = Walk g 0 in

@@ -1,7 +1,7 @@
 -- A list of copies under numbers that becomes the list under other numbers, one place after another.
-use Rattle.std.proofs.Common.{◌≡◌, ◌≢◌, ◌∙◌, inl, inr, ℕ, zero, suc, ◌+◌, ◌<◌, ◌≤◌, List, length, map, slice_index, slice_index_or, slice_set, refl, sym, ap, arith}
-use Rattle.std.proofs.lemmas.Bool.{cases_eq, cases_lt}
-use Rattle.std.proofs.lemmas.List.{ext_get_or, get_or-map, get_or-set_same, get_or-set_other, length-map, length-set}
+use Rattle.fw_devices.proofs.Common.{◌≡◌, ◌∙◌, inl, inr, ℕ, ◌+◌, ◌<◌, ◌≤◌, List, length, map, slice_set, refl, sym, ap, arith, cases_eq, cases_lt, length-map}
+use Rattle.std.proofs.Common.{◌≢◌, zero, suc, slice_index, slice_index_or}
+use Rattle.std.proofs.lemmas.List.{ext_get_or, get_or-map, get_or-set_same, get_or-set_other, length-set}
 
 -- the copies under numbers
 abbrev pub copies_at : {A : Type 0} → A → List A → List ℕ → List A

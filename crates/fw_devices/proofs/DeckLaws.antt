@@ -1,5 +1,6 @@
 -- Frames and tapes leave each device what it is.
-use Rattle.std.proofs.Common.{◌∙◌, ℕ, List, Bool, Option, Some, None, option_map, refl, ap}
+use Rattle.fw_devices.proofs.Common.{◌∙◌, ℕ, List, Bool, Option, Some, None, refl, ap, NodeState, Network}
+use Rattle.std.proofs.Common.{option_map}
 use Rattle.fw_csr.specs.declared.request.Request.{Request}
 use Rattle.fw_fcp.specs.declared.frame.Frame.{Frame}
 use Rattle.fw_avc.specs.Notices.{after_notice}
@@ -7,10 +8,9 @@ use Rattle.fw_tape.specs.Desks.{VendorRelation}
 use Rattle.fw_tape.specs.declared.cassette.Cassette.{Cassette}
 use Rattle.fw_tree.specs.declared.numbering.Numbering.{Numbering}
 use Rattle.fw_node.specs.Fcp.{HasFollowed, after_frame}
-use Rattle.fw_node.specs.State.{NodeState, after_request}
+use Rattle.fw_node.specs.State.{after_request}
 use Rattle.fw_devices.specs.Decks.{with_tape, passed}
 use Rattle.fw_devices.specs.Kept.{IsKept}
-use Rattle.fw_devices.specs.Network.{Network}
 use Rattle.fw_devices.proofs.NetworkLaws.{IsSameDevice, AreSameDevices, network_kept, same_after}
 use Rattle.fw_devices.proofs.ResetLaws.{found_same}
 
@@ -19,7 +19,12 @@ use Rattle.fw_devices.proofs.ResetLaws.{found_same}
 pub same_followed : (V : VendorRelation) (from : ℕ) (r : Option Request) (m n : NodeState) → HasFollowed V from r (after_request r m) n → IsSameDevice m n
 same_followed V from r m n h =
     let s = same_after r m in
-    record { kind = ap (λ (x : NodeState). x.kind) h.rest ∙ s.kind; device = ap (λ (x : NodeState). x.device) h.rest ∙ s.device; rate = ap (λ (x : NodeState). x.plugs.rate) h.rest ∙ s.rate; withheld = ap (λ (x : NodeState). x.withheld) h.rest ∙ s.withheld }
+    record {
+      kind = ap (λ (x : NodeState). x.kind) h.rest ∙ s.kind;
+      device = ap (λ (x : NodeState). x.device) h.rest ∙ s.device;
+      rate = ap (λ (x : NodeState). x.plugs.rate) h.rest ∙ s.rate;
+      withheld = ap (λ (x : NodeState). x.withheld) h.rest ∙ s.withheld;
+    }
 
 pub same_sent : (m : NodeState) → IsSameDevice m (after_frame m)
 same_sent m = go m.waiting
@@ -36,8 +41,9 @@ same_moved cycles m = record { kind = refl; device = refl; rate = refl; withheld
 
 -- ---- all of them
 
--- what is kept of a network stays, where its nodes are of the same devices
-pub kept_same : (n : Network) (room : ℕ) (current : Bool) (numbering : Numbering) (nodes : List NodeState) → IsKept n room current numbering → AreSameDevices n.nodes nodes → IsKept (record n { nodes = nodes }) room current numbering
+-- what is kept of a network stays, if its nodes are of the same devices
+pub kept_same : (n : Network) (room : ℕ) (current : Bool) (numbering : Numbering) (nodes : List NodeState) → IsKept n room current numbering → AreSameDevices n.nodes nodes
+    → IsKept (record n { nodes = nodes }) room current numbering
 kept_same n room current numbering nodes h same = record {
   network = network_kept n (record n { nodes = nodes }) h.network refl refl refl same;
   few = h.few;

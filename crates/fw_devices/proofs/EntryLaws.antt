@@ -1,24 +1,22 @@
 -- What the entry of a bus reset shows, and that it is in the grammar of the log.
-use Rattle.std.proofs.Common.{◌≡◌, inl, inr, ℕ, ◌<◌, ◌≤◌, ◌^◌, List, [], ◌∷◌, length, slice_get, Option, Some, None, is_some, IfSome, true, arith, refl, sym, ap, subst, ◌∙◌}
-use Rattle.std.proofs.lemmas.Bool.{cases_lt}
+use Rattle.fw_devices.proofs.Common.{◌≡◌, inl, inr, ℕ, ◌<◌, ◌≤◌, List, [], ◌∷◌, length, slice_get, Option, Some, None, true, arith, refl, sym, ap, subst, ◌∙◌, cases_lt, DeviceKind, NodeRow, number_at}
+use Rattle.fw_devices.proofs.Common.{Topology, Made, sound_made, kind_at, row_of}
+use Rattle.std.proofs.Common.{◌^◌, is_some, IfSome}
 use Rattle.std.proofs.lemmas.Option.{same_Some}
-use Rattle.fw_base.specs.declared.device.DeviceKind.{DeviceKind}
-use Rattle.fw_base.specs.declared.device.DeviceKind.TheVariants.{Deck}
-use Rattle.fw_base.specs.Devices.{has_link, is_contender}
-use Rattle.fw_entry.specs.declared.entry.ResetEntry.{ResetEntry}
-use Rattle.fw_entry.specs.declared.nodes.NodeRow.{NodeRow}
-use Rattle.fw_entry.specs.Log.{ResetFits}
+use Rattle.fw_terms.specs.declared.device.DeviceKind.TheVariants.{Deck}
+use Rattle.fw_terms.specs.Devices.{has_link, is_contender}
+use Rattle.fw_log_entry.specs.declared.entry.ResetEntry.{ResetEntry}
+use Rattle.fw_log_entry.specs.Log.{ResetFits}
 use Rattle.fw_phy.specs.declared.packet.PhyPacket.{PhyPacket}
 use Rattle.fw_tree.specs.Numbering.{Contends, IsManager}
-use Rattle.fw_tree.specs.Numbers.{number_at, has_number, is_there, AreNodes}
+use Rattle.fw_tree.specs.Numbers.{has_number, is_there, AreNodes}
 use Rattle.fw_tree.specs.SelfIds.{facts_at, ArePackets}
-use Rattle.fw_tree.specs.Topology.{Topology, Made, IsSound}
+use Rattle.fw_tree.specs.Topology.{IsSound}
 use Rattle.fw_tree.proofs.CountLaws.{there}
 use Rattle.fw_tree.proofs.FitLaws.{packets_fit}
 use Rattle.fw_tree.proofs.NumberingLaws.{count_most, placed, has_on_bus}
-use Rattle.fw_tree.proofs.ReachLaws.{sound_made}
-use Rattle.fw_devices.specs.Network.{AreKinds, kind_at}
-use Rattle.fw_devices.specs.Entries.{IsResetEntry, row_of, number_of, node_number, lone_deck}
+use Rattle.fw_devices.specs.Network.{AreKinds}
+use Rattle.fw_devices.specs.Entries.{IsResetEntry, number_of, node_number, lone_deck}
 use Rattle.fw_devices.specs.Resets.{Shows}
 use Rattle.fw_devices.proofs.IdLaws.{packets_in_order, packets_few, speed_of_node, speeds_fit}
 use Rattle.fw_devices.proofs.RowLaws.{AreRows, HasRow, row_is, number_in, row_fits, rows_fit, rows_apart}
@@ -27,15 +25,18 @@ use Rattle.fw_devices.proofs.RowLaws.{AreRows, HasRow, row_is, number_in, row_fi
 pub rows_of : (t : Topology) (kinds : List DeviceKind) (epoch initiator : ℕ) (e : ResetEntry) (h : IsResetEntry t kinds epoch initiator e) → AreRows h.numbering.number kinds e.nodes
 rows_of t kinds epoch initiator e h = record { nodes = let P : ℕ → Type 0 = AreNodes h.numbering.number in subst P (sym h.size) h.numbered.nodes; each = h.rows }
 
-packets_of : (t : Topology) (kinds : List DeviceKind) (epoch initiator : ℕ) (e : ResetEntry) (h : IsResetEntry t kinds epoch initiator e) → ArePackets t.devices t.cables h.numbering.number h.numbering.parent_port initiator (length e.nodes) e.ids
+packets_of : (t : Topology) (kinds : List DeviceKind) (epoch initiator : ℕ) (e : ResetEntry) (h : IsResetEntry t kinds epoch initiator e)
+    → ArePackets t.devices t.cables h.numbering.number h.numbering.parent_port initiator (length e.nodes) e.ids
 packets_of t kinds epoch initiator e h = let P : ℕ → Type 0 = λ n. ArePackets t.devices t.cables h.numbering.number h.numbering.parent_port initiator n e.ids in subst P (sym h.size) h.ids
 
 -- a numbered device is declared
-declared_of : (t : Topology) (kinds : List DeviceKind) (epoch initiator : ℕ) (e : ResetEntry) → IsSound t → (h : IsResetEntry t kinds epoch initiator e) → (d n : ℕ) → number_at h.numbering.number d ≡ Some n → d < length t.devices
+declared_of : (t : Topology) (kinds : List DeviceKind) (epoch initiator : ℕ) (e : ResetEntry) → IsSound t → (h : IsResetEntry t kinds epoch initiator e) → (d n : ℕ)
+    → number_at h.numbering.number d ≡ Some n → d < length t.devices
 declared_of t kinds epoch initiator e s h d n at = placed t h.numbering s h.numbered d (there (number_at h.numbering.number d) n at)
 
 -- the manager's number is that of a device that contends
-manager_of : (t : Topology) (kinds : List DeviceKind) (epoch initiator : ℕ) (e : ResetEntry) (h : IsResetEntry t kinds epoch initiator e) → (n : ℕ) → e.manager ≡ Some n → (d : ℕ) × Contends t.devices h.numbering.number d n
+manager_of : (t : Topology) (kinds : List DeviceKind) (epoch initiator : ℕ) (e : ResetEntry) (h : IsResetEntry t kinds epoch initiator e) → (n : ℕ) → e.manager ≡ Some n → (d : ℕ)
+    × Contends t.devices h.numbering.number d n
 manager_of t kinds epoch initiator e h n is = by h.manager h.manages (sym h.manager_is ∙ is)
   where
     by : (o : Option ℕ) → IsManager t.devices h.numbering.number o → number_of h.numbering.number o ≡ Some n → (d : ℕ) × Contends t.devices h.numbering.number d n
@@ -47,7 +48,8 @@ for_some None bound f = tt
 for_some (Some n) bound f = f n refl
 
 -- The entry is in the grammar of the log.
-pub entry_fits : (t : Topology) (kinds : List DeviceKind) (epoch initiator : ℕ) (e : ResetEntry) → Made t → AreKinds t.devices kinds → epoch < 2 ^ 32 → IsResetEntry t kinds epoch initiator e → ResetFits e
+pub entry_fits : (t : Topology) (kinds : List DeviceKind) (epoch initiator : ℕ) (e : ResetEntry) → Made t → AreKinds t.devices kinds → epoch < 2 ^ 32 → IsResetEntry t kinds epoch initiator e
+    → ResetFits e
 entry_fits t kinds epoch initiator e made are low h =
     let s = sound_made t made in
     let number = h.numbering.number in
@@ -78,7 +80,8 @@ is_one None = refl
 is_one (Some n) = refl
 
 -- a row is in the range of the account
-range_of : (t : Topology) (kinds : List DeviceKind) (number : List (Option ℕ)) (n : ℕ) (row : NodeRow) → HasRow number kinds n row → ((d m : ℕ) → number_at number d ≡ Some m → d < 63) → (row.device < 63) × (row.outs ≤ 31) × (row.ins ≤ 31)
+range_of : (t : Topology) (kinds : List DeviceKind) (number : List (Option ℕ)) (n : ℕ) (row : NodeRow) → HasRow number kinds n row → ((d m : ℕ) → number_at number d ≡ Some m → d < 63)
+    → (row.device < 63) × (row.outs ≤ 31) × (row.ins ≤ 31)
 range_of t kinds number n row w few =
     let fits = row_fits w.device (kind_at kinds w.device) (few w.device n w.numbered) in
     let P : NodeRow → Type 0 = λ r. (r.device < 63) × (r.outs ≤ 31) × (r.ins ≤ 31) in
@@ -96,16 +99,20 @@ entry_shows t kinds epoch initiator e made are h =
     let on : (d : ℕ) → is_some (node_number e.nodes d) ≡ has_number number d = λ d. ap is_some (place d) ∙ sym (is_one (number_at number d)) in
     record {
       network = record {
-        range = λ n row at. range_of t kinds number n row (row_is number kinds e.nodes rows n row at) (λ d m is. let k = declared_of t kinds epoch initiator e s h d m is in let few = s.few in omega arith);
+        range = λ n row at. range_of t kinds number n row (row_is number kinds e.nodes rows n row at)
+            (λ d m is. let k = declared_of t kinds epoch initiator e s h d m is in let few = s.few in omega arith);
         speeds = speeds_fit t.devices t.cables number h.numbering.parent_port initiator (length e.nodes) e.ids s.devices rows.nodes packets;
       };
-      declared = λ n row at. let w = row_is number kinds e.nodes rows n row at in let P : NodeRow → Type 0 = λ r. r.device < length t.devices in subst P (sym w.is) (declared_of t kinds epoch initiator e s h w.device n w.numbered);
-      rows = λ n row at. let w = row_is number kinds e.nodes rows n row at in let P : NodeRow → Type 0 = λ r. (r ≡ row_of r.device (kind_at kinds r.device)) × (node_number e.nodes r.device ≡ Some n) in
+      declared = λ n row at. let w = row_is number kinds e.nodes rows n row at in let P : NodeRow → Type 0 = λ r. r.device < length t.devices in
+          subst P (sym w.is) (declared_of t kinds epoch initiator e s h w.device n w.numbered);
+      rows = λ n row at. let w = row_is number kinds e.nodes rows n row at in let P : NodeRow → Type 0 = λ r. (r ≡ row_of r.device (kind_at kinds r.device))
+          × (node_number e.nodes r.device ≡ Some n) in
           subst P (sym w.is) (refl, place w.device ∙ w.numbered);
       numbers = λ d n at. rows.each d n (numbered d n at);
       nodes = λ d low. let w = has_on_bus t h.numbering h.numbered d in (λ is. w.0 (sym (on d) ∙ is), λ walk. on d ∙ w.1 walk);
       speeds = λ d n at. speed_of_node t.devices t.cables number h.numbering.parent_port initiator (length e.nodes) e.ids rows.nodes packets d n (numbered d n at);
-      manager = λ n is. let w = manager_of t kinds epoch initiator e h n is in (w.0, place w.0 ∙ w.1.numbered, link_of t kinds w.0 are (declared_of t kinds epoch initiator e s h w.0 n w.1.numbered) w.1.link);
+      manager = λ n is. let w = manager_of t kinds epoch initiator e h n is in
+          (w.0, place w.0 ∙ w.1.numbered, link_of t kinds w.0 are (declared_of t kinds epoch initiator e s h w.0 n w.1.numbered) w.1.link);
     }
 
 -- of one device no other has a number, nor another number
@@ -134,7 +141,8 @@ one_row (r ∷ []) row size at = ap (λ x. x ∷ []) (same_Some r row at)
 one_row (r ∷ x ∷ xs) row size at = absurd (omega arith)
 
 -- a deck with the one number is the manager
-manager_is : (t : Topology) (kinds : List DeviceKind) (number : List (Option ℕ)) (count : ℕ) (o : Option ℕ) → IsLone number count → AreKinds t.devices kinds → 0 < length t.devices → kind_at kinds 0 ≡ Deck → IsManager t.devices number o → number_of number o ≡ Some 0
+manager_is : (t : Topology) (kinds : List DeviceKind) (number : List (Option ℕ)) (count : ℕ) (o : Option ℕ) → IsLone number count → AreKinds t.devices kinds → 0 < length t.devices
+    → kind_at kinds 0 ≡ Deck → IsManager t.devices number o → number_of number o ≡ Some 0
 manager_is t kinds number count None lone are low deck m =
     absurd (m 0 0 (record { numbered = lone.first; link = are.link 0 low ∙ ap has_link deck; contender = are.contender 0 low ∙ ap is_contender deck }))
 manager_is t kinds number count (Some d) lone are low deck m = m.1.numbered ∙ ap Some (lone.only d m.0 m.1.numbered)
@@ -146,16 +154,19 @@ same_entry : (e : ResetEntry) (epoch root initiator : ℕ) (manager : Option ℕ
     → e ≡ record { epoch = epoch; root = root; manager = manager; initiator = initiator; nodes = nodes; ids = e.ids }
 unfolding entry_with
 same_entry e epoch root initiator manager nodes a b c d f =
-    ap (λ x. entry_with e.ids x e.root e.manager e.initiator e.nodes) a ∙ ap (λ x. entry_with e.ids epoch x e.manager e.initiator e.nodes) b ∙ ap (λ x. entry_with e.ids epoch root x e.initiator e.nodes) c
+    ap (λ x. entry_with e.ids x e.root e.manager e.initiator e.nodes) a ∙ ap (λ x. entry_with e.ids epoch x e.manager e.initiator e.nodes) b
+    ∙ ap (λ x. entry_with e.ids epoch root x e.initiator e.nodes) c
     ∙ ap (λ x. entry_with e.ids epoch root manager x e.nodes) d ∙ ap (entry_with e.ids epoch root manager initiator) f
 
 -- The entry of a bus of one deck has that deck as its one node, root, resource manager and initiator.
-pub entry_of_lone_deck : (t : Topology) (kinds : List DeviceKind) (epoch initiator : ℕ) (e : ResetEntry) → Made t → AreKinds t.devices kinds → length t.devices ≡ 1 → kind_at kinds 0 ≡ Deck → IsResetEntry t kinds epoch initiator e → e ≡ lone_deck epoch e.ids
+pub entry_of_lone_deck : (t : Topology) (kinds : List DeviceKind) (epoch initiator : ℕ) (e : ResetEntry) → Made t → AreKinds t.devices kinds → length t.devices ≡ 1 → kind_at kinds 0 ≡ Deck
+    → IsResetEntry t kinds epoch initiator e → e ≡ lone_deck epoch e.ids
 entry_of_lone_deck t kinds epoch initiator e made are one deck h =
     let s = sound_made t made in
     let number = h.numbering.number in
     let rows = rows_of t kinds epoch initiator e h in
     let below : e.root < length e.nodes = rows.nodes.below h.numbering.root e.root h.root in
     let lone = lone_of number (length e.nodes) rows.nodes (omega arith) (λ d n at. let k = declared_of t kinds epoch initiator e s h d n at in omega arith) in
-    same_entry e epoch 0 0 (Some 0) (row_of 0 Deck ∷ []) h.epoch_is (lone.only h.numbering.root e.root h.root) (h.manager_is ∙ manager_is t kinds number (length e.nodes) h.manager lone are (omega arith) deck h.manages)
+    same_entry e epoch 0 0 (Some 0) (row_of 0 Deck ∷ []) h.epoch_is (lone.only h.numbering.root e.root h.root)
+    (h.manager_is ∙ manager_is t kinds number (length e.nodes) h.manager lone are (omega arith) deck h.manages)
     (lone.only initiator e.initiator h.began) (one_row e.nodes (row_of 0 Deck) lone.size (rows.each 0 0 lone.first ∙ ap (λ kind. Some (row_of 0 kind)) deck))

@@ -1,13 +1,12 @@
 -- A network is its frame and its nodes.
-use Rattle.std.proofs.Common.{ℕ, ◌≡◌, ◌≤◌, Bool, true, List, length, map, set, slice_set, sym, ap, subst, ◌∙◌, arith}
-use Rattle.std.proofs.lemmas.List.{length-map, map-set, set-get_or}
-use Rattle.fw_base.specs.declared.device.DeviceKind.{DeviceKind}
-use Rattle.fw_base.specs.declared.device.DeviceKind.TheVariants.{Relay}
-use Rattle.fw_node.specs.State.{NodeState}
+use Rattle.fw_devices.proofs.Common.{ℕ, ◌≡◌, ◌≤◌, Bool, true, List, length, map, slice_set, sym, ap, subst, ◌∙◌, arith, length-map, DeviceKind, Relay, NodeState, Network, kinds_of, node_at}
+use Rattle.fw_devices.proofs.Common.{NetworkFrame, IsFound}
+use Rattle.std.proofs.Common.{set}
+use Rattle.std.proofs.lemmas.List.{map-set, set-get_or}
 use Rattle.fw_tree.specs.declared.numbering.Numbering.{Numbering}
-use Rattle.fw_devices.specs.Network.{Network, IsNetwork, kinds_of, node_at}
-use Rattle.fw_devices.specs.Frames.{NetworkFrame, IsOf, nodes_at}
-use Rattle.fw_devices.specs.Kept.{IsFound, IsKept}
+use Rattle.fw_devices.specs.Network.{IsNetwork}
+use Rattle.fw_devices.specs.Frames.{IsOf, nodes_at}
+use Rattle.fw_devices.specs.Kept.{IsKept}
 use Rattle.fw_devices.proofs.NetworkLaws.{kind_of_node}
 
 -- the kinds stay where a node takes the place of one of its kind
@@ -34,7 +33,8 @@ module _ (frame : NetworkFrame) (kept : List NodeState) (numbers : List ℕ) (n 
   pub same_count : (nodes : List NodeState) → nodes ≡ nodes_at kept numbers → length nodes ≡ length n.names
   same_count nodes same = ap length same ∙ (sym (ap length of.nodes) ∙ of.same)
 
-  pub kept_of : (x : Network) (room : ℕ) (current : Bool) (numbering : Numbering) → x ≡ n → 63 ≤ room → (current ≡ true → IsFound x.topology (kinds_of x.nodes) numbering x.manager x.latest) → IsKept x room current numbering
+  pub kept_of : (x : Network) (room : ℕ) (current : Bool) (numbering : Numbering) → x ≡ n → 63 ≤ room → (current ≡ true → IsFound x.topology (kinds_of x.nodes) numbering x.manager x.latest)
+      → IsKept x room current numbering
   kept_of x room current numbering is roomy found =
       let few : Network → Type 0 = λ y. length y.names ≤ 63 in
       let same : Network → Type 0 = λ y. length y.nodes ≡ length y.names in

@@ -1,16 +1,18 @@
 -- The self-ID packets of the nodes: their order, how many they are, and the speeds that they show.
-use Rattle.std.proofs.Common.{◌≡◌, inl, inr, ℕ, zero, suc, ◌+◌, ◌*◌, ◌<◌, ◌≤◌, ◌==◌, ◌&&◌, nat_lt, List, [], ◌∷◌, ◌++◌, length, Option, Some, None, Bool, true, false, slice_index_or, if◌then◌else◌, arith, refl, sym, ap, ◌∙◌, add-one, length-append}
-use Rattle.std.proofs.lemmas.Bool.{ltb-true, lt-ltb, le-ltb, eq-eqb, eqb-true, ne_eqb, cases_eq, cases_lt}
+use Rattle.fw_devices.proofs.Common.{◌≡◌, inl, inr, ℕ, ◌+◌, ◌<◌, ◌≤◌, List, [], ◌∷◌, ◌++◌, length, Option, Some, None, Bool, true, false, arith, refl, sym, ap, ◌∙◌, cases_eq, cases_lt, number_at}
+use Rattle.std.proofs.Common.{zero, suc, ◌*◌, ◌==◌, ◌&&◌, nat_lt}
+use Rattle.std.proofs.Common.{slice_index_or, if◌then◌else◌, add-one, length-append}
+use Rattle.std.proofs.lemmas.Bool.{ltb-true, lt-ltb, le-ltb, eq-eqb, eqb-true, ne_eqb}
 use Rattle.fw_phy.specs.declared.packet.PhyPacket.{PhyPacket}
 use Rattle.fw_phy.specs.declared.packet.PhyPacket.TheVariants.{SelfId, SelfIdMore, Config, LinkOn}
 use Rattle.fw_phy.specs.declared.packet.SelfId.{SelfId as Zero}
 use Rattle.fw_phy.specs.declared.packet.SelfIdMore.{SelfIdMore as Further}
-use Rattle.fw_entry.specs.Log.{are_ids}
-use Rattle.fw_entry.specs.Network.{speed_of}
+use Rattle.fw_log_entry.specs.Log.{are_ids}
+use Rattle.fw_log_entry.specs.Network.{speed_of}
 use Rattle.fw_tree.specs.declared.facts.End.{End}
 use Rattle.fw_tree.specs.declared.facts.PhyFacts.{PhyFacts}
 use Rattle.fw_tree.specs.Cables.{Peers}
-use Rattle.fw_tree.specs.Numbers.{number_at, AreNodes}
+use Rattle.fw_tree.specs.Numbers.{AreNodes}
 use Rattle.fw_tree.specs.SelfIds.{first_packet, more_packet, further_packet, node_packets, facts_at, ArePackets, no_node, node}
 use Rattle.fw_tree.specs.Topology.{AreDevices}
 use Rattle.fw_tree.proofs.FitLaws.{speed_low}
@@ -31,7 +33,8 @@ are_then (SelfId s ∷ ps) qs k m n None h =
 are_then (SelfId s ∷ ps) qs k m n (Some a) h = cc
 are_then (SelfIdMore s ∷ ps) qs k m n None h = cc
 are_then (SelfIdMore s ∷ ps) qs k m n (Some a) h =
-    goes_on ((s.phy == k) && (s.number == a)) s.more (are_ids k (Some (a + 1)) ps m) (are_ids (k + 1) None ps m) (are_ids k (Some (a + 1)) (ps ++ qs) n) (are_ids (k + 1) None (ps ++ qs) n) (are_ids m None qs n) h
+    goes_on ((s.phy == k) && (s.number == a)) s.more (are_ids k (Some (a + 1)) ps m) (are_ids (k + 1) None ps m) (are_ids k (Some (a + 1)) (ps ++ qs) n) (are_ids (k + 1) None (ps ++ qs) n)
+    (are_ids m None qs n) h
     (are_then ps qs k m n (Some (a + 1))) (are_then ps qs (k + 1) m n None)
 are_then (Config a b c d ∷ ps) qs k m n None h = cc
 are_then (Config a b c d ∷ ps) qs k m n (Some x) h = cc
@@ -52,14 +55,17 @@ further : Bool → Further → List PhyPacket
 further there m = if there then SelfIdMore m ∷ [] else []
 
 -- the packets of one node, by which of the further ones are there
-in_order : (k : ℕ) (a b c : Bool) (s : Zero) (x y z : Further) → (s.phy == k) ≡ true → s.more ≡ a → ((x.phy == k) && (x.number == 0)) ≡ true → x.more ≡ b → ((y.phy == k) && (y.number == 1)) ≡ true → y.more ≡ c → ((z.phy == k) && (z.number == 2)) ≡ true → z.more ≡ false
+in_order : (k : ℕ) (a b c : Bool) (s : Zero) (x y z : Further) → (s.phy == k) ≡ true → s.more ≡ a → ((x.phy == k) && (x.number == 0)) ≡ true → x.more ≡ b → ((y.phy == k) && (y.number == 1)) ≡ true
+    → y.more ≡ c → ((z.phy == k) && (z.number == 2)) ≡ true → z.more ≡ false
     → (b ≡ true → a ≡ true) → (c ≡ true → b ≡ true) → are_ids k None (SelfId s ∷ [] ++ further a x ++ further b y ++ further c z) (k + 1) ≡ true
 unfolding further
 in_order k false false false s x y z h1 m1 h2 m2 h3 m3 h4 m4 f g = ended (s.phy == k) s.more _ _ h1 m1 (eq-eqb (k + 1) (k + 1) refl)
 in_order k true false false s x y z h1 m1 h2 m2 h3 m3 h4 m4 f g = taken (s.phy == k) s.more _ _ h1 m1 (ended ((x.phy == k) && (x.number == 0)) x.more _ _ h2 m2 (eq-eqb (k + 1) (k + 1) refl))
-in_order k true true false s x y z h1 m1 h2 m2 h3 m3 h4 m4 f g = taken (s.phy == k) s.more _ _ h1 m1 (taken ((x.phy == k) && (x.number == 0)) x.more _ _ h2 m2 (ended ((y.phy == k) && (y.number == 1)) y.more _ _ h3 m3 (eq-eqb (k + 1) (k + 1) refl)))
+in_order k true true false s x y z h1 m1 h2 m2 h3 m3 h4 m4 f g =
+    taken (s.phy == k) s.more _ _ h1 m1 (taken ((x.phy == k) && (x.number == 0)) x.more _ _ h2 m2 (ended ((y.phy == k) && (y.number == 1)) y.more _ _ h3 m3 (eq-eqb (k + 1) (k + 1) refl)))
 in_order k true true true s x y z h1 m1 h2 m2 h3 m3 h4 m4 f g =
-    taken (s.phy == k) s.more _ _ h1 m1 (taken ((x.phy == k) && (x.number == 0)) x.more _ _ h2 m2 (taken ((y.phy == k) && (y.number == 1)) y.more _ _ h3 m3 (ended ((z.phy == k) && (z.number == 2)) z.more _ _ h4 m4 (eq-eqb (k + 1) (k + 1) refl))))
+    taken (s.phy == k) s.more _ _ h1 m1 (taken ((x.phy == k) && (x.number == 0)) x.more _ _ h2 m2
+    (taken ((y.phy == k) && (y.number == 1)) y.more _ _ h3 m3 (ended ((z.phy == k) && (z.number == 2)) z.more _ _ h4 m4 (eq-eqb (k + 1) (k + 1) refl))))
 in_order k false true c s x y z h1 m1 h2 m2 h3 m3 h4 m4 f g = absurd (let e = f refl in let w : ⊥ = cc in w)
 in_order k a false true s x y z h1 m1 h2 m2 h3 m3 h4 m4 f g = absurd (let e = g refl in let w : ⊥ = cc in w)
 
@@ -82,7 +88,8 @@ node_ids : (f : PhyFacts) (cables : List (Option End)) (parent : Option ℕ) (ph
 unfolding further zero_in further_in
 node_ids f cables parent phy initiator few =
     let own : ℕ → Further = λ number. further_in (more_packet f cables parent phy number) in
-    in_order phy (nat_lt 3 f.ports) (nat_lt 11 f.ports) (nat_lt 19 f.ports) (zero_in (first_packet f cables parent phy initiator)) (own 0) (own 1) (own 2) (eq-eqb phy phy refl) refl (named phy 0) refl (named phy 1) refl (named phy 2) (le-ltb 27 f.ports few)
+    in_order phy (nat_lt 3 f.ports) (nat_lt 11 f.ports) (nat_lt 19 f.ports) (zero_in (first_packet f cables parent phy initiator)) (own 0) (own 1) (own 2) (eq-eqb phy phy refl) refl (named phy 0) refl
+    (named phy 1) refl (named phy 2) (le-ltb 27 f.ports few)
     (fewer_tests 3 11 f.ports (omega arith)) (fewer_tests 11 19 f.ports (omega arith))
 
 pub ports_low : (fs : List PhyFacts) (d : ℕ) → AreDevices fs → (facts_at fs d).ports ≤ 27
@@ -91,11 +98,13 @@ ports_low (f ∷ fs) zero a = a.1
 ports_low (f ∷ fs) (suc d) a = ports_low fs d a.3
 
 -- the packets of all nodes are those of the nodes below the count
-pub packets_in_order : (fs : List PhyFacts) (g : Peers) (number parents : List (Option ℕ)) (i n : ℕ) (ps : List PhyPacket) → AreDevices fs → ArePackets fs g number parents i n ps → are_ids 0 None ps n ≡ true
+pub packets_in_order : (fs : List PhyFacts) (g : Peers) (number parents : List (Option ℕ)) (i n : ℕ) (ps : List PhyPacket) → AreDevices fs → ArePackets fs g number parents i n ps
+    → are_ids 0 None ps n ≡ true
 packets_in_order fs g number parents i n ps devices no_node = refl
 packets_in_order fs g number parents i n ps devices (node {n = k} {ps = qs} a d h e) =
     let own = node_packets (facts_at fs d) (slice_index_or g d []) (number_at parents d) k (d == i) in
-    let all : are_ids 0 None (qs ++ own) (k + 1) ≡ true = are_then qs own 0 k (k + 1) None (packets_in_order fs g number parents i k qs devices a) ∙ node_ids (facts_at fs d) (slice_index_or g d []) (number_at parents d) k (d == i) (ports_low fs d devices) in
+    let all : are_ids 0 None (qs ++ own) (k + 1) ≡ true = are_then qs own 0 k (k + 1) None (packets_in_order fs g number parents i k qs devices a)
+    ∙ node_ids (facts_at fs d) (slice_index_or g d []) (number_at parents d) k (d == i) (ports_low fs d devices) in
     ap (λ t. are_ids 0 None t (suc k)) e ∙ ap (λ m. are_ids 0 None (qs ++ own) m) (sym (add-one k)) ∙ all
 
 -- a node has at most four packets
@@ -121,7 +130,7 @@ packets_few fs g number parents i n ps (node {n = k} {ps = qs} a d h e) =
     let size : length ps ≡ length (qs ++ own) = ap length e in
     omega (arith, packets_few fs g number parents i k qs a, node_few (facts_at fs d) (slice_index_or g d []) (number_at parents d) k (d == i), length-append qs own)
 
--- the speed in the first packet zero of a node, or another where it has none
+-- the speed in the first packet zero of a node, or another if it has none
 speed_or : ℕ → List PhyPacket → ℕ → ℕ
 speed_or n [] z = z
 speed_or n (SelfId s ∷ ps) z = if s.phy == n then s.speed else speed_or n ps z
@@ -150,14 +159,16 @@ unfolding speed_or further
 speed_further n true m z = refl
 speed_further n false m z = refl
 
-speed_node : (n : ℕ) (f : PhyFacts) (cables : List (Option End)) (parent : Option ℕ) (phy : ℕ) (initiator : Bool) (z : ℕ) → speed_or n (node_packets f cables parent phy initiator) z ≡ (if phy == n then f.speed else z)
+speed_node : (n : ℕ) (f : PhyFacts) (cables : List (Option End)) (parent : Option ℕ) (phy : ℕ) (initiator : Bool) (z : ℕ)
+    → speed_or n (node_packets f cables parent phy initiator) z ≡ (if phy == n then f.speed else z)
 unfolding speed_or further
 speed_node n f cables parent phy initiator z =
     let first = first_packet f cables parent phy initiator ∷ [] in
     let a = further_packet f cables parent phy 0 in
     let b = further_packet f cables parent phy 1 in
     let c = further_packet f cables parent phy 2 in
-    speed_append n (first ++ a ++ b) c z ∙ ap (speed_or n (first ++ a ++ b)) (speed_further n (nat_lt 19 f.ports) _ z) ∙ speed_append n (first ++ a) b z ∙ ap (speed_or n (first ++ a)) (speed_further n (nat_lt 11 f.ports) _ z)
+    speed_append n (first ++ a ++ b) c z ∙ ap (speed_or n (first ++ a ++ b)) (speed_further n (nat_lt 19 f.ports) _ z) ∙ speed_append n (first ++ a) b z
+    ∙ ap (speed_or n (first ++ a)) (speed_further n (nat_lt 11 f.ports) _ z)
     ∙ speed_append n first a z ∙ ap (speed_or n first) (speed_further n (nat_lt 3 f.ports) _ z)
 
 -- no packet is of a node from the count on
@@ -170,7 +181,8 @@ speed_past fs g number parents i n ps (node {n = k} {ps = qs} a d h e) m z high 
     ap (λ t. speed_or m t z) e ∙ speed_append m qs own z ∙ speed_past fs g number parents i k qs a m (speed_or m own z) (omega arith)
     ∙ speed_node m f (slice_index_or g d []) (number_at parents d) k (d == i) z ∙ ap (λ b. if b then f.speed else z) (ne_eqb k m (λ same. omega arith))
 
-speed_shown : (fs : List PhyFacts) (g : Peers) (number parents : List (Option ℕ)) (i n : ℕ) (ps : List PhyPacket) → ((d e n : ℕ) → number_at number d ≡ Some n → number_at number e ≡ Some n → d ≡ e) → ArePackets fs g number parents i n ps
+speed_shown : (fs : List PhyFacts) (g : Peers) (number parents : List (Option ℕ)) (i n : ℕ) (ps : List PhyPacket) → ((d e n : ℕ) → number_at number d ≡ Some n → number_at number e ≡ Some n → d ≡ e)
+    → ArePackets fs g number parents i n ps
     → (d m z : ℕ) → m < n → number_at number d ≡ Some m → speed_or m ps z ≡ (facts_at fs d).speed
 speed_shown fs g number parents i n ps one no_node d m z low at = absurd (omega arith)
 speed_shown fs g number parents i n ps one (node {n = k} {ps = qs} a c h e) d m z low at =
@@ -185,11 +197,13 @@ speed_shown fs g number parents i n ps one (node {n = k} {ps = qs} a c h e) d m 
     ]
 
 -- each node's packets show its device's speed
-pub speed_of_node : (fs : List PhyFacts) (g : Peers) (number parents : List (Option ℕ)) (i n : ℕ) (ps : List PhyPacket) → AreNodes number n → ArePackets fs g number parents i n ps → (d m : ℕ) → number_at number d ≡ Some m → speed_of m ps ≡ (facts_at fs d).speed
+pub speed_of_node : (fs : List PhyFacts) (g : Peers) (number parents : List (Option ℕ)) (i n : ℕ) (ps : List PhyPacket) → AreNodes number n → ArePackets fs g number parents i n ps → (d m : ℕ)
+    → number_at number d ≡ Some m → speed_of m ps ≡ (facts_at fs d).speed
 speed_of_node fs g number parents i n ps nodes a d m at = speed_is m ps ∙ speed_shown fs g number parents i n ps nodes.one a d m 0 (nodes.below d m at) at
 
 -- and every speed fits
-pub speeds_fit : (fs : List PhyFacts) (g : Peers) (number parents : List (Option ℕ)) (i n : ℕ) (ps : List PhyPacket) → AreDevices fs → AreNodes number n → ArePackets fs g number parents i n ps → (m : ℕ) → speed_of m ps < 4
+pub speeds_fit : (fs : List PhyFacts) (g : Peers) (number parents : List (Option ℕ)) (i n : ℕ) (ps : List PhyPacket) → AreDevices fs → AreNodes number n → ArePackets fs g number parents i n ps
+    → (m : ℕ) → speed_of m ps < 4
 speeds_fit fs g number parents i n ps devices nodes a m = elim (cases_lt m n) [
   | inl low ↦ let w = nodes.taken m low in let e = speed_of_node fs g number parents i n ps nodes a w.0 m w.1 in omega (arith, speed_low fs w.0 devices)
   | inr high ↦ let e = speed_is m ps in let z = speed_past fs g number parents i n ps a m 0 high in omega arith

@@ -1,12 +1,11 @@
--- A cable takes no device off the bus, and its second end is on it where the first was.
-use Rattle.std.proofs.Common.{inl, inr, ℕ, Option, refl, sym, subst}
+-- A cable takes no device off the bus, and its second end is on it if the first was.
+use Rattle.fw_devices.proofs.Common.{inl, inr, ℕ, Option, refl, sym, subst, IsOnBus, Topology, Made, sound_made}
 use Rattle.fw_tree.specs.declared.facts.End.{End}
-use Rattle.fw_tree.specs.Cables.{Peers, peer, LeadsTo, Walk, here, along, IsOnBus}
+use Rattle.fw_tree.specs.Cables.{Peers, peer, LeadsTo, Walk, here, along}
 use Rattle.fw_tree.specs.Forest.{IsAdded}
-use Rattle.fw_tree.specs.Topology.{Topology, Made, IsJoined}
+use Rattle.fw_tree.specs.Topology.{IsJoined}
 use Rattle.fw_tree.proofs.ForestLaws.{is_at}
 use Rattle.fw_tree.proofs.TopologyLaws.{is_added, ends_within}
-use Rattle.fw_tree.proofs.ReachLaws.{sound_made}
 
 -- a cable stays where it is
 leads_on : (g h : Peers) (a b : End) → IsAdded g h a b → (x p d : ℕ) → LeadsTo (peer g x p) d → LeadsTo (peer h x p) d

@@ -1,3 +1,4 @@
+pub mod Common
 pub mod IdLaws
 pub mod RowLaws
 pub mod EntryLaws

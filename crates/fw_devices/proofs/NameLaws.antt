@@ -1,13 +1,13 @@
 -- Where names stand: a place that is kept is that of the first of its name.
-use Rattle.std.proofs.Common.{◌≡◌, ◌<◌, ◌≤◌, ◌++◌, ◌∷◌, [], ◌∙◌, inl, inr, ℕ, List, Bool, true, Some, None, length, get_or, set, position, not, arith, refl, sym, ap, subst, get_or-set_same, get_or-set_other}
+use Rattle.fw_devices.proofs.Common.{◌≡◌, ◌<◌, ◌≤◌, ◌++◌, ◌∷◌, [], ◌∙◌, inl, inr, ℕ, List, Bool, true, Some, None, length, get_or, arith, refl, sym, ap, subst, cases_eq, cases_lt, length_push}
+use Rattle.fw_devices.proofs.Common.{same_bytes}
+use Rattle.std.proofs.Common.{set, position, not, get_or-set_same, get_or-set_other}
 use Rattle.std.specs.List.{position_or_len}
-use Rattle.std.proofs.lemmas.Bool.{cases_eq, cases_lt}
 use Rattle.std.proofs.lemmas.Bool.Decides.{nat_tests}
 use Rattle.std.proofs.Math.ListN.{replicate}
-use Rattle.std.proofs.lemmas.List.{length_push, get_or_append_left, get_or_push, get_or-replicate, get_or_past, length-replicate, set_past}
+use Rattle.std.proofs.lemmas.List.{get_or_append_left, get_or_push, get_or-replicate, get_or_past, length-replicate, set_past}
 use Rattle.std.proofs.lemmas.List.Folds.{position_or_len_push}
 use Rattle.std.proofs.lemmas.List.Sums.{prefix_len-le-length}
-use Rattle.fw_devices.specs.Network.{same_bytes}
 use Rattle.fw_devices.specs.Names.{HasPlaces}
 
 -- a name is the same as itself
@@ -45,7 +45,7 @@ kept_first names place x low first =
     let same : get_or (names ++ x ∷ []) place [] ≡ get_or names place [] = get_or_append_left names (x ∷ []) [] place low in
     rw (same, position_or_len_push (same_bytes (get_or names place [])) names x) (grind (arith, nat_tests))
 
--- the place behind the names is that of the first of a name that was not there
+-- the place after the names is that of the first of a name that was not there
 new_first : (names : List (List ℕ)) (x : List ℕ) → position (same_bytes x) names ≡ None
     → position_or_len (same_bytes (get_or (names ++ x ∷ []) (length names) [])) (names ++ x ∷ []) ≡ length names
 new_first names x none =
@@ -70,11 +70,11 @@ one_more names places capacity capacity' x h few room =
       none = λ k far. h.none k (omega arith);
     }
 
--- what is true of each place, where there is a name more
+-- what is true of each place, if there is a name more
 IsPlace : List (List ℕ) → ℕ → Type 0
 IsPlace names p = (p < length names → position_or_len (same_bytes (get_or names p [])) names ≡ p) × (length names ≤ p → p ≡ 255)
 
--- a name more, whose key is kept where it is the first of its name
+-- a name more, whose key is kept if it is the first of its name
 pub one_kept : (names : List (List ℕ)) (places : List ℕ) (capacity capacity' : ℕ) (x : List ℕ) (key : ℕ) → HasPlaces names places capacity → length names < 63 → 63 ≤ capacity'
     → position (same_bytes x) names ≡ None → HasPlaces (names ++ x ∷ []) (set places key (length names)) capacity'
 unfolding IsPlace

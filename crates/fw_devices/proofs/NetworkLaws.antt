@@ -1,17 +1,16 @@
 -- What declaring a device and changing registers leave of a network.
-use Rattle.std.proofs.Common.{Bool, ◌≡◌, inl, inr, ℕ, zero, suc, ◌+◌, ◌<◌, map, List, [], ◌∷◌, ◌++◌, length, get_or, slice_set, Option, Some, None, true, false, arith, refl, sym, ap, subst, ◌∙◌, length-set, get_or-set_same, get_or-set_other}
+use Rattle.fw_devices.proofs.Common.{Bool, ◌≡◌, inl, inr, ℕ, ◌+◌, ◌<◌, map, List, [], ◌∷◌, ◌++◌, length, get_or, slice_set, Option, Some, None, true, false, arith, refl, sym, ap, subst, ◌∙◌, cases_eq}
+use Rattle.fw_devices.proofs.Common.{cases_lt, length-map, length_push, DeviceKind, Relay, Made, NodeState, first_state, after_second, Network, kinds_of, kind_at, node_at, same_bytes}
+use Rattle.std.proofs.Common.{zero, suc}
+use Rattle.std.proofs.Common.{length-set, get_or-set_same, get_or-set_other}
 use Rattle.std.specs.Str.{bytes_eq}
-use Rattle.std.proofs.lemmas.Bool.{cases_eq, cases_lt}
-use Rattle.std.proofs.lemmas.List.{length-map, length_push, get_or_append_left, get_or_push, get_or_read}
-use Rattle.fw_base.specs.declared.device.DeviceKind.{DeviceKind}
-use Rattle.fw_base.specs.declared.device.DeviceKind.TheVariants.{Relay}
-use Rattle.fw_base.specs.Devices.{has_link, is_contender}
+use Rattle.std.proofs.lemmas.List.{get_or_append_left, get_or_push, get_or_read}
+use Rattle.fw_terms.specs.Devices.{has_link, is_contender}
 use Rattle.fw_tree.specs.declared.facts.PhyFacts.{PhyFacts}
-use Rattle.fw_tree.specs.Topology.{Made}
 use Rattle.fw_tree.specs.SelfIds.{facts_at}
 use Rattle.fw_csr.specs.declared.request.Request.{Request}
-use Rattle.fw_node.specs.State.{NodeState, first_state, after_request, after_second}
-use Rattle.fw_devices.specs.Network.{Network, IsNetwork, kinds_of, kind_at, facts_of, with_device, node_at, same_bytes}
+use Rattle.fw_node.specs.State.{after_request}
+use Rattle.fw_devices.specs.Network.{IsNetwork, facts_of, with_device}
 
 -- the two tests of names say the same
 pub same_bytes_is : (xs ys : List ℕ) → bytes_eq xs ys ≡ same_bytes xs ys
@@ -48,7 +47,8 @@ fits_of n h d low =
       apart = h.withhold d (omega arith);
     }
 
-network_of : (n : Network) → Made n.topology → length n.names ≡ length n.topology.devices → length n.nodes ≡ length n.topology.devices → ((d : ℕ) → d < length n.topology.devices → Fits n.withheld d (facts_at n.topology.devices d) (node_at n.nodes d)) → IsNetwork n
+network_of : (n : Network) → Made n.topology → length n.names ≡ length n.topology.devices → length n.nodes ≡ length n.topology.devices
+    → ((d : ℕ) → d < length n.topology.devices → Fits n.withheld d (facts_at n.topology.devices d) (node_at n.nodes d)) → IsNetwork n
 network_of n made names size fits = record {
   made = made;
   names = names;
@@ -87,7 +87,8 @@ fits_same withheld d f m n h s = record {
 pub network_kept : (n m : Network) → IsNetwork n → m.topology ≡ n.topology → m.names ≡ n.names → m.withheld ≡ n.withheld → AreSameDevices n.nodes m.nodes → IsNetwork m
 network_kept n m h topology names withheld s =
     let size = s.size ∙ size_of n h in
-    let fits : (d : ℕ) → d < length n.topology.devices → Fits n.withheld d (facts_at n.topology.devices d) (node_at m.nodes d) = λ d low. let all = size_of n h in fits_same n.withheld d (facts_at n.topology.devices d) (node_at n.nodes d) (node_at m.nodes d) (fits_of n h d low) (s.each d (omega arith)) in
+    let fits : (d : ℕ) → d < length n.topology.devices → Fits n.withheld d (facts_at n.topology.devices d) (node_at m.nodes d) = λ d low. let all = size_of n h in
+    fits_same n.withheld d (facts_at n.topology.devices d) (node_at n.nodes d) (node_at m.nodes d) (fits_of n h d low) (s.each d (omega arith)) in
     network_of m (rw topology h.made) (rw (topology, names) h.names) (rw topology size) (rw (topology, withheld) fits)
 
 -- a request leaves a node's device as it is
@@ -104,10 +105,11 @@ node_mapped f (n ∷ ns) (suc d) low = node_mapped f ns d (omega arith)
 pub same_second : (nodes : List NodeState) → AreSameDevices nodes (map after_second nodes)
 same_second nodes = record {
   size = length-map nodes after_second;
-  each = λ d low. let P : NodeState → Type 0 = IsSameDevice (node_at nodes d) in subst P (sym (node_mapped after_second nodes d low)) (record { kind = refl; device = refl; rate = refl; withheld = refl });
+  each = λ d low. let P : NodeState → Type 0 = IsSameDevice (node_at nodes d) in
+      subst P (sym (node_mapped after_second nodes d low)) (record { kind = refl; device = refl; rate = refl; withheld = refl });
 }
 
--- where one node was exchanged for another of the same device
+-- if one node was exchanged for another of the same device
 pub same_set : (nodes : List NodeState) (i : ℕ) (x y : NodeState) → i < length nodes → x ≡ get_or nodes i x → IsSameDevice x y → AreSameDevices nodes (slice_set nodes i y)
 same_set nodes i x y low is s = record {
   size = length-set nodes i y;
@@ -115,7 +117,8 @@ same_set nodes i x y low is s = record {
     | inl here ↦
         let P : NodeState → Type 0 = λ m. IsSameDevice m (node_at (slice_set nodes i y) d) in
         let Q : NodeState → Type 0 = IsSameDevice x in
-        subst P (get_or_read nodes i x low is (first_state Relay 0 0 false) ∙ ap (node_at nodes) (sym here)) (subst Q (sym (ap (node_at (slice_set nodes i y)) here ∙ get_or-set_same nodes i y (first_state Relay 0 0 false) low)) s)
+        subst P (get_or_read nodes i x low is (first_state Relay 0 0 false) ∙ ap (node_at nodes) (sym here))
+        (subst Q (sym (ap (node_at (slice_set nodes i y)) here ∙ get_or-set_same nodes i y (first_state Relay 0 0 false) low)) s)
     | inr other ↦
         let Q : NodeState → Type 0 = IsSameDevice (node_at nodes d) in
         subst Q (sym (get_or-set_other nodes i d y (first_state Relay 0 0 false) other)) (record { kind = refl; device = refl; rate = refl; withheld = refl })
@@ -125,31 +128,36 @@ same_set nodes i x y low is s = record {
 -- ---- a device more
 
 -- what holds of each device and its node, and of one more, holds of each of the longer lists
-each_pushed : (P : ℕ → PhyFacts → NodeState → Type 0) (devices : List PhyFacts) (nodes : List NodeState) (f : PhyFacts) (x : NodeState) → length nodes ≡ length devices → ((d : ℕ) → d < length devices → P d (facts_at devices d) (node_at nodes d)) → P (length devices) f x
+each_pushed : (P : ℕ → PhyFacts → NodeState → Type 0) (devices : List PhyFacts) (nodes : List NodeState) (f : PhyFacts) (x : NodeState) → length nodes ≡ length devices
+    → ((d : ℕ) → d < length devices → P d (facts_at devices d) (node_at nodes d)) → P (length devices) f x
     → (d : ℕ) → d < length devices + 1 → P d (facts_at (devices ++ f ∷ []) d) (node_at (nodes ++ x ∷ []) d)
 each_pushed P devices nodes f x size each one d low = elim (cases_lt d (length devices)) [
   | inl less ↦
       let F : PhyFacts → Type 0 = λ g. P d g (node_at (nodes ++ x ∷ []) d) in
       let N : NodeState → Type 0 = λ m. P d (facts_at devices d) m in
-      subst F (sym (get_or_append_left devices (f ∷ []) (record { ports = 0; speed = 0; link = false; contender = false }) d less)) (subst N (sym (get_or_append_left nodes (x ∷ []) (first_state Relay 0 0 false) d (omega arith))) (each d less))
+      subst F (sym (get_or_append_left devices (f ∷ []) (record { ports = 0; speed = 0; link = false; contender = false }) d less))
+      (subst N (sym (get_or_append_left nodes (x ∷ []) (first_state Relay 0 0 false) d (omega arith))) (each d less))
   | inr most ↦
       let here : d ≡ length devices = omega arith in
       let F : PhyFacts → Type 0 = λ g. P d g (node_at (nodes ++ x ∷ []) d) in
       let N : NodeState → Type 0 = λ m. P d f m in
       let D : ℕ → Type 0 = λ k. P k f x in
-      subst F (sym (get_or_push devices f (record { ports = 0; speed = 0; link = false; contender = false }) d (sym here))) (subst N (sym (get_or_push nodes x (first_state Relay 0 0 false) d (size ∙ sym here))) (subst D (sym here) one))
+      subst F (sym (get_or_push devices f (record { ports = 0; speed = 0; link = false; contender = false }) d (sym here)))
+      (subst N (sym (get_or_push nodes x (first_state Relay 0 0 false) d (size ∙ sym here))) (subst D (sym here) one))
 ]
 
-pub network_more : (n : Network) (name : List ℕ) (kind : DeviceKind) (ports speed : ℕ) → IsNetwork n → Made (with_device n name kind ports speed).topology → IsNetwork (with_device n name kind ports speed)
+pub network_more : (n : Network) (name : List ℕ) (kind : DeviceKind) (ports speed : ℕ) → IsNetwork n → Made (with_device n name kind ports speed).topology
+    → IsNetwork (with_device n name kind ports speed)
 network_more n name kind ports speed h made =
     let size = size_of n h in
     let more = length_push n.topology.devices (facts_of kind ports speed) in
     network_of (with_device n name kind ports speed) made
     (length_push n.names name ∙ ap (λ k. k + 1) h.names ∙ sym more)
     (length_push n.nodes (first_state kind (length n.names) speed n.withheld) ∙ ap (λ k. k + 1) size ∙ sym more)
-    (λ d low. each_pushed (Fits n.withheld) n.topology.devices n.nodes (facts_of kind ports speed) (first_state kind (length n.names) speed n.withheld) size (fits_of n h) (record { link = refl; contender = refl; device = h.names; rate = refl; apart = refl }) d (omega arith))
+    (λ d low. each_pushed (Fits n.withheld) n.topology.devices n.nodes (facts_of kind ports speed) (first_state kind (length n.names) speed n.withheld) size (fits_of n h)
+    (record { link = refl; contender = refl; device = h.names; rate = refl; apart = refl }) d (omega arith))
 
--- where no device is declared, channel 31 may be withheld
+-- if no device is declared, channel 31 may be withheld
 pub network_withheld : (n : Network) → IsNetwork n → n.names ≡ [] → IsNetwork (record n { withheld = true })
 network_withheld n h none = record {
   made = h.made;

@@ -1,30 +1,24 @@
 -- What the steps of a bus reset make of a network.
-use Rattle.std.proofs.Common.{◌≡◌, ℕ, ◌+◌, ◌<◌, ◌≤◌, ◌&&◌, List, length, map, slice_get, Option, Some, None, arith, refl, sym, ap, subst, ◌∙◌}
+use Rattle.fw_devices.proofs.Common.{◌≡◌, ℕ, ◌+◌, ◌<◌, ◌≤◌, List, length, map, slice_get, Option, Some, None, arith, refl, sym, ap, subst, ◌∙◌, length-map, DeviceKind, Relay, NodeRow, IsOnBus}
+use Rattle.fw_devices.proofs.Common.{number_at, Topology, Made, sound_made, NodeState, Network, kinds_of, kind_at, node_at, row_of, IsFound}
+use Rattle.std.proofs.Common.{◌&&◌}
 use Rattle.std.specs.Option.{option_map}
-use Rattle.std.proofs.lemmas.List.{length-map, get_or_default, same_lists}
-use Rattle.fw_base.specs.declared.device.DeviceKind.{DeviceKind}
-use Rattle.fw_base.specs.declared.device.DeviceKind.TheVariants.{Relay}
+use Rattle.std.proofs.lemmas.List.{get_or_default, same_lists}
 use Rattle.fw_phy.specs.Phy.{begun_by}
 use Rattle.fw_phy.specs.declared.packet.PhyPacket.{PhyPacket}
-use Rattle.fw_entry.specs.declared.entry.ResetEntry.{ResetEntry}
-use Rattle.fw_entry.specs.declared.nodes.NodeRow.{NodeRow}
+use Rattle.fw_log_entry.specs.declared.entry.ResetEntry.{ResetEntry}
 use Rattle.fw_tree.specs.declared.numbering.Numbering.{Numbering}
 use Rattle.fw_tree.specs.Numbering.{IsNumbering, IsManager}
-use Rattle.fw_tree.specs.Cables.{IsOnBus}
-use Rattle.fw_tree.specs.Numbers.{counted, has_number, number_at}
+use Rattle.fw_tree.specs.Numbers.{counted, has_number}
 use Rattle.fw_tree.specs.Paths.{comes_before}
 use Rattle.fw_tree.specs.SelfIds.{ArePackets}
-use Rattle.fw_tree.specs.Topology.{Topology, Made}
 use Rattle.fw_tree.proofs.CountLaws.{there}
 use Rattle.fw_tree.proofs.NumberingLaws.{count_most, placed}
-use Rattle.fw_tree.proofs.ReachLaws.{sound_made}
 use Rattle.fw_tree.proofs.SelfIdLaws.{begun as packets_begun}
-use Rattle.fw_node.specs.State.{NodeState}
 use Rattle.fw_devices.specs.declared.bus.Bus.{Bus}
-use Rattle.fw_devices.specs.Network.{Network, IsNetwork, kinds_of, kind_at, node_at}
-use Rattle.fw_devices.specs.Entries.{IsResetEntry, begun, row_of, number_of, device_of}
+use Rattle.fw_devices.specs.Network.{IsNetwork}
+use Rattle.fw_devices.specs.Entries.{IsResetEntry, begun, number_of, device_of}
 use Rattle.fw_devices.specs.Resets.{IsReset, numbered}
-use Rattle.fw_devices.specs.Kept.{IsFound}
 use Rattle.fw_devices.proofs.RowLaws.{AreRows, number_in}
 use Rattle.fw_devices.proofs.NetworkLaws.{IsSameDevice, AreSameDevices, kind_of_node}
 
@@ -45,7 +39,8 @@ pub record Steps (old : Network) (initiator : ℕ) (n : Numbering) (manager : Op
   pub same : length nodes ≡ length old.nodes
   pub nodes_are : (d : ℕ) → d < length old.nodes → node_at nodes d ≡ numbered (number_at n.number d) e.manager (node_at old.nodes d)
 
-pub entry_of : (old : Network) (initiator : ℕ) (n : Numbering) (manager : Option ℕ) (nodes : List NodeState) (e : ResetEntry) → Steps old initiator n manager nodes e → IsResetEntry old.topology (kinds_of old.nodes) (old.epoch + 1) initiator e
+pub entry_of : (old : Network) (initiator : ℕ) (n : Numbering) (manager : Option ℕ) (nodes : List NodeState) (e : ResetEntry) → Steps old initiator n manager nodes e
+    → IsResetEntry old.topology (kinds_of old.nodes) (old.epoch + 1) initiator e
 entry_of old initiator n manager nodes e s = record {
   numbering = n;
   numbered = s.numbering;
@@ -61,11 +56,13 @@ entry_of old initiator n manager nodes e s = record {
 }
 
 -- the manager is the device of its row
-manager_of : (t : Topology) (n : Numbering) (manager : Option ℕ) (kinds : List DeviceKind) (rows : List NodeRow) → IsManager t.devices n.number manager → ((d k : ℕ) → number_at n.number d ≡ Some k → slice_get rows k ≡ Some (row_of d (kind_at kinds d))) → manager ≡ device_of rows (number_of n.number manager)
+manager_of : (t : Topology) (n : Numbering) (manager : Option ℕ) (kinds : List DeviceKind) (rows : List NodeRow) → IsManager t.devices n.number manager
+    → ((d k : ℕ) → number_at n.number d ≡ Some k → slice_get rows k ≡ Some (row_of d (kind_at kinds d))) → manager ≡ device_of rows (number_of n.number manager)
 manager_of t n None kinds rows m each = refl
 manager_of t n (Some d) kinds rows m each = sym (ap (device_of rows) m.1.numbered ∙ ap (option_map (λ (r : NodeRow). r.device)) (each d m.0 m.1.numbered))
 
-rows_of : (old : Network) (initiator : ℕ) (n : Numbering) (manager : Option ℕ) (nodes : List NodeState) (e : ResetEntry) → Steps old initiator n manager nodes e → AreRows n.number (kinds_of old.nodes) e.nodes
+rows_of : (old : Network) (initiator : ℕ) (n : Numbering) (manager : Option ℕ) (nodes : List NodeState) (e : ResetEntry) → Steps old initiator n manager nodes e
+    → AreRows n.number (kinds_of old.nodes) e.nodes
 rows_of old initiator n manager nodes e s = record { nodes = rw s.size s.numbering.nodes; each = s.rows }
 
 pub is_reset : (old : Network) (initiator : ℕ) (n : Numbering) (manager : Option ℕ) (nodes : List NodeState) (e : ResetEntry) → IsNetwork old → Steps old initiator n manager nodes e
@@ -89,7 +86,8 @@ same_numbered : (o manager : Option ℕ) (n : NodeState) → IsSameDevice n (num
 same_numbered None manager n = record { kind = refl; device = refl; rate = refl; withheld = refl }
 same_numbered (Some k) manager n = record { kind = refl; device = refl; rate = refl; withheld = refl }
 
-pub same_devices : (old : Network) (initiator : ℕ) (n : Numbering) (manager : Option ℕ) (nodes : List NodeState) (e : ResetEntry) → Steps old initiator n manager nodes e → AreSameDevices old.nodes nodes
+pub same_devices : (old : Network) (initiator : ℕ) (n : Numbering) (manager : Option ℕ) (nodes : List NodeState) (e : ResetEntry) → Steps old initiator n manager nodes e
+    → AreSameDevices old.nodes nodes
 same_devices old initiator n manager nodes e s = record {
   size = s.same;
   each = λ d low. let P : NodeState → Type 0 = IsSameDevice (node_at old.nodes d) in subst P (sym (s.nodes_are d low)) (same_numbered (number_at n.number d) e.manager (node_at old.nodes d));
@@ -97,21 +95,24 @@ same_devices old initiator n manager nodes e s = record {
 
 -- ---- what was found of the bus, and the bus reset that begins
 
--- the kinds stay where each node is of the device that it was of
+-- the kinds stay if each node is of the device that it was of
 pub kinds_same : (old new : List NodeState) → AreSameDevices old new → kinds_of new ≡ kinds_of old
 kinds_same old new s = same_lists (kinds_of new) (kinds_of old) (length-map new kind_of ∙ s.size ∙ sym (length-map old kind_of)) (λ k d low.
     let at = length-map new kind_of in
     let less : k < length old = let size = s.size in omega arith in
     let one = s.each k less in
-    get_or_default (kinds_of new) k d Relay (omega arith) ∙ kind_of_node new k ∙ one.kind ∙ sym (kind_of_node old k) ∙ get_or_default (kinds_of old) k Relay d (let size = length-map old kind_of in omega arith))
+    get_or_default (kinds_of new) k d Relay (omega arith) ∙ kind_of_node new k ∙ one.kind ∙ sym (kind_of_node old k)
+    ∙ get_or_default (kinds_of old) k Relay d (let size = length-map old kind_of in omega arith))
   where
     kind_of : NodeState → DeviceKind
     kind_of n = n.kind
 
-pub found_same : (t : Topology) (n : Numbering) (manager : Option ℕ) (e : ResetEntry) (old new : List NodeState) → AreSameDevices old new → IsFound t (kinds_of old) n manager e → IsFound t (kinds_of new) n manager e
+pub found_same : (t : Topology) (n : Numbering) (manager : Option ℕ) (e : ResetEntry) (old new : List NodeState) → AreSameDevices old new → IsFound t (kinds_of old) n manager e
+    → IsFound t (kinds_of new) n manager e
 found_same t n manager e old new s h = let P : List DeviceKind → Type 0 = λ kinds. IsFound t kinds n manager e in subst P (sym (kinds_same old new s)) h
 
-pub found_taken : (t : Topology) (kinds : List DeviceKind) (n : Numbering) (manager : Option ℕ) (e : ResetEntry) (initiator node epoch : ℕ) (ids : List PhyPacket) → number_at n.number initiator ≡ Some node
+pub found_taken : (t : Topology) (kinds : List DeviceKind) (n : Numbering) (manager : Option ℕ) (e : ResetEntry) (initiator node epoch : ℕ) (ids : List PhyPacket)
+    → number_at n.number initiator ≡ Some node
     → ids ≡ map (begun_by node) e.ids → IsFound t kinds n manager e → IsFound t kinds n manager (record e { epoch = epoch; initiator = node; ids = ids })
 found_taken t kinds n manager e initiator node epoch ids at are h = record {
   numbered = h.numbered;
@@ -124,7 +125,8 @@ found_taken t kinds n manager e initiator node epoch ids at are h = record {
   ids = rw are (packets_begun t.devices t.cables n.number n.parent_port h.initiator initiator node n.count e.ids h.numbered.nodes.one at h.ids);
 }
 
-pub found_begun : (t : Topology) (kinds : List DeviceKind) (n : Numbering) (manager : Option ℕ) (e : ResetEntry) (initiator node : ℕ) → number_at n.number initiator ≡ Some node → IsFound t kinds n manager e → IsFound t kinds n manager (begun node e)
+pub found_begun : (t : Topology) (kinds : List DeviceKind) (n : Numbering) (manager : Option ℕ) (e : ResetEntry) (initiator node : ℕ) → number_at n.number initiator ≡ Some node
+    → IsFound t kinds n manager e → IsFound t kinds n manager (begun node e)
 found_begun t kinds n manager e initiator node at h = record {
   numbered = h.numbered;
   manages = h.manages;
@@ -136,7 +138,9 @@ found_begun t kinds n manager e initiator node at h = record {
   ids = packets_begun t.devices t.cables n.number n.parent_port h.initiator initiator node n.count e.ids h.numbered.nodes.one at h.ids;
 }
 
-pub steps_of : (old : Network) (initiator node : ℕ) (n : Numbering) (manager : Option ℕ) (nodes : List NodeState) (e : ResetEntry) → IsFound old.topology (kinds_of old.nodes) n manager e → number_at n.number initiator ≡ Some node → e.epoch ≡ old.epoch → length nodes ≡ length old.nodes → ((d : ℕ) → d < length old.nodes → node_at nodes d ≡ numbered (number_at n.number d) e.manager (node_at old.nodes d))
+pub steps_of : (old : Network) (initiator node : ℕ) (n : Numbering) (manager : Option ℕ) (nodes : List NodeState) (e : ResetEntry) → IsFound old.topology (kinds_of old.nodes) n manager e
+    → number_at n.number initiator ≡ Some node → e.epoch ≡ old.epoch → length nodes ≡ length old.nodes
+    → ((d : ℕ) → d < length old.nodes → node_at nodes d ≡ numbered (number_at n.number d) e.manager (node_at old.nodes d))
     → Steps old initiator n manager nodes (begun node e)
 steps_of old initiator node n manager nodes e h at epoch same nodes_are = record {
   numbering = h.numbered;
@@ -158,7 +162,9 @@ pub record Left (old : Network) (initiator : ℕ) (b : Bus) (nodes : List NodeSt
   pub found : IsFound old.topology (kinds_of nodes) b.numbering b.manager b.entry
 
 -- seen and kept are the nodes as the two steps read them
-pub left_of : (old : Network) (initiator : ℕ) (b c : Bus) (seen kept nodes : List NodeState) → IsOnBus old.topology.cables initiator → seen ≡ old.nodes → kept ≡ old.nodes → IsFound old.topology (kinds_of seen) b.numbering b.manager b.entry → b.entry.epoch ≡ old.epoch → ((node : ℕ) → number_at b.numbering.number initiator ≡ Some node → c ≡ record b { entry = begun node b.entry }) → length nodes ≡ length kept
+pub left_of : (old : Network) (initiator : ℕ) (b c : Bus) (seen kept nodes : List NodeState) → IsOnBus old.topology.cables initiator → seen ≡ old.nodes → kept ≡ old.nodes
+    → IsFound old.topology (kinds_of seen) b.numbering b.manager b.entry → b.entry.epoch ≡ old.epoch
+    → ((node : ℕ) → number_at b.numbering.number initiator ≡ Some node → c ≡ record b { entry = begun node b.entry }) → length nodes ≡ length kept
     → ((d : ℕ) → d < length kept → node_at nodes d ≡ numbered (number_at c.numbering.number d) c.entry.manager (node_at kept d)) → Left old initiator c nodes
 left_of old initiator b c seen kept nodes on are_seen are_kept found epoch begins size nodes_are =
     let F : List NodeState → Type 0 = λ ns. IsFound old.topology (kinds_of ns) b.numbering b.manager b.entry in
@@ -172,7 +178,11 @@ left_of old initiator b c seen kept nodes on are_seen are_kept found epoch begin
     subst P (sym is) (λ each.
     let steps = steps_of old initiator node b.numbering b.manager nodes b.entry h at epoch (subst S are_kept size) each in
     let devices = same_devices old initiator b.numbering b.manager nodes (begun node b.entry) steps in
-    record { steps = steps; found = found_same old.topology b.numbering b.manager (begun node b.entry) old.nodes nodes devices (found_begun old.topology (kinds_of old.nodes) b.numbering b.manager b.entry initiator node at h) }) (subst M are_kept nodes_are)
+    record {
+      steps = steps;
+      found = found_same old.topology b.numbering b.manager (begun node b.entry) old.nodes nodes devices
+          (found_begun old.topology (kinds_of old.nodes) b.numbering b.manager b.entry initiator node at h);
+    }) (subst M are_kept nodes_are)
 
 -- the numbers of the nodes are below 63
 pub number_low : (t : Topology) (node : ℕ) (b c : Bus) → IsNumbering t b.numbering → c ≡ record b { entry = begun node b.entry } → (d n : ℕ) → number_at c.numbering.number d ≡ Some n → n ≤ 62

@@ -1,18 +1,16 @@
 -- The rows of an entry: each is of the device that has its number, and a device is found under that number alone.
-use Rattle.std.proofs.Common.{◌≡◌, ℕ, ◌<◌, ◌==◌, nat_lt, List, length, get_or, slice_get, Option, Some, None, true, false, if◌then◌else◌, arith, refl, sym, ap, subst, ◌∙◌}
+use Rattle.fw_devices.proofs.Common.{◌≡◌, ℕ, ◌<◌, List, length, get_or, slice_get, Option, Some, None, true, false, arith, refl, sym, ap, subst, ◌∙◌, DeviceKind, NodeRow, number_at, kind_at, row_of}
+use Rattle.std.proofs.Common.{◌==◌, nat_lt, if◌then◌else◌}
 use Rattle.std.specs.List.{All}
 use Rattle.std.specs.Option.{option_map}
 use Rattle.std.proofs.lemmas.Bool.{eq-eqb, ne_eqb, cond_below, cond_above}
 use Rattle.std.proofs.lemmas.List.Sums.{position_or_len_is}
 use Rattle.std.proofs.lemmas.Option.{slice_get_within, get_or_from_slice_get, slice_get-map, same_Some}
-use Rattle.fw_base.specs.declared.device.DeviceKind.{DeviceKind}
-use Rattle.fw_base.proofs.KindLaws.{code_low, plugs_few}
-use Rattle.fw_entry.specs.declared.nodes.NodeRow.{NodeRow}
-use Rattle.fw_entry.specs.Log.{RowFits, AreApart, devices}
-use Rattle.fw_entry.specs.Network.{node_of_device}
-use Rattle.fw_tree.specs.Numbers.{number_at, AreNodes}
-use Rattle.fw_devices.specs.Network.{kind_at}
-use Rattle.fw_devices.specs.Entries.{row_of, node_number}
+use Rattle.fw_terms.proofs.KindLaws.{code_low, plugs_few}
+use Rattle.fw_log_entry.specs.Log.{RowFits, AreApart, devices}
+use Rattle.fw_log_entry.specs.Network.{node_of_device}
+use Rattle.fw_tree.specs.Numbers.{AreNodes}
+use Rattle.fw_devices.specs.Entries.{node_number}
 
 -- the rows are those of the numbered devices
 pub record AreRows (number : List (Option ℕ)) (kinds : List DeviceKind) (rows : List NodeRow) : Type 0 where
@@ -42,7 +40,8 @@ no_row : NodeRow
 no_row = record { device = 0; outs = 0; ins = 0; kind = 0 }
 
 -- the row of another number is of another device
-other_row : (number : List (Option ℕ)) (kinds : List DeviceKind) (rows : List NodeRow) → AreRows number kinds rows → (d k : ℕ) → (number_at number d ≡ Some k → ⊥) → k < length rows → ((get_or rows k no_row).device == d) ≡ false
+other_row : (number : List (Option ℕ)) (kinds : List DeviceKind) (rows : List NodeRow) → AreRows number kinds rows → (d k : ℕ) → (number_at number d ≡ Some k → ⊥) → k < length rows
+    → ((get_or rows k no_row).device == d) ≡ false
 unfolding device_in
 other_row number kinds rows h d k not_it low =
     let w = row_at number kinds rows h k no_row low in
@@ -55,7 +54,8 @@ own_row number kinds rows h d n at = ap (λ r. device_in r == d) (get_or_from_sl
 pub place_of : (number : List (Option ℕ)) (kinds : List DeviceKind) (rows : List NodeRow) → AreRows number kinds rows → (d n : ℕ) → number_at number d ≡ Some n → node_of_device rows d ≡ n
 place_of number kinds rows h d n at =
     let low = h.nodes.below d n at in
-    position_or_len_is (λ row. row.device == d) rows n no_row (omega arith) (λ k less. other_row number kinds rows h d k (λ e. differ k less (same_Some k n (sym e ∙ at))) (omega arith)) (λ _. own_row number kinds rows h d n at)
+    position_or_len_is (λ row. row.device == d) rows n no_row (omega arith) (λ k less. other_row number kinds rows h d k (λ e. differ k less (same_Some k n (sym e ∙ at))) (omega arith))
+    (λ _. own_row number kinds rows h d n at)
   where
     differ : (k : ℕ) → k < n → k ≡ n → ⊥
     differ k less same = omega arith

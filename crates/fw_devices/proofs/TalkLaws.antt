@@ -1,11 +1,9 @@
 -- The table of those that talk is filled device by device.
-use Rattle.std.proofs.Common.{◌≡◌, ◌≢◌, ◌⊎◌, inl, inr, ℕ, ◌+◌, ◌<◌, ◌≤◌, List, length, replicate, slice_index_or, slice_set, Option, Some, None, is_some, refl, ap, sym, subst, ◌∙◌, arith, IsTrue}
-use Rattle.std.proofs.lemmas.Bool.{cases_eq, cases_lt}
+use Rattle.fw_devices.proofs.Common.{◌≡◌, inl, inr, ℕ, ◌+◌, ◌<◌, ◌≤◌, List, length, slice_set, Option, Some, None, refl, ap, sym, subst, ◌∙◌, arith, cases_eq, cases_lt, NodeState, node_at}
+use Rattle.std.proofs.Common.{◌≢◌, ◌⊎◌, replicate, slice_index_or, is_some, IsTrue}
 use Rattle.std.proofs.lemmas.List.{get_or-replicate, get_or_past, get_or-set_other, get_or-set_same, length-set}
 use Rattle.std.proofs.lemmas.Option.{same_Some}
-use Rattle.fw_node.specs.State.{NodeState}
 use Rattle.fw_node.specs.Streams.{talking_on}
-use Rattle.fw_devices.specs.Network.{node_at}
 use Rattle.fw_devices.specs.Streams.{AreSilentFrom, AreTalkers}
 
 -- at first it has none

@@ -10,7 +10,7 @@ use Rattle.fw_node.specs.State.{NodeState}
 abbrev pub tape_of : NodeState → Option Cassette
 tape_of n = option_and_then (λ (u : UnitState). u.tape) n.unit
 
--- this tape is in the unit, or none, where there is a unit
+-- this tape is in the unit, or none, if there is a unit
 abbrev pub with_tape : Option Cassette → NodeState → NodeState
 with_tape tape n = record n { unit = option_map (λ (u : UnitState). record u { tape = tape }) n.unit }
 

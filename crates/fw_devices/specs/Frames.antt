@@ -1,6 +1,6 @@
 -- What only lines and bus resets change of a network, and the nodes beside it, by the numbers of kept ones.
 use Rattle.std.specs.Prelude.{ℕ, ◌≡◌, ◌<◌, ◌≤◌, List, Bool, Option, length, map, slice_index}
-use Rattle.fw_entry.specs.declared.entry.ResetEntry.{ResetEntry}
+use Rattle.fw_log_entry.specs.declared.entry.ResetEntry.{ResetEntry}
 use Rattle.fw_tree.specs.Topology.{Topology}
 use Rattle.fw_node.specs.State.{NodeState}
 use Rattle.fw_devices.specs.Network.{Network, IsNetwork, node_at}

@@ -1,7 +1,7 @@
 -- What is kept of a network between bus resets.
 use Rattle.std.specs.Prelude.{◌≡◌, ℕ, ◌≤◌, Bool, true, Option, Some, List, length, slice_get}
-use Rattle.fw_base.specs.declared.device.DeviceKind.{DeviceKind}
-use Rattle.fw_entry.specs.declared.entry.ResetEntry.{ResetEntry}
+use Rattle.fw_terms.specs.declared.device.DeviceKind.{DeviceKind}
+use Rattle.fw_log_entry.specs.declared.entry.ResetEntry.{ResetEntry}
 use Rattle.fw_tree.specs.declared.numbering.Numbering.{Numbering}
 use Rattle.fw_tree.specs.Numbering.{IsNumbering, IsManager}
 use Rattle.fw_tree.specs.Numbers.{number_at}
@@ -21,7 +21,7 @@ pub record IsFound (t : Topology) (kinds : List DeviceKind) (numbering : Numberi
   pub initiator : ℕ
   pub ids : ArePackets t.devices t.cables numbering.number numbering.parent_port initiator numbering.count e.ids
 
--- what is true of the fields of a network, of which there is room for 63 devices; what was found of it counts where it is current
+-- what is true of the fields of a network, of which there is room for 63 devices; what was found of it counts if it is current
 pub record IsKept (n : Network) (nodes_capacity : ℕ) (current : Bool) (numbering : Numbering) : Type 0 where
   pub network : IsNetwork n
   pub few : length n.names ≤ 63

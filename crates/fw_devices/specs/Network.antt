@@ -1,10 +1,10 @@
 -- The devices that are declared, their cabling, and the node that each is.
 use Rattle.std.specs.Prelude.{◌≡◌, ℕ, ◌<◌, ◌==◌, nat_lt, List, [], ◌∷◌, ◌++◌, Bool, true, false, ◌&&◌, Option, Some, None, is_some, length, map, slice_index_or, if◌then◌else◌}
 use Rattle.std.specs.List.{position_or_len}
-use Rattle.fw_base.specs.declared.device.DeviceKind.{DeviceKind}
-use Rattle.fw_base.specs.declared.device.DeviceKind.TheVariants.{Relay}
-use Rattle.fw_base.specs.Devices.{has_link, is_contender}
-use Rattle.fw_entry.specs.declared.entry.ResetEntry.{ResetEntry}
+use Rattle.fw_terms.specs.declared.device.DeviceKind.{DeviceKind}
+use Rattle.fw_terms.specs.declared.device.DeviceKind.TheVariants.{Relay}
+use Rattle.fw_terms.specs.Devices.{has_link, is_contender}
+use Rattle.fw_log_entry.specs.declared.entry.ResetEntry.{ResetEntry}
 use Rattle.fw_tree.specs.declared.facts.PhyFacts.{PhyFacts}
 use Rattle.fw_tree.specs.Topology.{Topology, Made, no_cables}
 use Rattle.fw_tree.specs.SelfIds.{facts_at}
@@ -20,7 +20,7 @@ pub record Network : Type 0 where
   pub latest : ResetEntry  -- the entry of the latest bus reset
   pub withheld : Bool  -- whether the bus withholds channel 31
 
--- where no bus reset came yet
+-- if no bus reset came yet
 abbrev pub no_entry : ResetEntry
 no_entry = record { epoch = 0; root = 0; manager = None; initiator = 0; nodes = []; ids = [] }
 

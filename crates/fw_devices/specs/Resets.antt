@@ -1,11 +1,11 @@
 -- What a bus reset makes of a network, and what its entry shows.
 use Rattle.std.specs.Prelude.{◌≡◌, ◌↔◌, ℕ, ◌+◌, ◌<◌, List, Option, Some, None, is_some, IsTrue, length, slice_get}
-use Rattle.fw_base.specs.declared.device.DeviceKind.{DeviceKind}
-use Rattle.fw_base.specs.Devices.{has_link}
-use Rattle.fw_entry.specs.declared.entry.ResetEntry.{ResetEntry}
-use Rattle.fw_entry.specs.declared.nodes.NodeRow.{NodeRow}
-use Rattle.fw_entry.specs.Network as Entry
-use Rattle.fw_entry.specs.Network.{speed_of}
+use Rattle.fw_terms.specs.declared.device.DeviceKind.{DeviceKind}
+use Rattle.fw_terms.specs.Devices.{has_link}
+use Rattle.fw_log_entry.specs.declared.entry.ResetEntry.{ResetEntry}
+use Rattle.fw_log_entry.specs.declared.nodes.NodeRow.{NodeRow}
+use Rattle.fw_log_entry.specs.Network as Entry
+use Rattle.fw_log_entry.specs.Network.{speed_of}
 use Rattle.fw_tree.specs.Cables.{IsOnBus}
 use Rattle.fw_tree.specs.SelfIds.{facts_at}
 use Rattle.fw_tree.specs.Topology.{Topology}

@@ -10,6 +10,6 @@ pub record AreTalkers (n : ℕ) (nodes : List NodeState) (talkers : List (Option
   pub talk : (channel d : ℕ) → slice_index_or talkers channel None ≡ Some d → (d < n) × (talking_on (node_at nodes d) ≡ Some channel)
   pub all : (d channel : ℕ) → d < n → talking_on (node_at nodes d) ≡ Some channel → IsTrue (is_some (slice_index_or talkers channel None))
 
--- none talks on this channel or on one behind it
+-- none talks on this channel or on one after it
 pub record AreSilentFrom (end : ℕ) (talkers : List (Option ℕ)) : Type 0 where
   pub each : (channel : ℕ) → end ≤ channel → slice_index_or talkers channel None ≡ None

@@ -1,7 +1,7 @@
 //! The bus as tree identification and self-identification find it, kept until a device or a cable comes.
 
 ghost use Rattle.std.specs.Prelude.{◌≡◌, ◌+◌, ◌<◌, ◌≤◌, ◌^◌, ℕ, List, Some, None, IfSome, IsTrue, true, false, length, slice_get};
-ghost use Rattle.fw_base.specs.declared.device.DeviceKind.{DeviceKind as Kind};
+ghost use Rattle.fw_terms.specs.declared.device.DeviceKind.{DeviceKind as Kind};
 ghost use Rattle.fw_tree.specs.Topology.{Topology};
 ghost use Rattle.fw_tree.specs.Numbers.{AreNodes, has_number, number_at};
 ghost use Rattle.fw_devices.specs.Network.{AreKinds, kinds_of, kind_at, no_entry};
@@ -9,10 +9,10 @@ ghost use Rattle.fw_devices.specs.Entries.{begun, row_of, number_of};
 ghost use Rattle.fw_devices.specs.Kept.{IsFound};
 
 use crate::MOST_DEVICES;
-use fw_base::DeviceKind;
-use fw_entry::{NodeList, NodeRow, ResetEntry};
+use fw_log_entry::{NodeList, NodeRow, ResetEntry};
 use fw_node::Node;
 use fw_phy::SelfIds;
+use fw_terms::DeviceKind;
 use fw_tree::{Cabling, Numbering, devices_of, number_of};
 
 /// What was found of the bus, and the entry of its latest bus reset.
@@ -26,7 +26,7 @@ pub struct Bus {
     pub entry: ResetEntry,
 }
 
-// The node number of a device, where there is one.
+// The node number of a device, if there is one.
 fn number_where(numbering: &Numbering, device: Option<u8>) -> Option<u8>
     requires { IfSome device (λ d. d < 63) }
     ensures { result ≡ number_of numbering.now.number device }
@@ -91,7 +91,7 @@ fn identify(cabling: &Cabling, nodes: &[Node], bus: &mut Bus)
     bus.current = true;
 }
 
-/// The same, where that was not done since the latest change of devices and cables.
+/// The same, if that was not done since the latest change of devices and cables.
 pub fn find(cabling: &Cabling, nodes: &[Node], bus: &mut Bus)
     requires some { 0 < length cabling.now.devices }
     requires kinds { AreKinds cabling.now.devices (kinds_of nodes.now) }

@@ -6,9 +6,9 @@ ghost use Rattle.fw_devices.specs.Network.{IsNetwork, no_devices, device_named, 
 use crate::MOST_DEVICES;
 use crate::bus::Bus;
 use crate::names::Names;
-use fw_base::DeviceKind;
-use fw_command::Name;
 use fw_node::Node;
+use fw_script_command::Name;
+use fw_terms::DeviceKind;
 use fw_tree::{Cabling, End};
 use std::alloc::{AllocError, Global};
 use std::marker::Model;
@@ -70,7 +70,7 @@ impl Devices {
         self.nodes.len() as u8
     }
 
-    /// The device with a name, the first of that name. None where no device has it.
+    /// The device with a name, the first of that name. None if no device has it.
     pub fn find(&self, name: &Name) -> Option<u8>
         ensures value { result ≡ device_named self.now.names name.now }
         ensures there { IfSome result (λ d. d < length self.now.names) }
@@ -87,21 +87,21 @@ impl Devices {
         self.names.get(usize::from(device))
     }
 
-    /// How many ports a device has: none where there is no such device.
+    /// How many ports a device has: none if there is no such device.
     pub fn ports(&self, device: u8) -> u8
         ensures { result ≡ ports_of self.now.topology.devices device }
     {
         self.cabling.ports(device)
     }
 
-    /// The other end of the cable at a port. None where no cable is, and where there is no such port.
+    /// The other end of the cable at a port. None if no cable is, and where there is no such port.
     pub fn peer(&self, end: End) -> Option<End>
         ensures { result ≡ peer self.now.topology.cables end.device end.port }
     {
         self.cabling.peer(end)
     }
 
-    /// The device that the latest bus reset made isochronous resource manager. None where no device of the bus contends
+    /// The device that the latest bus reset made isochronous resource manager. None if no device of the bus contends
     /// with a link, and before the first bus reset.
     pub fn manager(&self) -> Option<u8>
         ensures { result ≡ self.now.manager }
@@ -133,7 +133,7 @@ impl Devices {
         self.nodes[usize::from(device)].number()
     }
 
-    /// The node that a device is. None where there is no such device, or no bus reset had it on the bus.
+    /// The node that a device is. None if there is no such device, or no bus reset had it on the bus.
     pub fn node(&self, device: u8) -> Option<&Node>
         ensures none { IfNone result (is_node self.now.nodes device ≡ false) }
         ensures some { IfSome result (λ node. (node.now ≡ node_at self.now.nodes device) × (is_node self.now.nodes device ≡ true)) }

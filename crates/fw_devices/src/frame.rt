@@ -3,7 +3,7 @@
 ghost use Rattle.std.specs.Prelude.{◌≡◌, IsTrue};
 
 use crate::names::Names;
-use fw_entry::ResetEntry;
+use fw_log_entry::ResetEntry;
 use fw_tree::Cabling;
 use std::marker::Model;
 

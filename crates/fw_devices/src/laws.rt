@@ -9,7 +9,7 @@ pub fn reset_entries_show_the_bus()
     ensures lone { LoneDeckIsRootAndManager }
 {}
 
-/// The devices of the bus are declared. A cable takes no device off the bus, and takes what is at its second end onto it where
+/// The devices of the bus are declared. A cable takes no device off the bus, and takes what is at its second end onto it if
 /// the first end is on it; one between two devices that are off leaves the bus as it was.
 pub fn cables_extend_the_bus()
     ensures declared { BusDevicesAreDeclared }

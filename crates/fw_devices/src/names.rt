@@ -4,7 +4,7 @@ ghost use Rattle.std.specs.Prelude.{ℕ, ◌≡◌, ◌<◌, ◌++◌, ◌∷◌
 ghost use Rattle.fw_devices.specs.Network.{same_bytes};
 
 use crate::MOST_DEVICES;
-use fw_command::Name;
+use fw_script_command::Name;
 use std::alloc::{AllocError, Global};
 use std::marker::Model;
 
@@ -137,7 +137,7 @@ impl Names {
         self.list.len()
     }
 
-    /// The place of the first name that is the same. None where there is none.
+    /// The place of the first name that is the same. None if there is none.
     pub(crate) fn find(&self, name: &Name) -> Option<usize>
         ensures value { result ≡ position (same_bytes name.now) self.now }
         ensures there { IfSome result (λ place. place < length self.now) }

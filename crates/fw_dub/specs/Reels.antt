@@ -1,7 +1,7 @@
 -- What a reel keeps.
 use Rattle.std.specs.Prelude.{ℕ, nat_lt, List, [], ◌∷◌, ◌++◌, length, if◌then◌else◌, flat_map}
 
--- the block behind the others, where fewer than so many are kept
+-- the block after the others, if fewer than so many are kept
 abbrev pub kept : ℕ → List ℕ → List (List ℕ) → List (List ℕ)
 kept limit block reel = if nat_lt (length reel) limit then reel ++ block ∷ [] else reel
 

@@ -2,8 +2,8 @@ ghost use Rattle.std.specs.Prelude.{◌≡◌, ◌≤◌, nat_lt, length, [], If
 ghost use Rattle.fw_outside.specs.Outside.{HasCause, Writes};
 ghost use Rattle.fw_dub.specs.Reels.{kept, bytes_of};
 
+use fw_kept_parts::Part;
 use fw_outside::{Failed, Sink};
-use fw_parts::Part;
 use std::alloc::{AllocError, Global};
 use std::marker::Model;
 
@@ -52,7 +52,7 @@ impl Reel {
         })
     }
 
-    /// Keeps a block behind the others, and answers true, exactly where fewer than `limit` are kept. Else nothing changes.
+    /// Keeps a block after the others, and answers true, exactly if fewer than `limit` are kept. Else nothing changes.
     pub fn keep(&mut self, block: &[u8; 480], limit: u16) -> bool
         requires { limit ≤ 4800 }
         ensures room { result ≡ nat_lt (length self.old) limit }

@@ -1,25 +1,22 @@
 -- One line after an interleaving, from what a call of `carry` says.
-use Rattle.std.proofs.Common.{ℕ, ◌≡◌, ◌+◌, ◌<◌, List, [], ◌∷◌, ◌++◌, Option, Some, None, drop, get_or, length, sym, ap, subst, ◌∙◌}
+use Rattle.fw_explore.proofs.Common.{ℕ, ◌≡◌, ◌<◌, List, [], ◌∷◌, ◌++◌, Option, Some, None, drop, get_or, length, sym, ap, subst, ◌∙◌, Timed, Command, Machine, DeskRelations, State, StandsFor, Line}
+use Rattle.fw_explore.proofs.Common.{History}
+use Rattle.std.proofs.Common.{◌+◌}
 use Rattle.std.specs.List.{All}
 use Rattle.std.proofs.lemmas.List.{drop_more}
-use Rattle.fw_entry.specs.Log.{entries_bytes, TimedFits}
-use Rattle.fw_entry.specs.declared.version.Version.TheVariants.{Two}
-use Rattle.fw_entry.specs.declared.entry.Timed.{Timed}
-use Rattle.fw_command.specs.declared.command.Command.{Command}
-use Rattle.fw_machine.specs.declared.machine.Machine.{Machine}
-use Rattle.fw_run.specs.declared.rule.RuleFault.{RuleFault}
-use Rattle.fw_run.specs.Actions.{Action}
-use Rattle.fw_run.specs.Desks.{DeskRelations}
-use Rattle.fw_run.specs.Runs.{Run}
-use Rattle.fw_run.specs.State.{State, epoch_of}
-use Rattle.fw_bus.specs.Buses.{Standing, StandsFor}
-use Rattle.fw_movers.specs.declared.mover.Line.{Line}
-use Rattle.fw_explored.specs.Endings.{refusal_of}
-use Rattle.fw_told.specs.Histories.{History, told_entries}
-use Rattle.fw_explored.specs.Finishing.{CarriedBehind}
-use Rattle.fw_explored.specs.Steps.{CarriesOn}
-use Rattle.fw_explored.proofs.BehindLines.{Midway, line_of, midway_carried, midway_refused}
-use Rattle.fw_explored.proofs.StepLaws.{fit_after}
+use Rattle.fw_log_entry.specs.Log.{entries_bytes, TimedFits}
+use Rattle.fw_log_entry.specs.declared.version.Version.TheVariants.{Two}
+use Rattle.fw_order.specs.declared.rule.RuleFault.{RuleFault}
+use Rattle.fw_model_run.specs.Actions.{Action}
+use Rattle.fw_model_run.specs.Runs.{Run}
+use Rattle.fw_model_run.specs.State.{epoch_of}
+use Rattle.fw_bus.specs.Buses.{Standing}
+use Rattle.fw_explore_meaning.specs.Endings.{refusal_of}
+use Rattle.fw_explore_told.specs.Histories.{told_entries}
+use Rattle.fw_explore_meaning.specs.Finishing.{CarriedBehind}
+use Rattle.fw_explore_meaning.specs.Steps.{CarriesOn}
+use Rattle.fw_explore_meaning.proofs.BehindLines.{Midway, line_of, midway_carried, midway_refused}
+use Rattle.fw_explore_meaning.proofs.StepLaws.{fit_after}
 
 module _ (D : DeskRelations) (script commands : List Command) (out : List Timed) (lines : List Line) (past : History) (refused text : List ℕ) (k : ℕ) (past' : History)
     (refused' text' : List ℕ) (bus : Machine) (m : Midway D script commands out lines k past past' refused refused' text text' bus)

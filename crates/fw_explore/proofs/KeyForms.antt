@@ -1,8 +1,8 @@
 -- Numbers as bytes and back, four at once.
-use Rattle.std.proofs.Common.{ℕ, ◌≡◌, ◌≤◌, List, [], ◌∷◌, ◌++◌, refl, length, arith, get_or, drop}
+use Rattle.fw_explore.proofs.Common.{ℕ, ◌≡◌, ◌≤◌, List, [], ◌∷◌, ◌++◌, refl, length, arith, get_or, drop, words_of}
 use Rattle.std.proofs.lemmas.List.Concat.{flat_map-append}
 use Rattle.std.specs.Int.{w32, from_le_bytes, to_le_bytes}
-use Rattle.fw_parts.specs.Words.{bytes_of, words_of}
+use Rattle.fw_kept_parts.specs.Words.{bytes_of}
 
 -- sixteen bytes are four numbers, and what follows has the others
 pub words_four : (bytes : List ℕ) → 16 ≤ length bytes → words_of bytes

@@ -1,3 +1,4 @@
+pub mod Common
 pub mod ScriptLaws
 pub mod WordLaws
 pub mod UnknownLaws

@@ -1,20 +1,17 @@
 -- The numbers of a place, and what is read by them.
-use Rattle.std.proofs.Common.{ℕ, ◌≡◌, ◌-◌, ◌<◌, ◌≤◌, List, ◌++◌, Bool, Option, Some, None, false, true, IsFalse, inr, is_some, not, take, drop, get_or, length, refl, sym, ap, subst, ◌∙◌, arith}
+use Rattle.fw_explore.proofs.Common.{ℕ, ◌≡◌, ◌-◌, ◌<◌, ◌≤◌, List, ◌++◌, Bool, Option, Some, None, false, true, IsFalse, take, drop, get_or, length, refl, sym, ap, subst, ◌∙◌, arith, Command, Machine}
+use Rattle.fw_explore.proofs.Common.{DeskRelations, Mover, History, Had}
+use Rattle.std.proofs.Common.{inr, is_some, not}
 use Rattle.std.proofs.lemmas.List.{take_rest}
 use Rattle.std.proofs.lemmas.Option.{same_Some, slice_get_read}
-use Rattle.fw_command.specs.declared.command.Command.{Command}
-use Rattle.fw_machine.specs.declared.machine.Machine.{Machine}
-use Rattle.fw_run.specs.declared.rule.RuleFault.{RuleFault}
-use Rattle.fw_run.specs.Desks.{DeskRelations}
-use Rattle.fw_movers.specs.declared.mover.Explored.{Explored}
-use Rattle.fw_movers.specs.declared.mover.Mover.{Mover}
-use Rattle.fw_movers.specs.declared.mover.MoverKind.TheVariants.{Once}
-use Rattle.fw_movers.specs.Explored.{IsMover}
-use Rattle.fw_told.specs.declared.past.Told.{Told}
-use Rattle.fw_told.specs.Histories.{History}
-use Rattle.fw_explored.specs.Finishing.{Writes, WritesMore}
-use Rattle.fw_explored.specs.Pasts.{LeadsAt}
-use Rattle.fw_explored.specs.Steps.{Had, IsNext, IsPlaced, IsThere, past_in}
+use Rattle.fw_order.specs.declared.rule.RuleFault.{RuleFault}
+use Rattle.fw_explore_movers.specs.declared.mover.Explored.{Explored}
+use Rattle.fw_explore_movers.specs.declared.mover.MoverKind.TheVariants.{Once}
+use Rattle.fw_explore_movers.specs.Explored.{IsMover}
+use Rattle.fw_explore_told.specs.declared.past.Told.{Told}
+use Rattle.fw_explore_meaning.specs.Finishing.{Writes, WritesMore}
+use Rattle.fw_explore_meaning.specs.Pasts.{LeadsAt}
+use Rattle.fw_explore_meaning.specs.Steps.{IsNext, IsPlaced, IsThere, past_in}
 
 -- ---- movers
 
@@ -95,7 +92,7 @@ pub kept_as : {P : Type 0} (Kept : P → List ℕ → Machine → Type 0) (Q : (
     → pasts' ≡ pasts → places' ≡ places → Q (Had pasts) (Kept places) → Q (Had pasts') (Kept places')
 kept_as {P} Kept Q pasts pasts' places places' a b q = subst (λ (z : P). Q (Had pasts') (Kept z)) (sym b) (subst (λ (z : List History). Q (Had z) (Kept places)) (sym a) q)
 
--- what leads to a place leads to it where nothing has changed
+-- what leads to a place leads to it if nothing has changed
 pub led_as : {P : Type 0} (Kept : P → List ℕ → Machine → Type 0) (D : DeskRelations) (script : List Command) (x : Explored) (w : List ℕ) (pasts pasts' : List History)
     (places places' : P) (here here' : List ℕ)
     → pasts' ≡ pasts → places' ≡ places → here' ≡ here → LeadsAt D script x (Had pasts) (Kept places) w here → LeadsAt D script x (Had pasts') (Kept places') w here'

@@ -1,17 +1,17 @@
 -- The history with a move, by what was kept.
-use Rattle.std.proofs.Common.{ℕ, ◌≡◌, List, [], ◌++◌, Ok, Err, IfOk, refl, sym, ap, subst, ◌∙◌, append-nil}
+use Rattle.fw_explore.proofs.Common.{ℕ, ◌≡◌, List, [], ◌++◌, Ok, refl, sym, ap, subst, ◌∙◌, Timed, History, Had}
+use Rattle.std.proofs.Common.{Err, IfOk, append-nil}
 use Rattle.std.specs.declared.result.Result.{Result}
 use Rattle.std.specs.List.{All}
-use Rattle.fw_entry.specs.Log.{entries_bytes, TimedFits}
-use Rattle.fw_entry.specs.declared.version.Version.TheVariants.{Two}
-use Rattle.fw_entry.specs.declared.entry.Timed.{Timed}
-use Rattle.fw_parts.specs.declared.full.Full.{Full}
-use Rattle.fw_parts.specs.Tables.{Keeps}
-use Rattle.fw_movers.specs.declared.mover.MoverKind.{MoverKind}
-use Rattle.fw_movers.specs.declared.mover.MoverKind.TheVariants.{HalfSteps}
-use Rattle.fw_told.specs.declared.past.Told.{Told}
-use Rattle.fw_told.specs.Histories.{History, told_entries}
-use Rattle.fw_explored.specs.Steps.{Had, history_after}
+use Rattle.fw_log_entry.specs.Log.{entries_bytes, TimedFits}
+use Rattle.fw_log_entry.specs.declared.version.Version.TheVariants.{Two}
+use Rattle.fw_kept_parts.specs.declared.full.Full.{Full}
+use Rattle.fw_kept_parts.specs.Tables.{Keeps}
+use Rattle.fw_explore_movers.specs.declared.mover.MoverKind.{MoverKind}
+use Rattle.fw_explore_movers.specs.declared.mover.MoverKind.TheVariants.{HalfSteps}
+use Rattle.fw_explore_told.specs.declared.past.Told.{Told}
+use Rattle.fw_explore_told.specs.Histories.{told_entries}
+use Rattle.fw_explore_meaning.specs.Steps.{history_after}
 use Rattle.fw_explore.specs.Arriving.{IsPastAfter, IsSame}
 use Rattle.fw_explore.proofs.Numbers.{history_by}
 

@@ -1,23 +1,19 @@
 -- A script that was carried out to its end: the commands before its `end` lead to the same state.
-use Rattle.std.proofs.Common.{ℕ, ◌≡◌, List, [], ◌∷◌, ◌++◌, Option, Some, None, Ok, IsFalse, refl, sym, ap, subst, ◌∙◌}
-use Rattle.fw_entry.specs.declared.entry.Timed.{Timed}
-use Rattle.fw_command.specs.declared.command.Command.{Command}
-use Rattle.fw_command.specs.declared.command.Command.TheVariants.{End}
-use Rattle.fw_run.specs.declared.order.Order.{Order}
-use Rattle.fw_run.specs.declared.order.Order.TheVariants as Orders
-use Rattle.fw_run.specs.Actions.{Action, Finish, Steps}
-use Rattle.fw_run.specs.Desks.{DeskRelations}
-use Rattle.fw_run.specs.Given.{AreGiven}
-use Rattle.fw_run.specs.Logs.{HasNoEnd}
-use Rattle.fw_run.specs.State.{State}
-use Rattle.fw_run.proofs.Given.{given_append}
-use Rattle.fw_run.proofs.OneLog.{last_of}
-use Rattle.fw_run.proofs.OneResult.{CarriedBy, carried}
-use Rattle.fw_bus.specs.Buses.{Standing, StandsFor}
+use Rattle.fw_explore.proofs.Common.{ℕ, ◌≡◌, List, [], ◌∷◌, ◌++◌, Option, Some, None, Ok, IsFalse, refl, sym, ap, subst, ◌∙◌, Timed, Command, DeskRelations, State, StandsFor}
+use Rattle.fw_script_command.specs.declared.command.Command.TheVariants.{End}
+use Rattle.fw_order.specs.declared.order.Order.{Order}
+use Rattle.fw_order.specs.declared.order.Order.TheVariants as Orders
+use Rattle.fw_model_run.specs.Actions.{Action, Finish, Steps}
+use Rattle.fw_model_run.specs.Given.{AreGiven}
+use Rattle.fw_model_run.specs.Logs.{HasNoEnd}
+use Rattle.fw_model_run.proofs.Given.{given_append}
+use Rattle.fw_model_run.proofs.OneLog.{last_of}
+use Rattle.fw_model_run.proofs.OneResult.{CarriedBy, carried}
+use Rattle.fw_bus.specs.Buses.{Standing}
 use Rattle.fw_script.specs.Reading.{Reading}
 use Rattle.fw_script.specs.Script.{Refusal, Says, ends, refuses, goes_on, start_of}
 use Rattle.fw_script.specs.declared.ScriptFault.{ScriptFault}
-use Rattle.fw_simulate.specs.Dubs.{HasRecorded}
+use Rattle.fw_script_words.specs.Dubs.{HasRecorded}
 use Rattle.fw_explore.specs.Outcome.{HasCarried}
 
 -- the last command ends the script, and none before it does

@@ -1,11 +1,10 @@
 -- What was carried out on a bus since it stood where it was kept, after one command more.
-use Rattle.std.proofs.Common.{◌≡◌, ℕ, List, [], Bool, Option, Some, ap, sym, subst, ◌∙◌, refl, IsTrue}
-use Rattle.fw_machine.specs.declared.machine.Machine.{Machine}
+use Rattle.fw_explore.proofs.Common.{◌≡◌, ℕ, List, [], Bool, Option, Some, ap, sym, subst, ◌∙◌, refl, Machine, Since}
+use Rattle.std.proofs.Common.{IsTrue}
 use Rattle.fw_bus.specs.Changes.{IsChanged, WhereHalf, WhereNothing, counted_in}
 use Rattle.fw_bus.specs.declared.change.Changed.{Changed}
 use Rattle.fw_bus.specs.declared.change.Changed.TheVariants as Changes
 use Rattle.fw_explore.specs.KeptBuses.{Follows, IsSince}
-use Rattle.fw_explore.specs.declared.since.Since.{Since}
 use Rattle.fw_explore.specs.declared.since.Since.TheVariants.{Nothing, Counted, Half, Any}
 
 pub since_then : {P : Type 0} (Kept : P → List ℕ → Machine → Type 0) (places : P) (at : List ℕ) (old new : Machine) (since r : Since) (changed : Changed) (silent : Bool) (held after : Option (List ℕ))

@@ -1,16 +1,13 @@
 -- The words in their order: the movers, and then the lines after them.
-use Rattle.std.proofs.Common.{ℕ, ◌≡◌, ◌<◌, ◌+◌, List, [], ◌∷◌, ◌&&◌, Bool, Option, Some, None, is_some, IsTrue, IsFalse, length, get_or, inl, inr, refl, sym, ap, subst, ◌∙◌, arith}
+use Rattle.fw_explore.proofs.Common.{ℕ, ◌≡◌, ◌<◌, List, [], ◌∷◌, Bool, Option, Some, None, IsFalse, length, get_or, refl, sym, ap, subst, ◌∙◌, arith, Command, State, Mover, Line}
+use Rattle.std.proofs.Common.{◌+◌, ◌&&◌, is_some, IsTrue, inl, inr}
 use Rattle.std.specs.List.{filter_map, list_all}
 use Rattle.std.proofs.lemmas.Bool.{cases_lt, cases_eq}
 use Rattle.std.proofs.lemmas.List.{get_or_default}
-use Rattle.fw_command.specs.declared.command.Command.{Command}
 use Rattle.fw_devices.specs.Network.{device_named}
-use Rattle.fw_run.specs.State.{State}
-use Rattle.fw_movers.specs.declared.fault.WordWhy.TheVariants.{UnknownName}
-use Rattle.fw_movers.specs.declared.mover.Explored.{Explored}
-use Rattle.fw_movers.specs.declared.mover.Mover.{Mover}
-use Rattle.fw_movers.specs.declared.mover.Line.{Line}
-use Rattle.fw_movers.specs.Explored.{AreInOrder}
+use Rattle.fw_explore_movers.specs.declared.fault.WordWhy.TheVariants.{UnknownName}
+use Rattle.fw_explore_movers.specs.declared.mover.Explored.{Explored}
+use Rattle.fw_explore_movers.specs.Explored.{AreInOrder}
 use Rattle.fw_explore.specs.Outcome.{AllKnown, IsFirstUnknown, IsWord, is_device, is_known, names_known}
 
 -- the commands of the first movers, and of the first lines, name declared devices alone

@@ -1,28 +1,22 @@
 -- How the word ends, by how the script's run and the walk over its interleavings did.
-use Rattle.std.proofs.Common.{ℕ, ◌≡◌, List, [], ◌∷◌, Option, Some, None, refl, sym, ap, subst, ◌∙◌}
+use Rattle.fw_explore.proofs.Common.{ℕ, ◌≡◌, List, [], ◌∷◌, Option, Some, None, refl, sym, ap, subst, ◌∙◌, Timed, Command, Machine, StandsFor, DeskRelations, IsFunction, State, History, Had, IsGoing}
 use Rattle.fw_outside.specs.Outside.{Grows, AppendsFront}
 use Rattle.fw_outside.specs.Stops.{ReadCount, WriteCount}
 use Rattle.fw_outside.specs.declared.stop.Stop.{Stop}
 use Rattle.fw_outside.specs.declared.stop.Stop.TheVariants as Stops
-use Rattle.fw_entry.specs.declared.entry.Timed.{Timed}
-use Rattle.fw_command.specs.declared.command.Command.{Command}
-use Rattle.fw_machine.specs.declared.machine.Machine.{Machine}
-use Rattle.fw_bus.specs.Buses.{Standing, StandsFor}
-use Rattle.fw_run.specs.Desks.{DeskRelations, IsFunction}
-use Rattle.fw_run.specs.State.{State}
-use Rattle.fw_simulate.specs.Dubs.{HasRecorded, Recorded}
-use Rattle.fw_simulate.specs.declared.ending.RunEnding.TheVariants as Runs
-use Rattle.fw_movers.specs.declared.mover.Explored.{Explored}
-use Rattle.fw_endings.specs.declared.rows.Rows.{Rows}
-use Rattle.fw_endings.specs.Texts.{text_of}
-use Rattle.fw_levels.specs.Walked.{Walked}
-use Rattle.fw_told.specs.Histories.{History}
-use Rattle.fw_explored.specs.Moves.{RunsTo}
-use Rattle.fw_explored.specs.Steps.{Had, IsFirstKey}
-use Rattle.fw_explored.specs.Walking.{IsGoing, IsWholeSo}
-use Rattle.fw_explored.proofs.GoLaws.{whole_told}
-use Rattle.fw_explored.proofs.StartLaws.{starts}
-use Rattle.fw_movers.specs.declared.fault.WordFault.{WordFault}
+use Rattle.fw_bus.specs.Buses.{Standing}
+use Rattle.fw_script_words.specs.Dubs.{HasRecorded, Recorded}
+use Rattle.fw_script_words.specs.declared.ending.RunEnding.TheVariants as Runs
+use Rattle.fw_explore_movers.specs.declared.mover.Explored.{Explored}
+use Rattle.fw_explore_endings.specs.declared.rows.Rows.{Rows}
+use Rattle.fw_explore_endings.specs.Texts.{text_of}
+use Rattle.fw_explore_levels.specs.Walked.{Walked}
+use Rattle.fw_explore_meaning.specs.Moves.{RunsTo}
+use Rattle.fw_explore_meaning.specs.Steps.{IsFirstKey}
+use Rattle.fw_explore_meaning.specs.Walking.{IsWholeSo}
+use Rattle.fw_explore_meaning.proofs.GoLaws.{whole_told}
+use Rattle.fw_explore_meaning.proofs.StartLaws.{starts}
+use Rattle.fw_explore_movers.specs.declared.fault.WordFault.{WordFault}
 use Rattle.fw_explore.specs.Outcome.{AllKnown, Fails, HasExplored, IsFirstUnknown, IsTextOf, IsUntouched, Tells, stop_of}
 use Rattle.fw_explore.proofs.ScriptLaws.{stands_carried}
 use Rattle.fw_explore.specs.declared.fault.ExploreEnding.{ExploreEnding}

@@ -1,13 +1,13 @@
 -- The history with a move.
 use Rattle.std.specs.Prelude.{ℕ, ◌≡◌, List}
 use Rattle.std.specs.List.{All}
-use Rattle.fw_entry.specs.Log.{entries_bytes, TimedFits}
-use Rattle.fw_entry.specs.declared.version.Version.TheVariants.{Two}
-use Rattle.fw_entry.specs.declared.entry.Timed.{Timed}
-use Rattle.fw_parts.specs.Tables.{Keeps}
-use Rattle.fw_movers.specs.declared.mover.MoverKind.{MoverKind}
-use Rattle.fw_told.specs.Histories.{History}
-use Rattle.fw_explored.specs.Steps.{Had, history_after}
+use Rattle.fw_log_entry.specs.Log.{entries_bytes, TimedFits}
+use Rattle.fw_log_entry.specs.declared.version.Version.TheVariants.{Two}
+use Rattle.fw_log_entry.specs.declared.entry.Timed.{Timed}
+use Rattle.fw_kept_parts.specs.Tables.{Keeps}
+use Rattle.fw_explore_movers.specs.declared.mover.MoverKind.{MoverKind}
+use Rattle.fw_explore_told.specs.Histories.{History}
+use Rattle.fw_explore_meaning.specs.Steps.{Had, history_after}
 
 -- a table of histories has one under its number
 abbrev pub IsSame : History → History → Type 0

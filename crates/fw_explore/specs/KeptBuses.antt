@@ -1,6 +1,6 @@
 -- A bus, what keeps it, and the numbers under which it was kept last.
 use Rattle.std.specs.Prelude.{ℕ, ◌≡◌, List, Bool, IsTrue, ⊤}
-use Rattle.fw_machine.specs.declared.machine.Machine.{Machine}
+use Rattle.fw_bus_state.specs.declared.machine.Machine.{Machine}
 use Rattle.fw_bus.specs.Buses.{Standing}
 use Rattle.fw_bus.specs.Changes.{IsHalfFrom, counted_in}
 use Rattle.fw_bus.specs.declared.change.Changed.{Changed}

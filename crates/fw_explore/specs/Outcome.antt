@@ -4,26 +4,26 @@ use Rattle.std.specs.List.{Contains, list_all}
 use Rattle.fw_outside.specs.Outside.{Takes, Grows, IsAtEnd, AppendsFront}
 use Rattle.fw_outside.specs.declared.stop.Stop.{Stop}
 use Rattle.fw_outside.specs.declared.stop.Stop.TheVariants as Stops
-use Rattle.fw_entry.specs.declared.entry.Timed.{Timed}
-use Rattle.fw_command.specs.declared.command.Command.{Command}
-use Rattle.fw_command.specs.declared.command.Command.TheVariants.{End}
-use Rattle.fw_run.specs.Desks.{DeskRelations, IsFunction}
-use Rattle.fw_run.specs.Logs.{HasNoEnd}
+use Rattle.fw_log_entry.specs.declared.entry.Timed.{Timed}
+use Rattle.fw_script_command.specs.declared.command.Command.{Command}
+use Rattle.fw_script_command.specs.declared.command.Command.TheVariants.{End}
+use Rattle.fw_model_run.specs.Desks.{DeskRelations, IsFunction}
+use Rattle.fw_model_run.specs.Logs.{HasNoEnd}
 use Rattle.fw_devices.specs.Network.{device_named}
-use Rattle.fw_run.specs.Named.{names_of}
-use Rattle.fw_run.specs.State.{State}
+use Rattle.fw_model_run.specs.Named.{names_of}
+use Rattle.fw_model_run.specs.State.{State}
 use Rattle.fw_script.specs.Script.{IsScript}
-use Rattle.fw_simulate.specs.Dubs.{InMemory}
-use Rattle.fw_simulate.specs.Ending.{Refuses, Interrupted, PassesScriptLimit}
-use Rattle.fw_movers.specs.declared.fault.WordFault.{WordFault}
-use Rattle.fw_movers.specs.declared.fault.WordWhy.TheVariants.{UnknownName}
-use Rattle.fw_movers.specs.declared.mover.Explored.{Explored}
-use Rattle.fw_movers.specs.declared.mover.Mover.{Mover}
-use Rattle.fw_movers.specs.declared.mover.Line.{Line}
-use Rattle.fw_endings.specs.declared.rows.Row.{Row}
-use Rattle.fw_endings.specs.Texts.{text_of}
-use Rattle.fw_explored.specs.Moves.{RunsTo}
-use Rattle.fw_explored.specs.Rows.{Explores}
+use Rattle.fw_script_words.specs.Dubs.{InMemory}
+use Rattle.fw_script_words.specs.Ending.{Refuses, Interrupted, PassesScriptLimit}
+use Rattle.fw_explore_movers.specs.declared.fault.WordFault.{WordFault}
+use Rattle.fw_explore_movers.specs.declared.fault.WordWhy.TheVariants.{UnknownName}
+use Rattle.fw_explore_movers.specs.declared.mover.Explored.{Explored}
+use Rattle.fw_explore_movers.specs.declared.mover.Mover.{Mover}
+use Rattle.fw_explore_movers.specs.declared.mover.Line.{Line}
+use Rattle.fw_explore_endings.specs.declared.rows.Row.{Row}
+use Rattle.fw_explore_endings.specs.Texts.{text_of}
+use Rattle.fw_explore_meaning.specs.Moves.{RunsTo}
+use Rattle.fw_explore_meaning.specs.Rows.{Explores}
 use Rattle.fw_explore.specs.declared.fault.ExploreEnding.{ExploreEnding}
 use Rattle.fw_explore.specs.declared.fault.ExploreEnding.TheVariants.{Done, Unknown, Refused, Stopped, TooLarge}
 
@@ -77,13 +77,13 @@ pub record IsFirstUnknown (x : Explored) (s : State) (fault : WordFault) : Type 
 
 -- ---- the interleavings
 
--- The text of all interleavings behind the script, by their endings.
+-- The text of all interleavings after the script, by their endings.
 pub record IsTextOf (D : DeskRelations) (script : List Command) (x : Explored) (s : State) (text : List ℕ) : Type 0 where
   pub rows : List Row
   pub ended : ℕ
   pub cut : ℕ
   pub longest : ℕ
-  -- where the desk is a function: else a line of the script that asks it may be answered in two ways
+  -- if the desk is a function: else a line of the script that asks it may be answered in two ways
   pub explores : IsFunction D → Explores D script x rows ended cut longest
   pub is : text ≡ text_of x s.declared.names rows ended cut longest
 
@@ -113,7 +113,7 @@ stop_of (Unknown fault) = None
 stop_of TooLarge = None
 stop_of (Stopped stop) = Some stop
 
--- where nothing was to be written the sink is as it was
+-- if nothing was to be written the sink is as it was
 abbrev pub IsUntouched : {K : Type 0} → K → K → ExploreEnding → Type 0
 IsUntouched old new Done = ⊤
 IsUntouched old new (Stopped Stops.WriteFault) = ⊤
@@ -130,7 +130,7 @@ Fails D x left left' (Stopped Stops.TooLong) = InMemory (PassesScriptLimit D lef
 Fails D x left left' (Stopped Stops.WriteFault) = ⊥
 Fails D x left left' (Stopped Stops.NoMemory) = ⊤
 
--- Nothing is told by halves: but where all was written, and where the sink failed, nothing was.
+-- Nothing is told by halves: but if all was written, and where the sink failed, nothing was.
 abbrev pub Tells : DeskRelations → Explored → Option (List ℕ) → Option (List ℕ) → Option (List ℕ) → Option (List ℕ) → ExploreEnding → Type 0
 Tells D x left left' held held' Done = HasTold D x left left' held held'
 Tells D x left left' held held' (Stopped Stops.WriteFault) = PartTold D x left left' held held'

@@ -1,19 +1,19 @@
 //! The place from which nothing has moved yet.
 
 ghost use Rattle.std.specs.Prelude.{◌≡◌, ◌∷◌, [], ℕ, List, IfOk, IsFalse};
-ghost use Rattle.fw_explored.specs.Steps.{Had, IsFirstKey};
+ghost use Rattle.fw_explore_meaning.specs.Steps.{Had, IsFirstKey};
 
 use crate::explorer::Explorer;
 use crate::keeper::Keeper;
 use crate::kept_bus::KeptBus;
 use crate::step::Walker;
 use fw_bus::Bus;
-use fw_endings::Rows;
-use fw_levels::Levels;
-use fw_names::Pairs;
+use fw_explore_endings::Rows;
+use fw_explore_levels::Levels;
+use fw_explore_told::Past;
+use fw_kept_parts::{Full, Table};
+use fw_log_names::Pairs;
 use fw_outside::GrowSink;
-use fw_parts::{Full, Table};
-use fw_told::Past;
 use std::alloc::Global;
 
 impl<P: Keeper> Walker<P> {

@@ -1,22 +1,22 @@
 //! One command more, at a place.
 
 ghost use Rattle.std.specs.Prelude.{◌≡◌, [], ℕ, List, IfOk, IsFalse, Some};
-ghost use Rattle.fw_entry.specs.declared.entry.Timed.{Timed};
-ghost use Rattle.fw_command.specs.declared.command.Command.{Command as Line};
-ghost use Rattle.fw_run.specs.Actions.{Action};
-ghost use Rattle.fw_run.specs.Runs.{Run};
-ghost use Rattle.fw_run.specs.State.{State};
+ghost use Rattle.fw_log_entry.specs.declared.entry.Timed.{Timed};
+ghost use Rattle.fw_script_command.specs.declared.command.Command.{Command as Line};
+ghost use Rattle.fw_model_run.specs.Actions.{Action};
+ghost use Rattle.fw_model_run.specs.Runs.{Run};
+ghost use Rattle.fw_model_run.specs.State.{State};
 ghost use Rattle.fw_tape.specs.Desks.{AnyBlock, AnyVendorByte};
 ghost use Rattle.fw_bus.specs.Buses.{StandsFor, IsCommand};
-ghost use Rattle.fw_explored.specs.Steps.{CarriesOn};
+ghost use Rattle.fw_explore_meaning.specs.Steps.{CarriesOn};
 
 use crate::keeper::Keeper;
 use crate::kept_bus::KeptBus;
 use crate::since::{Since, is_nothing};
 use fw_bus::{BusFault, RuleFault};
-use fw_command::Command;
+use fw_kept_parts::Full;
 use fw_outside::GrowSink;
-use fw_parts::Full;
+use fw_script_command::Command;
 use fw_tape::Desk;
 
 impl<P: Keeper> KeptBus<P> {

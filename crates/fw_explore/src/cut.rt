@@ -1,17 +1,17 @@
 //! Whether an interleaving is cut off.
 
 ghost use Rattle.std.specs.Prelude.{◌≡◌, ◌<◌, ℕ, List, IfOk, length};
-ghost use Rattle.fw_command.specs.declared.command.Command.{Command as Line};
-ghost use Rattle.fw_run.specs.Desks.{IsFunction};
+ghost use Rattle.fw_script_command.specs.declared.command.Command.{Command as Line};
+ghost use Rattle.fw_model_run.specs.Desks.{IsFunction};
 ghost use Rattle.fw_tape.specs.Desks.{AnyBlock, AnyVendorByte};
-ghost use Rattle.fw_explored.specs.Finishing.{IsCut, Writes};
-ghost use Rattle.fw_explored.specs.Pasts.{LeadsAt};
-ghost use Rattle.fw_explored.specs.Steps.{Had, IsExplored, IsPlaced};
+ghost use Rattle.fw_explore_meaning.specs.Finishing.{IsCut, Writes};
+ghost use Rattle.fw_explore_meaning.specs.Pasts.{LeadsAt};
+ghost use Rattle.fw_explore_meaning.specs.Steps.{Had, IsExplored, IsPlaced};
 
 use crate::keeper::Keeper;
 use crate::step::{Walker, is_silent};
-use fw_movers::{Explored, MoverKind};
-use fw_parts::Full;
+use fw_explore_movers::{Explored, MoverKind};
+use fw_kept_parts::Full;
 use fw_tape::Desk;
 
 impl<P: Keeper> Walker<P> {

@@ -1,21 +1,21 @@
 //! Level by level through all schedules.
 
 ghost use Rattle.std.specs.Prelude.{◌≡◌, ◌+◌, ◌<◌, ℕ, List, IfOk, IsFalse, if◌then◌else◌, length, slice_index_or, false, []};
-ghost use Rattle.fw_command.specs.declared.command.Command.{Command as Line};
-ghost use Rattle.fw_levels.specs.Tables.{Entry};
-ghost use Rattle.fw_parts.specs.Words.{words_of};
-ghost use Rattle.fw_run.specs.Desks.{IsFunction};
+ghost use Rattle.fw_script_command.specs.declared.command.Command.{Command as Line};
+ghost use Rattle.fw_explore_levels.specs.Tables.{Entry};
+ghost use Rattle.fw_kept_parts.specs.Words.{words_of};
+ghost use Rattle.fw_model_run.specs.Desks.{IsFunction};
 ghost use Rattle.fw_tape.specs.Desks.{AnyBlock, AnyVendorByte};
-ghost use Rattle.fw_explored.specs.Steps.{Had, IsExplored, IsPlaced, IsWiderBy};
-ghost use Rattle.fw_explored.specs.Walking.{ArePlaced, IsGoing, IsMoving, IsWholeSo};
+ghost use Rattle.fw_explore_meaning.specs.Steps.{Had, IsExplored, IsPlaced, IsWiderBy};
+ghost use Rattle.fw_explore_meaning.specs.Walking.{ArePlaced, IsGoing, IsMoving, IsWholeSo};
 
 use crate::keeper::Keeper;
 use crate::key::read_key_words;
 use crate::step::Walker;
-use fw_endings::{Row, Rows};
-use fw_levels::Levels;
-use fw_movers::Explored;
-use fw_parts::Full;
+use fw_explore_endings::{Row, Rows};
+use fw_explore_levels::Levels;
+use fw_explore_movers::Explored;
+use fw_kept_parts::Full;
 use fw_tape::Desk;
 
 /// Goes through all schedules, level by level, and keeps how they end.

@@ -1,6 +1,6 @@
-use fw_movers::WordFault;
+use fw_explore_movers::WordFault;
 use fw_outside::Stop;
-use fw_simulate::Refused;
+use fw_script_words::Refused;
 
 /// How an exploration ends.
 #[derive(Clone, Copy)]

@@ -2,27 +2,27 @@
 
 ghost use Rattle.std.specs.Prelude.{◌≡◌, ◌≤◌, ◌++◌, ◌∷◌, [], ℕ, List, IfOk, OnOk, IsFalse, length};
 ghost use Rattle.std.specs.List.{All};
-ghost use Rattle.fw_entry.specs.declared.entry.Timed.{Timed as TimedEntry};
-ghost use Rattle.fw_command.specs.declared.command.Command.{Command as ACommand};
-ghost use Rattle.fw_run.specs.State.{State};
+ghost use Rattle.fw_log_entry.specs.declared.entry.Timed.{Timed as TimedEntry};
+ghost use Rattle.fw_script_command.specs.declared.command.Command.{Command as ACommand};
+ghost use Rattle.fw_model_run.specs.State.{State};
 ghost use Rattle.fw_bus.specs.Buses.{StandsFor, IsCommand};
 ghost use Rattle.fw_tape.specs.Desks.{AnyBlock, AnyVendorByte};
-ghost use Rattle.fw_movers.specs.declared.mover.Line.{Line as ALine};
-ghost use Rattle.fw_told.specs.Sayings.{said_all, unmarked_from};
-ghost use Rattle.fw_explored.specs.Endings.{refusal_of};
-ghost use Rattle.fw_explored.specs.Finishing.{CarriedBehind, IsFinished};
-ghost use Rattle.fw_explored.specs.Moves.{Behind};
-ghost use Rattle.fw_explored.specs.Pasts.{LeadsAt};
-ghost use Rattle.fw_explored.specs.Steps.{Had, IsExplored, IsPlaced};
+ghost use Rattle.fw_explore_movers.specs.declared.mover.Line.{Line as ALine};
+ghost use Rattle.fw_explore_told.specs.Sayings.{said_all, unmarked_from};
+ghost use Rattle.fw_explore_meaning.specs.Endings.{refusal_of};
+ghost use Rattle.fw_explore_meaning.specs.Finishing.{CarriedBehind, IsFinished};
+ghost use Rattle.fw_explore_meaning.specs.Moves.{Behind};
+ghost use Rattle.fw_explore_meaning.specs.Pasts.{LeadsAt};
+ghost use Rattle.fw_explore_meaning.specs.Steps.{Had, IsExplored, IsPlaced};
 
 use crate::keeper::Keeper;
 use crate::names::rule_name;
 use crate::step::Walker;
 use fw_bus::RuleFault;
-use fw_movers::{Explored, Line};
-use fw_parts::Full;
+use fw_explore_movers::{Explored, Line};
+use fw_explore_told::{Past, put_left, put_said};
+use fw_kept_parts::Full;
 use fw_tape::Desk;
-use fw_told::{Past, put_left, put_said};
 use std::alloc::AllocError;
 
 /// What is told of an interleaving, and the lines that were carried out after it.

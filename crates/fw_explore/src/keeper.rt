@@ -1,13 +1,13 @@
 //! What keeps buses so that they can be given back.
 
 ghost use Rattle.std.specs.Prelude.{◌≡◌, ℕ, List, OnOk, IsFalse};
-ghost use Rattle.fw_machine.specs.declared.machine.Machine.{Machine};
-ghost use Rattle.fw_run.specs.State.{State};
+ghost use Rattle.fw_bus_state.specs.declared.machine.Machine.{Machine};
+ghost use Rattle.fw_model_run.specs.State.{State};
 ghost use Rattle.fw_bus.specs.Buses.{StandsFor};
 ghost use Rattle.fw_bus.specs.Changes.{IsHalfFrom, counted_in};
 
 use fw_bus::Bus;
-use fw_parts::Full;
+use fw_kept_parts::Full;
 
 /// Keeps buses: `Kept` says which machines are kept under some numbers. What was kept is kept for good.
 pub trait Keeper: Drop {

@@ -4,8 +4,8 @@ ghost use Rattle.fw_explore.specs.Keeping.{IsKeptIn};
 
 use crate::keeper::Keeper;
 use fw_bus::Bus;
-use fw_parts::Full;
-use fw_places::Places;
+use fw_bus_places::Places;
+use fw_kept_parts::Full;
 
 impl Keeper for Places {
     ghost Kept = { IsKeptIn };

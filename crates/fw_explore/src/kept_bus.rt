@@ -1,14 +1,14 @@
 //! A bus that goes back to where it was kept.
 
 ghost use Rattle.std.specs.Prelude.{◌≡◌, ℕ, [], List, OnOk, IsFalse};
-ghost use Rattle.fw_machine.specs.declared.machine.Machine.{Machine};
-ghost use Rattle.fw_run.specs.State.{State};
+ghost use Rattle.fw_bus_state.specs.declared.machine.Machine.{Machine};
+ghost use Rattle.fw_model_run.specs.State.{State};
 ghost use Rattle.fw_bus.specs.Buses.{StandsFor};
 
 use crate::keeper::Keeper;
 use crate::since::{Since, give_back_since, keep_since};
 use fw_bus::Bus;
-use fw_parts::Full;
+use fw_kept_parts::Full;
 use std::alloc::Global;
 use std::marker::Model;
 use std::mem;

@@ -1,9 +1,9 @@
 //! Numbers as the bytes of a key, four at once.
 
 ghost use Rattle.std.specs.Prelude.{◌≡◌, ◌∷◌, ◌++◌, [], OnOk};
-ghost use Rattle.fw_parts.specs.Words.{bytes_of, words_of};
+ghost use Rattle.fw_kept_parts.specs.Words.{bytes_of, words_of};
 
-use fw_parts::put_words;
+use fw_kept_parts::put_words;
 use std::alloc::AllocError;
 
 // The bytes of four numbers.

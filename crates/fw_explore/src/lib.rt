@@ -1,4 +1,4 @@
-//! The word `explore`: every interleaving of half steps and lines behind a script, and how each ends.
+//! The word `explore`: every interleaving of half steps and lines after a script, and how each ends.
 //!
 //! The interleavings of one length are many, the places that they lead to few: a place is the lines that were carried out, what was told so
 //! far, and the machine. The contract of `Bus::change` speaks of every run for whose state a machine stands, so one call carries all

@@ -1,10 +1,10 @@
 ghost use Rattle.std.specs.Prelude.{◌≡◌};
-ghost use Rattle.fw_explored.specs.Names.{rule_name};
+ghost use Rattle.fw_explore_meaning.specs.Names.{rule_name};
 
 use fw_bus::RuleFault;
 
 /// The name of a rule.
-#[tactic(auto, unfolding(fw_explored::specs::Names::rule_name))]
+#[tactic(auto, unfolding(fw_explore_meaning::specs::Names::rule_name))]
 pub(crate) fn rule_name(rule: RuleFault) -> &'static [u8]
     ensures { result.now ≡ rule_name rule }
 {

@@ -2,19 +2,19 @@
 
 ghost use Rattle.std.specs.Prelude.{◌≡◌, ◌<◌, ◌++◌, [], ℕ, List, IfOk, IsTrue};
 ghost use Rattle.std.specs.List.{All};
-ghost use Rattle.fw_entry.specs.Log.{entries_bytes, TimedFits};
-ghost use Rattle.fw_entry.specs.declared.version.Version.TheVariants.{Two};
-ghost use Rattle.fw_entry.specs.declared.entry.Timed.{Timed};
-ghost use Rattle.fw_movers.specs.declared.mover.MoverKind.TheVariants.{HalfSteps};
-ghost use Rattle.fw_told.specs.Histories.{History, told_entries};
-ghost use Rattle.fw_explored.specs.Steps.{Had, IsPlaced, marked, past_in};
+ghost use Rattle.fw_log_entry.specs.Log.{entries_bytes, TimedFits};
+ghost use Rattle.fw_log_entry.specs.declared.version.Version.TheVariants.{Two};
+ghost use Rattle.fw_log_entry.specs.declared.entry.Timed.{Timed};
+ghost use Rattle.fw_explore_movers.specs.declared.mover.MoverKind.TheVariants.{HalfSteps};
+ghost use Rattle.fw_explore_told.specs.Histories.{History, told_entries};
+ghost use Rattle.fw_explore_meaning.specs.Steps.{Had, IsPlaced, marked, past_in};
 ghost use Rattle.fw_explore.specs.Arriving.{IsPastAfter};
 
 use crate::keeper::Keeper;
 use crate::step::Walker;
-use fw_movers::MoverKind;
-use fw_parts::Full;
-use fw_told::{Past, tells};
+use fw_explore_movers::MoverKind;
+use fw_explore_told::{Past, tells};
+use fw_kept_parts::Full;
 
 // The line of a move is carried out, if it is one.
 fn mark_line(past: &mut Past, mover: usize, kind: MoverKind)

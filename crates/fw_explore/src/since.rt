@@ -1,15 +1,15 @@
 //! What was carried out on a bus since it was kept or given back.
 
 ghost use Rattle.std.specs.Prelude.{◌≡◌, ℕ, List, [], OnOk, IsFalse, IsTrue};
-ghost use Rattle.fw_machine.specs.declared.machine.Machine.{Machine};
-ghost use Rattle.fw_run.specs.State.{State};
+ghost use Rattle.fw_bus_state.specs.declared.machine.Machine.{Machine};
+ghost use Rattle.fw_model_run.specs.State.{State};
 ghost use Rattle.fw_bus.specs.Buses.{StandsFor};
 ghost use Rattle.fw_explore.specs.KeptBuses.{Follows, IsSince};
 ghost use Rattle.fw_explore.specs.declared.since.Since.TheVariants.{Nothing};
 
 use crate::keeper::Keeper;
 use fw_bus::{Bus, Changed};
-use fw_parts::Full;
+use fw_kept_parts::Full;
 
 /// What was carried out on a bus since it stood where it was kept.
 #[derive(Clone, Copy, PartialEq, Eq)]

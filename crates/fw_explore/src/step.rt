@@ -2,28 +2,28 @@
 
 ghost use Rattle.std.specs.Prelude.{◌≡◌, ◌<◌, ◌≤◌, ◌-◌, ◌^◌, ◌∷◌, ◌++◌, [], ℕ, List, IfOk, IsFalse, IsTrue, length, slice_index};
 ghost use Rattle.std.specs.List.{All};
-ghost use Rattle.fw_command.specs.declared.command.Command.{Command as Line};
-ghost use Rattle.fw_entry.specs.Log.{entries_bytes, TimedFits};
-ghost use Rattle.fw_entry.specs.declared.version.Version.TheVariants.{Two};
-ghost use Rattle.fw_entry.specs.declared.entry.Timed.{Timed};
-ghost use Rattle.fw_parts.specs.Words.{bytes_of};
-ghost use Rattle.fw_run.specs.Desks.{IsFunction};
+ghost use Rattle.fw_script_command.specs.declared.command.Command.{Command as Line};
+ghost use Rattle.fw_log_entry.specs.Log.{entries_bytes, TimedFits};
+ghost use Rattle.fw_log_entry.specs.declared.version.Version.TheVariants.{Two};
+ghost use Rattle.fw_log_entry.specs.declared.entry.Timed.{Timed};
+ghost use Rattle.fw_kept_parts.specs.Words.{bytes_of};
+ghost use Rattle.fw_model_run.specs.Desks.{IsFunction};
 ghost use Rattle.fw_tape.specs.Desks.{AnyBlock, AnyVendorByte};
-ghost use Rattle.fw_movers.specs.declared.mover.MoverKind.TheVariants.{HalfSteps};
-ghost use Rattle.fw_told.specs.Histories.{History, told_entries};
-ghost use Rattle.fw_explored.specs.Pasts.{LeadsAt};
-ghost use Rattle.fw_explored.specs.Steps.{Had, Steps, IsExplored, IsPlaced, IsArrived, IsPlacedKey, IsWiderBy, half_after, half_in, marked, past_in};
+ghost use Rattle.fw_explore_movers.specs.declared.mover.MoverKind.TheVariants.{HalfSteps};
+ghost use Rattle.fw_explore_told.specs.Histories.{History, told_entries};
+ghost use Rattle.fw_explore_meaning.specs.Pasts.{LeadsAt};
+ghost use Rattle.fw_explore_meaning.specs.Steps.{Had, Steps, IsExplored, IsPlaced, IsArrived, IsPlacedKey, IsWiderBy, half_after, half_in, marked, past_in};
 
 use crate::keeper::Keeper;
 use crate::kept_bus::KeptBus;
 use crate::key::put_key_words;
 use crate::there::is_there;
-use fw_movers::{Explored, MoverKind};
-use fw_names::Pairs;
+use fw_explore_movers::{Explored, MoverKind};
+use fw_explore_told::Past;
+use fw_kept_parts::{Full, Table, are_numbers, put_words};
+use fw_log_names::Pairs;
 use fw_outside::GrowSink;
-use fw_parts::{Full, Table, are_numbers, put_words};
 use fw_tape::Desk;
-use fw_told::Past;
 use std::alloc::Global;
 
 /// What goes from place to place.

@@ -1,11 +1,11 @@
 //! Which movers are there.
 
 ghost use Rattle.std.specs.Prelude.{◌≡◌, ◌<◌, ◌≤◌, length};
-ghost use Rattle.fw_movers.specs.Explored.{IsMover};
-ghost use Rattle.fw_movers.specs.declared.mover.Mover.{Mover as AMover};
-ghost use Rattle.fw_explored.specs.Steps.{IsNext, IsThere, is_waiting};
+ghost use Rattle.fw_explore_movers.specs.Explored.{IsMover};
+ghost use Rattle.fw_explore_movers.specs.declared.mover.Mover.{Mover as AMover};
+ghost use Rattle.fw_explore_meaning.specs.Steps.{IsNext, IsThere, is_waiting};
 
-use fw_movers::{Explored, MOST_MOVERS, Mover, MoverKind};
+use fw_explore_movers::{Explored, MOST_MOVERS, Mover, MoverKind};
 
 // Whether a mover is this line, and was not carried out.
 fn is_waiting(mover: &Mover, done: bool, line: &[u8]) -> bool
@@ -40,7 +40,7 @@ fn is_next(explored: &Explored, done: &[bool; MOST_MOVERS], mover: usize) -> boo
     true
 }
 
-/// Whether a mover may move where these lines were carried out: a line once, and of those that are the same the first first.
+/// Whether a mover may move if these lines were carried out: a line once, and of those that are the same the first first.
 pub(crate) fn is_there(explored: &Explored, done: &[bool; MOST_MOVERS], mover: usize) -> bool
     requires mover { mover < length explored.now.movers.items }
     requires few { length explored.now.movers.items ≤ 32 }

@@ -2,14 +2,14 @@
 
 ghost use Rattle.std.specs.Prelude.{◌≡◌, MatchOption};
 ghost use Rattle.fw_bus.specs.Buses.{StandsFor};
-ghost use Rattle.fw_run.specs.State.{State};
-ghost use Rattle.fw_movers.specs.Explored.{AreInOrder};
+ghost use Rattle.fw_model_run.specs.State.{State};
+ghost use Rattle.fw_explore_movers.specs.Explored.{AreInOrder};
 ghost use Rattle.fw_explore.specs.Outcome.{AllKnown, IsFirstUnknown, is_device, names_known};
 
-use fw_command::{Command, Name};
-use fw_endings::names_of;
-use fw_machine::Machine;
-use fw_movers::{Explored, WordFault, WordWhy};
+use fw_bus_state::Machine;
+use fw_explore_endings::names_of;
+use fw_explore_movers::{Explored, WordFault, WordWhy};
+use fw_script_command::{Command, Name};
 
 // Whether a name, if there is one, is that of a device.
 fn is_device(machine: &Machine, name: &Option<Name>) -> bool

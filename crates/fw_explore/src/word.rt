@@ -1,14 +1,14 @@
 //! The word `explore`.
 
 ghost use Rattle.std.specs.Prelude.{◌≡◌, ◌∷◌, [], ℕ, List, IfOk, IsFalse, MatchResult};
-ghost use Rattle.fw_command.specs.declared.command.Command.{Command as Line};
-ghost use Rattle.fw_entry.specs.declared.entry.Timed.{Timed};
+ghost use Rattle.fw_script_command.specs.declared.command.Command.{Command as Line};
+ghost use Rattle.fw_log_entry.specs.declared.entry.Timed.{Timed};
 ghost use Rattle.fw_bus.specs.Buses.{StandsFor};
-ghost use Rattle.fw_run.specs.State.{State};
+ghost use Rattle.fw_model_run.specs.State.{State};
 ghost use Rattle.fw_tape.specs.Desks.{AnyBlock, AnyVendorByte};
-ghost use Rattle.fw_movers.specs.Explored.{AreInOrder};
-ghost use Rattle.fw_explored.specs.Moves.{RunsTo};
-ghost use Rattle.fw_explored.specs.Steps.{IsExplored};
+ghost use Rattle.fw_explore_movers.specs.Explored.{AreInOrder};
+ghost use Rattle.fw_explore_meaning.specs.Moves.{RunsTo};
+ghost use Rattle.fw_explore_meaning.specs.Steps.{IsExplored};
 ghost use Rattle.fw_explore.specs.Outcome.{Fails, HasExplored, IsTextOf, IsUntouched, Tells, stop_of};
 ghost use Rattle.fw_outside.specs.Stops.{ReadCount, WriteCount};
 
@@ -16,14 +16,14 @@ use crate::begin::begin;
 use crate::fault::ExploreEnding;
 use crate::unknown::first_unknown;
 use fw_bus::Bus;
-use fw_command::Name;
-use fw_endings::text_of;
-use fw_machine::Machine;
-use fw_movers::Explored;
+use fw_bus_places::Places;
+use fw_bus_state::Machine;
+use fw_explore_endings::text_of;
+use fw_explore_movers::Explored;
+use fw_kept_parts::Full;
 use fw_outside::{Failed, Sink, Source, Stop};
-use fw_parts::Full;
-use fw_places::Places;
-use fw_simulate::{RunEnding, record_run};
+use fw_script_command::Name;
+use fw_script_words::{RunEnding, record_run};
 use fw_tape::Desk;
 use std::alloc::{AllocError, Global};
 
@@ -41,7 +41,7 @@ fn device_names(alloc: Global, machine: &Machine) -> Result<Vec<Name>, AllocErro
     Ok(names)
 }
 
-// The text of what was found behind the bus.
+// The text of what was found after the bus.
 fn explore_from<F: Fn(u16, u32, u16) -> [u8; 480], H: Fn(u32, u8) -> u8>(
     alloc: Global,
     explored: &Explored,
@@ -99,7 +99,7 @@ fn text_after<S: Source, F: Fn(u16, u32, u16) -> [u8; 480], H: Fn(u32, u8) -> u8
     }
 }
 
-/// Reads a script and carries it out, goes through all interleavings of what the words name behind it, and writes how they end. Unless it is
+/// Reads a script and carries it out, goes through all interleavings of what the words name after it, and writes how they end. Unless it is
 /// `Done`, or `Stopped` by a write that failed, nothing was written.
 pub fn explore<S: Source, K: Sink, F: Fn(u16, u32, u16) -> [u8; 480], H: Fn(u32, u8) -> u8>(
     alloc: Global,

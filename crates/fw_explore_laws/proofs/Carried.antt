@@ -1,14 +1,10 @@
 -- Commands from a state on, one after another; and a run as one part after another.
-use Rattle.std.proofs.Common.{◌≡◌, List, [], ◌∷◌, ◌++◌, Ok, refl, sym, ap, subst, ◌∙◌, append_assoc, append-nil}
-use Rattle.fw_entry.specs.declared.entry.Timed.{Timed}
-use Rattle.fw_command.specs.declared.command.Command.{Command}
-use Rattle.fw_run.specs.declared.order.Order.{Order}
-use Rattle.fw_run.specs.State.{State}
-use Rattle.fw_run.specs.Actions.{Action}
-use Rattle.fw_run.specs.Carrying.{Carries}
-use Rattle.fw_run.specs.Rules.{Decides}
-use Rattle.fw_run.specs.Runs.{Run, and_then}
-use Rattle.fw_run.proofs.OneLog.{last_of}
+use Rattle.fw_explore_laws.proofs.Common.{◌≡◌, List, [], ◌∷◌, ◌++◌, Ok, refl, sym, ap, subst, ◌∙◌, append_assoc, append-nil, Timed, Command, State, Action}
+use Rattle.fw_order.specs.declared.order.Order.{Order}
+use Rattle.fw_model_run.specs.Carrying.{Carries}
+use Rattle.fw_model_run.specs.Rules.{Decides}
+use Rattle.fw_model_run.specs.Runs.{Run, and_then}
+use Rattle.fw_model_run.proofs.OneLog.{last_of}
 
 -- the commands are carried out from a state on, none of which breaks a rule
 abbrev pub Carried : State → List Command → List Action → List Timed → State → Type 0

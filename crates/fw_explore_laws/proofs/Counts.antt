@@ -1,24 +1,21 @@
 -- Lines of half steps: with another count they are the same with that count.
-use Rattle.std.proofs.Common.{ℕ, zero, suc, ◌≡◌, ◌≢◌, ◌+◌, ◌-◌, ◌≤◌, ◌<◌, ◌==◌, ◌⊎◌, ◌||◌, not, nat_le, slice_index}
-use Rattle.std.proofs.Common.{List, [], ◌∷◌, ◌++◌, Bool, true, false, Some, None, length, take, codes, cond, decimal}
-use Rattle.std.proofs.Common.{inl, inr, refl, sym, ap, subst, ◌∙◌, append_assoc, length-append, arith}
-use Rattle.std.specs.List.{list_all}
-use Rattle.std.proofs.lemmas.Bool.Decides.{nat_tests}
-use Rattle.std.proofs.lemmas.Bool.{and_parts}
+use Rattle.fw_explore_laws.proofs.Common.{ℕ, zero, suc, ◌≡◌, ◌≢◌, ◌+◌, ◌≤◌, ◌<◌, ◌==◌, not, nat_le, List, [], ◌∷◌, ◌++◌, Bool, true, false, Some, None, length, codes, decimal, inl, inr, refl, sym, ap}
+use Rattle.fw_explore_laws.proofs.Common.{subst, ◌∙◌, append_assoc, arith, list_all, nat_tests, and_parts, same_Some, HasForm, Command}
+use Rattle.std.proofs.Common.{◌-◌, ◌⊎◌, ◌||◌, slice_index}
+use Rattle.std.proofs.Common.{take, cond}
+use Rattle.std.proofs.Common.{length-append}
 use Rattle.std.specs.Char.{is_ascii_lowercase}
 use Rattle.std.proofs.lemmas.Fmt.{length-decimal-le}
-use Rattle.std.proofs.lemmas.Option.{same_Some}
 use Rattle.std.proofs.lemmas.Slice.Eq.{bytes_eq-Decides}
-use Rattle.fw_command.specs.Form.{HasArguments, HasForm, first_by}
-use Rattle.fw_command.specs.Keyword.{keyword_in}
-use Rattle.fw_command.specs.Pieces.{AreFree, IsFree, parted, pieces}
-use Rattle.fw_command.specs.Words.{is, is_name, is_name_byte, is_taken, name_in, number_in, only_if}
-use Rattle.fw_command.specs.declared.command.Command.{Command}
-use Rattle.fw_command.specs.declared.command.Command.TheVariants.{Step, Contend}
-use Rattle.fw_command.specs.declared.keyword.Keyword.{Keyword}
-use Rattle.fw_command.specs.declared.keyword.Keyword.TheVariants as Keywords
-use Rattle.fw_command.proofs.PiecesLaws.{pieces_part, pieces_cut, pieces_free}
-use Rattle.fw_movers.specs.Words.{half_step_line, line_of_half_steps, takes_steps}
+use Rattle.fw_script_command.specs.Form.{HasArguments, first_by}
+use Rattle.fw_script_command.specs.Keyword.{keyword_in}
+use Rattle.fw_script_command.specs.Pieces.{AreFree, IsFree, parted, pieces}
+use Rattle.fw_script_command.specs.Words.{is, is_name, is_name_byte, is_taken, name_in, number_in, only_if}
+use Rattle.fw_script_command.specs.declared.command.Command.TheVariants.{Step, Contend}
+use Rattle.fw_script_command.specs.declared.keyword.Keyword.{Keyword}
+use Rattle.fw_script_command.specs.declared.keyword.Keyword.TheVariants as Keywords
+use Rattle.fw_script_command.proofs.PiecesLaws.{pieces_part, pieces_cut, pieces_free}
+use Rattle.fw_explore_movers.specs.Words.{half_step_line, line_of_half_steps, takes_steps}
 use Rattle.fw_explore_laws.proofs.Decimals.{decimal_all, decimal_read}
 
 -- the same half steps, so many

@@ -1,16 +1,13 @@
 -- Numbers as they are written: digits, which a script reads as the number.
-use Rattle.std.proofs.Common.{ℕ, zero, suc, ◌≡◌, ◌+◌, ◌/◌, ◌%◌, ◌^◌, ◌≤◌, ◌<◌, ◌==◌, ◌&&◌, ◌||◌, not, nat_le, nat_lt}
-use Rattle.std.proofs.Common.{List, [], ◌∷◌, Bool, true, false, decimal, length, slice_index, Some, if◌then◌else◌}
-use Rattle.std.proofs.Common.{refl, sym, subst, arith}
+use Rattle.fw_explore_laws.proofs.Common.{ℕ, zero, suc, ◌≡◌, ◌+◌, ◌≤◌, ◌<◌, ◌==◌, ◌&&◌, not, nat_le, List, [], ◌∷◌, Bool, true, false, decimal, length, Some, if◌then◌else◌, refl, sym, subst, arith}
+use Rattle.fw_explore_laws.proofs.Common.{list_all, and_parts, nat_tests, same_Some}
+use Rattle.std.proofs.Common.{◌/◌, ◌%◌, ◌^◌, ◌||◌, nat_lt}
+use Rattle.std.proofs.Common.{slice_index}
 use Rattle.std.specs.Char.{is_ascii_digit}
 use Rattle.std.specs.Fmt.{digit_glyph, digits_onto, digits}
-use Rattle.std.specs.List.{list_all}
 use Rattle.std.specs.Str.Parse.{digits_value}
-use Rattle.std.proofs.lemmas.Bool.{and_parts}
-use Rattle.std.proofs.lemmas.Bool.Decides.{nat_tests}
-use Rattle.std.proofs.lemmas.Option.{same_Some}
 use Rattle.std.proofs.lemmas.Fmt.{decimal_is_IsNumeral, decimal_nonempty, first_decimal}
-use Rattle.fw_command.specs.Words.{is_decimal, number_in, only_if}
+use Rattle.fw_script_command.specs.Words.{is_decimal, number_in, only_if}
 use Rattle.fw_explore_laws.proofs.Words.{both_true}
 
 -- what a digit of ten has, the number has

@@ -1,20 +1,17 @@
 -- A line that has a form is one line, and no remark.
-use Rattle.std.proofs.Common.{ℕ, ◌≡◌, ◌==◌, not, List, [], ◌∷◌, Bool, true, false, Some, is_some, codes}
-use Rattle.std.proofs.Common.{inl, inr, refl, sym, ap, subst, ◌∙◌, arith}
-use Rattle.std.specs.List.{list_all}
-use Rattle.std.proofs.lemmas.Bool.{and_parts}
-use Rattle.fw_command.specs.Form.{HasArguments, HasForm}
-use Rattle.fw_command.specs.Keyword.{keywords, keyword_in}
-use Rattle.fw_command.specs.Pieces.{parted}
-use Rattle.fw_command.specs.Types.{are_fitting, fits, range_of, types_of, word_of}
-use Rattle.fw_command.specs.declared.command.Command.{Command}
-use Rattle.fw_command.specs.declared.command.Command.TheVariants as Commands
-use Rattle.fw_command.specs.declared.keyword.Keyword.{Keyword}
-use Rattle.fw_command.specs.declared.keyword.Keyword.TheVariants as Keywords
-use Rattle.fw_command.specs.declared.word_type.WordType.{WordType}
-use Rattle.fw_command.specs.declared.word_type.WordType.TheVariants.{Name, Shown, Kind, Speed, System, End, Plug, Channel, Offset, Quadlet, Frame, Late, Number}
-use Rattle.fw_command.proofs.PiecesLaws.{pieces_part}
-use Rattle.fw_command.proofs.TableLaws.{one_table}
+use Rattle.fw_explore_laws.proofs.Common.{ℕ, ◌≡◌, ◌==◌, not, List, [], ◌∷◌, Bool, true, false, Some, codes, inl, inr, refl, sym, ap, subst, ◌∙◌, arith, list_all, and_parts, HasForm, Command}
+use Rattle.std.proofs.Common.{is_some}
+use Rattle.fw_script_command.specs.Form.{HasArguments}
+use Rattle.fw_script_command.specs.Keyword.{keywords, keyword_in}
+use Rattle.fw_script_command.specs.Pieces.{parted}
+use Rattle.fw_script_command.specs.Types.{are_fitting, fits, range_of, types_of, word_of}
+use Rattle.fw_script_command.specs.declared.command.Command.TheVariants as Commands
+use Rattle.fw_script_command.specs.declared.keyword.Keyword.{Keyword}
+use Rattle.fw_script_command.specs.declared.keyword.Keyword.TheVariants as Keywords
+use Rattle.fw_script_command.specs.declared.word_type.WordType.{WordType}
+use Rattle.fw_script_command.specs.declared.word_type.WordType.TheVariants.{Name, Shown, Kind, Speed, System, End, Plug, Channel, Offset, Quadlet, Frame, Late, Number}
+use Rattle.fw_script_command.proofs.PiecesLaws.{pieces_part}
+use Rattle.fw_script_command.proofs.TableLaws.{one_table}
 use Rattle.fw_script.specs.Line.{is_skipped}
 use Rattle.fw_explore_laws.proofs.Lines.{is_one_line}
 use Rattle.fw_explore_laws.proofs.Words.{both_true, channel_one, frame_one, kind_one, late_one, meaning_has, meaning_text, name_one, number_one, offset_one, parted_one, place_one, shown_one, word_one}

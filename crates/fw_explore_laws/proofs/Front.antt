@@ -1,18 +1,15 @@
 -- A script without its line `end`: whole lines, which say its commands.
-use Rattle.std.proofs.Common.{ℕ, zero, suc, ◌≡◌, ◌≤◌, ◌<◌, ◌==◌, not, List, [], ◌∷◌, ◌++◌, Bool, true, false, Option, Some, None, Ok, length, drop, codes}
-use Rattle.std.proofs.Common.{inl, inr, refl, sym, ap, subst, ◌∙◌, append_assoc, arith}
+use Rattle.fw_explore_laws.proofs.Common.{ℕ, zero, suc, ◌≡◌, ◌≤◌, ◌<◌, ◌==◌, not, List, [], ◌∷◌, ◌++◌, Bool, true, false, Option, Some, None, Ok, length, codes, inl, inr, refl, sym, ap, subst, ◌∙◌}
+use Rattle.fw_explore_laws.proofs.Common.{append_assoc, arith, and_parts, HasForm, Command, End, IsScript}
+use Rattle.std.proofs.Common.{drop}
 use Rattle.std.specs.List.{filter}
-use Rattle.std.proofs.lemmas.Bool.{and_parts}
 use Rattle.std.proofs.lemmas.Slice.Eq.{bytes_eq-Decides}
-use Rattle.fw_command.specs.Form.{HasForm}
-use Rattle.fw_command.specs.Pieces.{onto}
-use Rattle.fw_command.specs.declared.command.Command.{Command}
-use Rattle.fw_command.specs.declared.command.Command.TheVariants.{End}
-use Rattle.fw_command.proofs.FormLaws.{one_form}
+use Rattle.fw_script_command.specs.Pieces.{onto}
+use Rattle.fw_script_command.proofs.FormLaws.{one_form}
 use Rattle.fw_script.specs.Line.{is_skipped}
 use Rattle.fw_script.specs.Reading.{Reading, Answer, GivesFirst, IsLine, EndsLine, behind}
 use Rattle.fw_script.specs.Reading.GivesFirst.{skipped, command, end_line, bad_line, long_line, too_long, end_of_input, no_end, read_fault}
-use Rattle.fw_script.specs.Script.{Refusal, Says, IsScript}
+use Rattle.fw_script.specs.Script.{Refusal, Says}
 use Rattle.fw_script.specs.Script.Says.{ends, refuses, goes_on}
 use Rattle.fw_script.specs.declared.stage.Stage.{Stage}
 use Rattle.fw_script.specs.declared.stage.Stage.TheVariants.{Commands, AfterEnd}

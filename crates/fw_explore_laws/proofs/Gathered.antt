@@ -1,21 +1,13 @@
 -- The commands of moves as they are told: half steps of one mover that follow each other are one command.
-use Rattle.std.proofs.Common.{ℕ, zero, suc, ◌≡◌, ◌+◌, ◌-◌, ◌≤◌, ◌==◌, ◌&&◌, List, [], ◌∷◌, ◌++◌, Bool, true, false, Option, Some, None, length, take, decimal, slice_get, replicate, if◌then◌else◌}
-use Rattle.std.proofs.Common.{inl, inr, refl, sym, ap, subst, ◌∙◌, append-nil, arith}
-use Rattle.std.proofs.lemmas.Bool.{and_parts}
+use Rattle.fw_explore_laws.proofs.Common.{ℕ, zero, suc, ◌≡◌, ◌+◌, ◌≤◌, ◌==◌, ◌&&◌, List, [], ◌∷◌, ◌++◌, Bool, true, false, Option, Some, None, length, decimal, if◌then◌else◌, inl, inr, refl, sym, ap}
+use Rattle.fw_explore_laws.proofs.Common.{subst, ◌∙◌, append-nil, arith, and_parts, Timed, HasForm, Command, End, MoverKind, HalfSteps, Once, Explored, State, Action}
+use Rattle.std.proofs.Common.{◌-◌, take, slice_get, replicate}
 use Rattle.std.proofs.lemmas.Bool.Decides.{Decides-eqb}
-use Rattle.fw_entry.specs.declared.entry.Timed.{Timed}
-use Rattle.fw_command.specs.Form.{HasForm}
-use Rattle.fw_command.specs.declared.command.Command.{Command}
-use Rattle.fw_command.specs.declared.command.Command.TheVariants.{End, Step, Contend}
-use Rattle.fw_movers.specs.declared.mover.Mover.{Mover}
-use Rattle.fw_movers.specs.declared.mover.MoverKind.{MoverKind}
-use Rattle.fw_movers.specs.declared.mover.MoverKind.TheVariants.{HalfSteps, Once}
-use Rattle.fw_movers.specs.declared.mover.Explored.{Explored}
-use Rattle.fw_movers.specs.Explored.{IsMover, command_at, command_in, half_step_of}
-use Rattle.fw_endings.specs.Texts.{moves_behind, moves_text, run_text, takes_half_steps}
-use Rattle.fw_run.specs.State.{State}
-use Rattle.fw_run.specs.Actions.{Action}
-use Rattle.fw_explored.specs.Moves.{commands_of}
+use Rattle.fw_script_command.specs.declared.command.Command.TheVariants.{Step, Contend}
+use Rattle.fw_explore_movers.specs.declared.mover.Mover.{Mover}
+use Rattle.fw_explore_movers.specs.Explored.{IsMover, command_at, command_in, half_step_of}
+use Rattle.fw_explore_endings.specs.Texts.{moves_behind, moves_text, run_text, takes_half_steps}
+use Rattle.fw_explore_meaning.specs.Moves.{commands_of}
 use Rattle.fw_explore_laws.proofs.Lines.{AreShort, both_short, no_line, none_short, says, short_both}
 use Rattle.fw_explore_laws.proofs.Forms.{form_one, form_told}
 use Rattle.fw_explore_laws.proofs.Counts.{IsHalfStep, with_count}
@@ -28,7 +20,7 @@ abbrev pub run_commands : Option Mover → ℕ → List Command
 run_commands None n = []
 run_commands (Some m) n = elim m.kind [ HalfSteps ↦ with_count n m.command ∷ [] | Once ↦ m.command ∷ [] ]
 
--- those of the moves behind `n` half steps of the mover `p`
+-- those of the moves after `n` half steps of the mover `p`
 abbrev pub commands_behind : Explored → ℕ → ℕ → List ℕ → List Command
 commands_behind x p n [] = run_commands (slice_get x.movers.items p) n
 commands_behind x p n (q ∷ w) =

@@ -1,17 +1,15 @@
 -- The lines after an interleaving: those that were carried out, and what is told of the others.
-use Rattle.std.proofs.Common.{ℕ, ◌≡◌, List, [], ◌∷◌, ◌++◌, true, codes, map, refl, sym, subst, append_assoc, append-nil}
-use Rattle.fw_entry.specs.declared.entry.Timed.{Timed}
-use Rattle.fw_command.specs.declared.command.Command.{Command}
-use Rattle.fw_run.specs.declared.rule.RuleFault.{RuleFault}
-use Rattle.fw_run.specs.declared.rule.RuleFault.TheVariants as Rules
-use Rattle.fw_run.specs.Desks.{DeskRelations, IsFunction}
-use Rattle.fw_run.specs.State.{State}
-use Rattle.fw_movers.specs.declared.mover.Line.{Line}
-use Rattle.fw_told.specs.Sayings.{lines_text}
-use Rattle.fw_explored.specs.Moves.{Behind}
-use Rattle.fw_explored.specs.Names.{rule_name}
-use Rattle.fw_explored.specs.Endings.{Finishes, done, carried, refusal_of, refuses}
-use Rattle.fw_explored.proofs.BehindLaws.{behind_one}
+use Rattle.fw_explore_laws.proofs.Common.{ℕ, ◌≡◌, List, [], ◌∷◌, ◌++◌, true, codes, refl, sym, subst, append_assoc, append-nil, Timed, Command, DeskRelations, State}
+use Rattle.std.proofs.Common.{map}
+use Rattle.fw_order.specs.declared.rule.RuleFault.{RuleFault}
+use Rattle.fw_order.specs.declared.rule.RuleFault.TheVariants as Rules
+use Rattle.fw_model_run.specs.Desks.{IsFunction}
+use Rattle.fw_explore_movers.specs.declared.mover.Line.{Line}
+use Rattle.fw_explore_told.specs.Sayings.{lines_text}
+use Rattle.fw_explore_meaning.specs.Moves.{Behind}
+use Rattle.fw_explore_meaning.specs.Names.{rule_name}
+use Rattle.fw_explore_meaning.specs.Endings.{Finishes, done, carried, refusal_of, refuses}
+use Rattle.fw_explore_meaning.proofs.BehindLaws.{behind_one}
 use Rattle.fw_explore_laws.proofs.Lines.{AreLines, AreShort, both_short, is_one_line, no_line, none_short}
 use Rattle.fw_explore_laws.proofs.Forms.{form_one}
 use Rattle.fw_explore_laws.proofs.Words.{one_more}

@@ -1,18 +1,14 @@
 -- Whole lines, none of which is refused, and what they say where they stand in a script.
-use Rattle.std.proofs.Common.{ℕ, zero, suc, ◌≡◌, ◌≢◌, ◌+◌, ◌≤◌, ◌==◌, ◌&&◌, not, nat_le, List, [], ◌∷◌, ◌++◌, Bool, true, false, Option, None, length, drop, codes}
-use Rattle.std.proofs.Common.{inl, refl, sym, ap, subst, ◌∙◌, append_assoc, length-append, arith}
-use Rattle.std.specs.List.{list_all}
-use Rattle.std.proofs.lemmas.Bool.{and_parts}
-use Rattle.std.proofs.lemmas.Bool.Decides.{nat_tests}
-use Rattle.fw_command.specs.Pieces.{IsFree, onto}
-use Rattle.fw_command.specs.Form.{HasForm}
-use Rattle.fw_command.specs.declared.command.Command.{Command}
-use Rattle.fw_command.specs.declared.command.Command.TheVariants.{End}
-use Rattle.fw_command.specs.declared.keyword.Keyword.TheVariants.{End as TheEnd}
+use Rattle.fw_explore_laws.proofs.Common.{ℕ, zero, suc, ◌≡◌, ◌≢◌, ◌+◌, ◌≤◌, ◌==◌, ◌&&◌, not, nat_le, List, [], ◌∷◌, ◌++◌, Bool, true, false, Option, None, length, codes, inl, refl, sym, ap, subst}
+use Rattle.fw_explore_laws.proofs.Common.{◌∙◌, append_assoc, arith, list_all, and_parts, nat_tests, HasForm, Command, End, IsScript}
+use Rattle.std.proofs.Common.{drop}
+use Rattle.std.proofs.Common.{length-append}
+use Rattle.fw_script_command.specs.Pieces.{IsFree, onto}
+use Rattle.fw_script_command.specs.declared.keyword.Keyword.TheVariants.{End as TheEnd}
 use Rattle.fw_script.specs.Line.{is_skipped}
 use Rattle.fw_script.specs.Reading.{Reading, IsLine, behind}
 use Rattle.fw_script.specs.Reading.GivesFirst.{skipped, command, end_line, end_of_input}
-use Rattle.fw_script.specs.Script.{Refusal, Says, IsScript, start_of}
+use Rattle.fw_script.specs.Script.{Refusal, Says, start_of}
 use Rattle.fw_script.specs.Script.Says.{ends, refuses, goes_on}
 use Rattle.fw_script.specs.declared.stage.Stage.TheVariants.{Commands}
 use Rattle.fw_explore_laws.specs.Rest.{lines_in, has_short_lines}
@@ -121,7 +117,7 @@ drop_line (suc zero) [] rest e = refl
 drop_line (suc (suc n)) [] rest e = absurd (omega (arith, e))
 drop_line (suc n) (b ∷ text) rest e = drop_line n text rest (omega (arith, e))
 
--- the next line of a reading, where it has a line feed
+-- the next line of a reading, if it has a line feed
 pub next_line : (p : Reading) (text rest : List ℕ) → p.rest ≡ text ++ 10 ∷ rest → is_one_line text ≡ true → length text ≤ 256 → p.before + (length text + 1) ≤ 1048576
     → IsLine p text (length text + 1)
 next_line p text rest is one short within = record {

@@ -1,14 +1,9 @@
 -- What the words after `explore` name: lines that have forms, and half steps that may be taken together.
-use Rattle.std.proofs.Common.{ℕ, zero, suc, ◌≡◌, ◌+◌, ◌-◌, ◌≤◌, List, [], ◌∷◌, ◌++◌, Some, length, take, slice_get, sym, subst, arith}
-use Rattle.std.proofs.lemmas.Option.{same_Some}
-use Rattle.fw_command.specs.Form.{HasForm}
-use Rattle.fw_command.specs.declared.command.Command.TheVariants.{End}
-use Rattle.fw_movers.specs.declared.mover.Mover.{Mover}
-use Rattle.fw_movers.specs.declared.mover.Line.{Line}
-use Rattle.fw_movers.specs.declared.mover.MoverKind.{MoverKind}
-use Rattle.fw_movers.specs.declared.mover.MoverKind.TheVariants.{HalfSteps, Once}
-use Rattle.fw_movers.specs.declared.mover.Explored.{Explored}
-use Rattle.fw_movers.specs.Words.{IsExploredBy, Read, Reads, ReadsAll, nothing_read, number, goes_on, half_steps, line, behind, all_read, reads, line_of_half_steps}
+use Rattle.fw_explore_laws.proofs.Common.{ℕ, zero, suc, ◌≡◌, ◌+◌, ◌≤◌, List, [], ◌∷◌, ◌++◌, Some, length, sym, subst, arith, same_Some, HasForm, End, MoverKind, HalfSteps, Once, Explored}
+use Rattle.std.proofs.Common.{◌-◌, take, slice_get}
+use Rattle.fw_explore_movers.specs.declared.mover.Mover.{Mover}
+use Rattle.fw_explore_movers.specs.declared.mover.Line.{Line}
+use Rattle.fw_explore_movers.specs.Words.{IsExploredBy, Read, Reads, ReadsAll, nothing_read, number, goes_on, half_steps, line, behind, all_read, reads, line_of_half_steps}
 use Rattle.fw_explore_laws.proofs.Counts.{HasCounts, IsHalfStep, half_steps_form}
 use Rattle.fw_explore_laws.proofs.Decimals.{number_range}
 

@@ -1,21 +1,21 @@
 -- What is told of a word that a register shows is one line.
-use Rattle.std.proofs.Common.{ℕ, zero, suc, ◌≡◌, ◌+◌, ◌==◌, List, [], ◌∷◌, true, codes, flat_map, refl}
-use Rattle.std.specs.List.{list_all}
-use Rattle.std.proofs.lemmas.Bool.{and_parts}
-use Rattle.fw_entry.specs.declared.entry.ShownEntry.{ShownEntry}
-use Rattle.fw_explain.specs.Lines.{at_text, shown_device, shown_place, shown_text}
-use Rattle.fw_names.specs.Names.{rate_name}
-use Rattle.fw_registers.specs.Words.{Field, channel_text, fields_of, first_channels, inverted, is_row, place_text, register_name}
-use Rattle.fw_registers.specs.Words.{taken_text, told_field, told_register, told_text, value_text, word_text}
-use Rattle.fw_registers.specs.declared.place.Place.{Place}
-use Rattle.fw_registers.specs.declared.place.Place.TheVariants.{Named, Unnamed}
-use Rattle.fw_registers.specs.declared.register.Register.{Register}
-use Rattle.fw_registers.specs.declared.register.Register.TheVariants.{StateClear, StateSet, NodeIds, ResetStart, SplitTimeoutHi, SplitTimeoutLo, CycleTime, BusTime, BusyTimeout, PriorityBudget}
-use Rattle.fw_registers.specs.declared.register.Register.TheVariants.{BusManagerId, BandwidthAvailable, ChannelsAvailableHi, ChannelsAvailableLo, MaintUtility, BroadcastChannel, BusName, BusOptions}
-use Rattle.fw_registers.specs.declared.register.Register.TheVariants.{Eui64Hi, Eui64Lo, ConfigRom, OutputMasterPlug, OutputPlug, InputMasterPlug, InputPlug, FcpCommand, FcpResponse, TopologyMap}
-use Rattle.fw_registers.specs.declared.shown.Shown.{Shown}
-use Rattle.fw_registers.specs.declared.shown.Shown.TheVariants.{Decimal, Company, Rate, Node, Counted}
-use Rattle.fw_registers.specs.declared.told.Told.TheVariants.{Word}
+use Rattle.fw_explore_laws.proofs.Common.{ℕ, zero, suc, ◌≡◌, ◌+◌, ◌==◌, List, [], ◌∷◌, true, codes, refl, list_all, and_parts}
+use Rattle.std.proofs.Common.{flat_map}
+use Rattle.fw_log_entry.specs.declared.entry.ShownEntry.{ShownEntry}
+use Rattle.fw_log_explain.specs.Lines.{at_text, shown_device, shown_place, shown_text}
+use Rattle.fw_log_names.specs.Names.{rate_name}
+use Rattle.fw_log_registers.specs.Words.{Field, channel_text, fields_of, first_channels, inverted, is_row, place_text, register_name}
+use Rattle.fw_log_registers.specs.Words.{taken_text, told_field, told_register, told_text, value_text, word_text}
+use Rattle.fw_log_registers.specs.declared.place.Place.{Place}
+use Rattle.fw_log_registers.specs.declared.place.Place.TheVariants.{Named, Unnamed}
+use Rattle.fw_log_registers.specs.declared.register.Register.{Register}
+use Rattle.fw_log_registers.specs.declared.register.Register.TheVariants.{StateClear, StateSet, NodeIds, ResetStart, SplitTimeoutHi, SplitTimeoutLo, CycleTime, BusTime, BusyTimeout, PriorityBudget}
+use Rattle.fw_log_registers.specs.declared.register.Register.TheVariants.{BusManagerId, BandwidthAvailable, ChannelsAvailableHi, ChannelsAvailableLo}
+use Rattle.fw_log_registers.specs.declared.register.Register.TheVariants.{MaintUtility, BroadcastChannel, BusName, BusOptions}
+use Rattle.fw_log_registers.specs.declared.register.Register.TheVariants.{Eui64Hi, Eui64Lo, ConfigRom, OutputMasterPlug, OutputPlug, InputMasterPlug, InputPlug, FcpCommand, FcpResponse, TopologyMap}
+use Rattle.fw_log_registers.specs.declared.shown.Shown.{Shown}
+use Rattle.fw_log_registers.specs.declared.shown.Shown.TheVariants.{Decimal, Company, Rate, Node, Counted}
+use Rattle.fw_log_registers.specs.declared.told.Told.TheVariants.{Word}
 use Rattle.fw_words.specs.Quadlet.{field}
 use Rattle.fw_explore_laws.proofs.Lines.{is_one_line}
 use Rattle.fw_explore_laws.proofs.Texts.{AreOneLine, IsOneLine, hex_one, if_name, if_one, lit, more, named_one, no_name, none, number, quadlet_one, some_name}

@@ -1,16 +1,13 @@
 -- What is told of an interleaving is remarks, which a script skips.
-use Rattle.std.proofs.Common.{ℕ, zero, suc, ◌≡◌, ◌+◌, ◌==◌, List, [], ◌∷◌, ◌++◌, Bool, true, false, codes, cond, if◌then◌else◌, refl}
+use Rattle.fw_explore_laws.proofs.Common.{ℕ, zero, suc, ◌≡◌, ◌+◌, ◌==◌, List, [], ◌∷◌, ◌++◌, Bool, true, false, codes, if◌then◌else◌, refl, Timed, MoverKind, HalfSteps, Once, Explored}
+use Rattle.std.proofs.Common.{cond}
 use Rattle.std.specs.List.{filter, flat_map, list_any}
-use Rattle.fw_entry.specs.declared.codes.TheConstants.{NO_DEVICE}
-use Rattle.fw_entry.specs.declared.entry.Entry.{Entry}
-use Rattle.fw_entry.specs.declared.entry.Entry.TheVariants.{Reset, Async, Iso, Event, Outcome, Shown, End}
-use Rattle.fw_entry.specs.declared.entry.Timed.{Timed}
-use Rattle.fw_explain.specs.Lines.{what_text}
-use Rattle.fw_movers.specs.declared.mover.Mover.{Mover}
-use Rattle.fw_movers.specs.declared.mover.MoverKind.{MoverKind}
-use Rattle.fw_movers.specs.declared.mover.MoverKind.TheVariants.{HalfSteps, Once}
-use Rattle.fw_movers.specs.declared.mover.Explored.{Explored}
-use Rattle.fw_told.specs.Telling.{remark, is_of_controller, is_of_candidate, is_shown, left_from, left_of, left_out, told, told_by, told_of}
+use Rattle.fw_log_entry.specs.declared.codes.TheConstants.{NO_DEVICE}
+use Rattle.fw_log_entry.specs.declared.entry.Entry.{Entry}
+use Rattle.fw_log_entry.specs.declared.entry.Entry.TheVariants.{Reset, Async, Iso, Event, Outcome, Shown, End}
+use Rattle.fw_log_explain.specs.Lines.{what_text}
+use Rattle.fw_explore_movers.specs.declared.mover.Mover.{Mover}
+use Rattle.fw_explore_told.specs.Telling.{remark, is_of_controller, is_of_candidate, is_shown, left_from, left_of, left_out, told, told_by, told_of}
 use Rattle.fw_explore_laws.proofs.Lines.{AreLines, is_one_line, lines_then, no_line, skips}
 use Rattle.fw_explore_laws.proofs.Forms.{form_one}
 use Rattle.fw_explore_laws.proofs.Words.{one_more}

@@ -1,24 +1,18 @@
 -- Each row is the rest of a script.
-use Rattle.std.proofs.Common.{ℕ, ◌≡◌, ◌+◌, ◌≤◌, ◌==◌, List, [], ◌∷◌, ◌++◌, true, Some, None, codes, length}
-use Rattle.std.proofs.Common.{refl, sym, ap, subst, ◌∙◌, append_assoc, length-append, arith}
+use Rattle.fw_explore_laws.proofs.Common.{ℕ, ◌≡◌, ◌+◌, ◌≤◌, ◌==◌, List, [], ◌∷◌, ◌++◌, true, Some, None, codes, length, refl, sym, ap, subst, ◌∙◌, append_assoc, arith, Command, End, DeskRelations}
+use Rattle.fw_explore_laws.proofs.Common.{State, IsScript, MoverKind, HalfSteps, Once, Explored}
+use Rattle.std.proofs.Common.{length-append}
 use Rattle.std.proofs.lemmas.Option.{get_or_from_slice_get, slice_get_within}
-use Rattle.fw_command.specs.declared.command.Command.{Command}
-use Rattle.fw_command.specs.declared.command.Command.TheVariants.{End}
-use Rattle.fw_levels.specs.Counting.{most_told}
-use Rattle.fw_levels.specs.Schedules.{Schedule, begun, and_then}
-use Rattle.fw_run.specs.Desks.{DeskRelations, IsFunction}
-use Rattle.fw_run.specs.State.{State}
-use Rattle.fw_script.specs.Script.{IsScript}
-use Rattle.fw_movers.specs.declared.mover.MoverKind.{MoverKind}
-use Rattle.fw_movers.specs.declared.mover.MoverKind.TheVariants.{HalfSteps, Once}
-use Rattle.fw_movers.specs.declared.mover.Explored.{Explored}
-use Rattle.fw_movers.specs.Explored.{half_step_of}
-use Rattle.fw_told.specs.Telling.{remark}
-use Rattle.fw_endings.specs.declared.rows.Row.{Row}
-use Rattle.fw_endings.specs.Texts.{count_text, moves_text, rest_text, row_head, row_text}
-use Rattle.fw_explored.specs.Moves.{Behind, IsAllowed, IsMove, commands_of, half_steps_in}
-use Rattle.fw_explored.specs.Rows.{IsRow}
-use Rattle.fw_explored.proofs.HistoryLaws.{half_more}
+use Rattle.fw_explore_levels.specs.Counting.{most_told}
+use Rattle.fw_explore_levels.specs.Schedules.{Schedule, begun, and_then}
+use Rattle.fw_model_run.specs.Desks.{IsFunction}
+use Rattle.fw_explore_movers.specs.Explored.{half_step_of}
+use Rattle.fw_explore_told.specs.Telling.{remark}
+use Rattle.fw_explore_endings.specs.declared.rows.Row.{Row}
+use Rattle.fw_explore_endings.specs.Texts.{count_text, moves_text, rest_text, row_head, row_text}
+use Rattle.fw_explore_meaning.specs.Moves.{Behind, IsAllowed, IsMove, commands_of, half_steps_in}
+use Rattle.fw_explore_meaning.specs.Rows.{IsRow}
+use Rattle.fw_explore_meaning.proofs.HistoryLaws.{half_more}
 use Rattle.fw_explore_laws.specs.Rest.{has_short_lines, without_end}
 use Rattle.fw_explore_laws.specs.Rests.{HasRoom, RowIsRest, RowsAreRests}
 use Rattle.fw_explore_laws.proofs.Lines.{AreLines, AreShort, both_short, lines_then, short_front, short_then, skips, whole_script}

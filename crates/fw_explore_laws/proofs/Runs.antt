@@ -1,35 +1,30 @@
 -- A call of `run` carries out a row's script.
-use Rattle.std.proofs.Common.{ℕ, ◌≡◌, ◌≢◌, List, [], ◌∷◌, ◌++◌, Option, Some, None, Ok, sym, ap, subst, ◌∙◌, append-nil}
+use Rattle.fw_explore_laws.proofs.Common.{ℕ, ◌≡◌, ◌≢◌, List, [], ◌∷◌, ◌++◌, Option, Some, None, Ok, sym, ap, subst, ◌∙◌, append-nil, Timed, Command, End, Action, DeskRelations, State, IsScript}
+use Rattle.fw_explore_laws.proofs.Common.{Explored}
 use Rattle.fw_outside.specs.Outside.{IsAtEnd, Takes}
 use Rattle.fw_outside.specs.declared.stop.Stop.TheVariants as Stops
-use Rattle.fw_entry.specs.declared.entry.Entry.TheVariants.{End as EndEntry}
-use Rattle.fw_entry.specs.declared.entry.Timed.{Timed}
-use Rattle.fw_command.specs.declared.command.Command.{Command}
-use Rattle.fw_command.specs.declared.command.Command.TheVariants.{End}
-use Rattle.fw_run.specs.declared.order.Order.{Order}
-use Rattle.fw_run.specs.declared.order.Order.TheVariants as order
-use Rattle.fw_run.specs.declared.rule.RuleFault.{RuleFault}
-use Rattle.fw_run.specs.declared.rule.RuleFault.TheVariants.{UnknownName, NameTaken, TooMany, NoPort, PortUsed, Loop, NotController, OffBus}
-use Rattle.fw_run.specs.declared.rule.RuleFault.TheVariants.{Guarded, NoRegister, Limit, TableFull, Busy, NoSuchConnection, NotOwnPlug, NoDeck, NothingStands, TooLate, NotCapable, NotCandidate}
-use Rattle.fw_run.specs.Actions.{Action, Finish, Steps}
-use Rattle.fw_run.specs.Desks.{DeskRelations, IsFunction}
-use Rattle.fw_run.specs.Given.{AreGiven}
-use Rattle.fw_run.specs.Giving.{at_most}
-use Rattle.fw_run.specs.Rules.{Breaks, Decides}
-use Rattle.fw_run.specs.State.{State}
-use Rattle.fw_run.proofs.Given.{given_append}
-use Rattle.fw_run.proofs.OneLog.{last_of, one_run}
-use Rattle.fw_run.proofs.OneResult.{CarriedBy, carried}
-use Rattle.fw_script.specs.Script.{IsScript}
+use Rattle.fw_log_entry.specs.declared.entry.Entry.TheVariants.{End as EndEntry}
+use Rattle.fw_order.specs.declared.order.Order.{Order}
+use Rattle.fw_order.specs.declared.order.Order.TheVariants as order
+use Rattle.fw_order.specs.declared.rule.RuleFault.{RuleFault}
+use Rattle.fw_order.specs.declared.rule.RuleFault.TheVariants.{UnknownName, NameTaken, TooMany, NoPort, PortUsed, Loop, NotController, OffBus}
+use Rattle.fw_order.specs.declared.rule.RuleFault.TheVariants.{Guarded, NoRegister, Limit, TableFull, Busy, NoSuchConnection, NotOwnPlug, NoDeck, NothingStands, TooLate, NotCapable, NotCandidate}
+use Rattle.fw_model_run.specs.Actions.{Finish, Steps}
+use Rattle.fw_model_run.specs.Desks.{IsFunction}
+use Rattle.fw_model_run.specs.Given.{AreGiven}
+use Rattle.fw_model_run.specs.Giving.{at_most}
+use Rattle.fw_model_run.specs.Rules.{Breaks, Decides}
+use Rattle.fw_model_run.proofs.Given.{given_append}
+use Rattle.fw_model_run.proofs.OneLog.{last_of, one_run}
+use Rattle.fw_model_run.proofs.OneResult.{CarriedBy, carried}
 use Rattle.fw_script.specs.declared.ScriptFault.{ScriptFault}
 use Rattle.fw_script.proofs.ScriptLaws.{says_after, says_behind, says_once}
-use Rattle.fw_movers.specs.declared.mover.Explored.{Explored}
-use Rattle.fw_endings.specs.declared.rows.Row.{Row}
-use Rattle.fw_simulate.specs.Ending.{Logged, RefusesBy, RefusesCommand, RefusesLine, Runs}
-use Rattle.fw_simulate.specs.declared.ending.Refusal.{Refusal as WhyRefused}
-use Rattle.fw_simulate.specs.declared.ending.Refusal.TheVariants.{BadLine, LineTooLong, NoEnd, Rule}
-use Rattle.fw_simulate.specs.declared.ending.RunEnding.{RunEnding}
-use Rattle.fw_simulate.specs.declared.ending.RunEnding.TheVariants.{Done, Refused, Stopped}
+use Rattle.fw_explore_endings.specs.declared.rows.Row.{Row}
+use Rattle.fw_script_words.specs.Ending.{Logged, RefusesBy, RefusesCommand, RefusesLine, Runs}
+use Rattle.fw_script_words.specs.declared.ending.Refusal.{Refusal as WhyRefused}
+use Rattle.fw_script_words.specs.declared.ending.Refusal.TheVariants.{BadLine, LineTooLong, NoEnd, Rule}
+use Rattle.fw_script_words.specs.declared.ending.RunEnding.{RunEnding}
+use Rattle.fw_script_words.specs.declared.ending.RunEnding.TheVariants.{Done, Refused, Stopped}
 use Rattle.fw_explore_laws.specs.Rest.{without_end}
 use Rattle.fw_explore_laws.specs.Rests.{IsRest}
 use Rattle.fw_explore_laws.specs.Runs.{IsRunSo, RestsAreRun, log_of}

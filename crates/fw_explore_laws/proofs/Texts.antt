@@ -1,19 +1,16 @@
 -- Texts of one line: what is told of events, outcomes and shown words.
-use Rattle.std.proofs.Common.{ℕ, zero, suc, ◌≡◌, ◌+◌, ◌/◌, ◌%◌, ◌<◌, ◌==◌, ◌||◌, not, nat_lt, List, [], ◌∷◌, ◌++◌, Bool, true, false, Option, Some, None, codes, decimal, if◌then◌else◌}
-use Rattle.std.proofs.Common.{refl, subst, arith}
+use Rattle.fw_explore_laws.proofs.Common.{ℕ, zero, suc, ◌≡◌, ◌+◌, ◌<◌, ◌==◌, not, List, [], ◌∷◌, ◌++◌, Bool, true, false, Option, Some, None, codes, decimal, if◌then◌else◌, refl, subst, arith}
+use Rattle.fw_explore_laws.proofs.Common.{list_all, and_parts, nat_tests, same_Some}
+use Rattle.std.proofs.Common.{◌/◌, ◌%◌, ◌||◌, nat_lt}
 use Rattle.std.specs.Fmt.{digit_glyph}
-use Rattle.std.specs.List.{list_all}
-use Rattle.std.proofs.lemmas.Bool.{and_parts}
-use Rattle.std.proofs.lemmas.Bool.Decides.{nat_tests}
-use Rattle.std.proofs.lemmas.Option.{same_Some}
-use Rattle.fw_entry.specs.Rows.{event_form, has_tape}
-use Rattle.fw_entry.specs.declared.codes.TheConstants.{NO_DEVICE}
-use Rattle.fw_entry.specs.declared.codes.outcome.TheConstants as Outcomes
-use Rattle.fw_entry.specs.declared.entry.EventEntry.{EventEntry}
-use Rattle.fw_entry.specs.declared.entry.OutcomeEntry.{OutcomeEntry}
-use Rattle.fw_explain.specs.Lines.{device_text, ended_text, event_text, outcome_text, rcode_text, saying_text, slot_text, tape_text, value_text}
-use Rattle.fw_names.specs.Names.{EventWords, event_saying, event_word, event_words, name_in, outcome_names, rcode_name, system_name}
-use Rattle.fw_names.specs.Texts.{hex, named, quadlet_text}
+use Rattle.fw_log_entry.specs.Rows.{event_form, has_tape}
+use Rattle.fw_log_entry.specs.declared.codes.TheConstants.{NO_DEVICE}
+use Rattle.fw_log_entry.specs.declared.codes.outcome.TheConstants as Outcomes
+use Rattle.fw_log_entry.specs.declared.entry.EventEntry.{EventEntry}
+use Rattle.fw_log_entry.specs.declared.entry.OutcomeEntry.{OutcomeEntry}
+use Rattle.fw_log_explain.specs.Lines.{device_text, ended_text, event_text, outcome_text, rcode_text, saying_text, slot_text, tape_text, value_text}
+use Rattle.fw_log_names.specs.Names.{EventWords, event_saying, event_word, event_words, name_in, outcome_names, rcode_name, system_name}
+use Rattle.fw_log_names.specs.Texts.{hex, named, quadlet_text}
 use Rattle.fw_explore_laws.proofs.Lines.{is_one_line}
 use Rattle.fw_explore_laws.proofs.Words.{both_true, one_more}
 use Rattle.fw_explore_laws.proofs.Decimals.{decimal_all}

@@ -1,23 +1,19 @@
 -- Half steps of one controller or candidate, one command each, are so many by one command.
-use Rattle.std.proofs.Common.{ℕ, zero, suc, ◌≡◌, ◌+◌, ◌≤◌, ◌<◌, ◌⊎◌, List, [], ◌∷◌, ◌++◌, Ok, replicate, refl, sym, ap, subst, ◌∙◌, append-nil, arith}
-use Rattle.std.proofs.Common.{inl, inr}
-use Rattle.std.proofs.lemmas.Option.{same_Some}
-use Rattle.fw_entry.specs.declared.entry.Timed.{Timed}
-use Rattle.fw_command.specs.declared.command.Command.{Command}
-use Rattle.fw_command.specs.declared.command.Command.TheVariants.{Step as StepCommand, Contend as ContendCommand}
+use Rattle.fw_explore_laws.proofs.Common.{ℕ, zero, suc, ◌≡◌, ◌+◌, ◌≤◌, ◌<◌, List, [], ◌∷◌, ◌++◌, Ok, refl, sym, ap, subst, ◌∙◌, append-nil, arith, inl, inr, same_Some, Timed, Command, State, Action}
+use Rattle.std.proofs.Common.{◌⊎◌, replicate}
+use Rattle.fw_script_command.specs.declared.command.Command.TheVariants.{Step as StepCommand, Contend as ContendCommand}
 use Rattle.fw_devices.specs.Network.{device_named}
-use Rattle.fw_run.specs.declared.limits.TheConstants.{MOST_HALF_STEPS}
-use Rattle.fw_run.specs.declared.order.Order.{Order}
-use Rattle.fw_run.specs.declared.order.Order.TheVariants as order
-use Rattle.fw_run.specs.declared.rule.RuleFault.{RuleFault}
-use Rattle.fw_run.specs.declared.rule.RuleFault.TheVariants.{UnknownName, NameTaken, TooMany, NoPort, PortUsed, Loop, NotController, OffBus}
-use Rattle.fw_run.specs.declared.rule.RuleFault.TheVariants.{Guarded, NoRegister, Limit, TableFull, Busy, NoSuchConnection, NotOwnPlug, NoDeck, NothingStands, TooLate, NotCapable, NotCandidate}
-use Rattle.fw_run.specs.State.{State}
-use Rattle.fw_run.specs.Actions.{Action, HalfStep, Contend, Step, Steps}
-use Rattle.fw_run.specs.Carrying.{Carries, steps, contends, times}
-use Rattle.fw_run.specs.Named.{IsNamed}
-use Rattle.fw_run.specs.Rules.{Breaks, Decides}
-use Rattle.fw_run.proofs.Taking.{Taken, listens, keeps_deaf, forces_reset, taken_as}
+use Rattle.fw_order.specs.declared.limits.TheConstants.{MOST_HALF_STEPS}
+use Rattle.fw_order.specs.declared.order.Order.{Order}
+use Rattle.fw_order.specs.declared.order.Order.TheVariants as order
+use Rattle.fw_order.specs.declared.rule.RuleFault.{RuleFault}
+use Rattle.fw_order.specs.declared.rule.RuleFault.TheVariants.{UnknownName, NameTaken, TooMany, NoPort, PortUsed, Loop, NotController, OffBus}
+use Rattle.fw_order.specs.declared.rule.RuleFault.TheVariants.{Guarded, NoRegister, Limit, TableFull, Busy, NoSuchConnection, NotOwnPlug, NoDeck, NothingStands, TooLate, NotCapable, NotCandidate}
+use Rattle.fw_model_run.specs.Actions.{HalfStep, Contend, Step, Steps}
+use Rattle.fw_model_run.specs.Carrying.{Carries, steps, contends, times}
+use Rattle.fw_model_run.specs.Named.{IsNamed}
+use Rattle.fw_model_run.specs.Rules.{Breaks, Decides}
+use Rattle.fw_model_run.proofs.Taking.{Taken, listens, keeps_deaf, forces_reset, taken_as}
 use Rattle.fw_explore_laws.proofs.Carried.{Carried}
 
 -- ---- half steps one after another

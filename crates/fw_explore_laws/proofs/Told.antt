@@ -1,10 +1,8 @@
 -- The paragraphs of a text.
-use Rattle.std.proofs.Common.{ℕ, zero, suc, ◌≡◌, ◌+◌, List, [], ◌∷◌, ◌++◌, Some, slice_get, length, sym, ap, ◌∙◌, append_assoc, arith}
-use Rattle.std.proofs.lemmas.Option.{same_Some}
-use Rattle.fw_run.specs.Desks.{DeskRelations}
-use Rattle.fw_movers.specs.declared.mover.Explored.{Explored}
-use Rattle.fw_endings.specs.declared.rows.Row.{Row}
-use Rattle.fw_endings.specs.Texts.{devices_text, first_text, row_text, rows_text}
+use Rattle.fw_explore_laws.proofs.Common.{ℕ, zero, suc, ◌≡◌, ◌+◌, List, [], ◌∷◌, ◌++◌, Some, length, sym, ap, ◌∙◌, append_assoc, arith, same_Some, DeskRelations, Explored}
+use Rattle.std.proofs.Common.{slice_get}
+use Rattle.fw_explore_endings.specs.declared.rows.Row.{Row}
+use Rattle.fw_explore_endings.specs.Texts.{devices_text, first_text, row_text, rows_text}
 use Rattle.fw_explore_laws.specs.Told.{ParagraphsAreRests}
 use Rattle.fw_explore_laws.proofs.Rows.{rows_are_rests}
 

@@ -1,28 +1,25 @@
 -- A word that is read of a line of a script is one line.
-use Rattle.std.proofs.Common.{ℕ, ◌≡◌, ◌≢◌, ◌+◌, ◌*◌, ◌/◌, ◌%◌, ◌==◌, ◌&&◌, not, nat_le, List, [], ◌∷◌, ◌++◌, Bool, true, false, Option, Some, None, Ok, Err, find, is_some, length, codes, cond}
-use Rattle.std.proofs.Common.{refl, sym, subst, arith}
-use Rattle.std.specs.List.{list_all}
+use Rattle.fw_explore_laws.proofs.Common.{ℕ, ◌≡◌, ◌≢◌, ◌+◌, ◌==◌, ◌&&◌, not, nat_le, List, [], ◌∷◌, ◌++◌, Bool, true, false, Option, Some, None, Ok, length, codes, refl, sym, subst, arith, list_all}
+use Rattle.fw_explore_laws.proofs.Common.{and_parts, nat_tests, same_Some}
+use Rattle.std.proofs.Common.{◌*◌, ◌/◌, ◌%◌, Err, find, is_some, cond}
 use Rattle.std.specs.Char.{is_ascii_digit}
 use Rattle.std.specs.Str.{bytes_eq}
 use Rattle.std.specs.declared.result.Result.{Result}
 use Rattle.std.specs.Int.{from_be_bytes, w16, w32}
 use Rattle.std.specs.Str.Parse.{digits_value}
 use Rattle.std.specs.Option.{option_map}
-use Rattle.std.proofs.lemmas.Bool.{and_parts}
-use Rattle.std.proofs.lemmas.Bool.Decides.{nat_tests}
 use Rattle.std.proofs.lemmas.Slice.Eq.{bytes_eq-Decides}
-use Rattle.std.proofs.lemmas.Option.{same_Some}
 use Rattle.hex.specs.Hex.{decode_of, decode_pairs, decode_sized, digit_or_error, hex_digit_value, pair_value, value_at, ◌>>=◌}
 use Rattle.hex.specs.declared.error.FromHexError.{FromHexError}
 use Rattle.hex.specs.declared.error.FromHexError.TheVariants.{OddLength, InvalidStringLength}
-use Rattle.fw_base.specs.declared.device.DeviceKind.{DeviceKind}
-use Rattle.fw_base.specs.declared.device.DeviceKind.TheVariants.{Relay, Deck, Camcorder, Computer}
-use Rattle.fw_base.specs.Devices.{code_of, name_of}
-use Rattle.fw_command.specs.Pieces.{parted, pieces}
-use Rattle.fw_command.specs.Words.{both, channel_in, frame_in, is, is_decimal, is_name, is_name_byte, is_taken, kind_in, late_in}
-use Rattle.fw_command.specs.Words.{meaning_in, name_in, number_in, offset_in, only_if, or_none, place_by, place_in, shown_in, some_in, word_in}
-use Rattle.fw_command.proofs.NumberLaws.{all_digits}
-use Rattle.fw_command.proofs.PiecesLaws.{pieces_part}
+use Rattle.fw_terms.specs.declared.device.DeviceKind.{DeviceKind}
+use Rattle.fw_terms.specs.declared.device.DeviceKind.TheVariants.{Relay, Deck, Camcorder, Computer}
+use Rattle.fw_terms.specs.Devices.{code_of, name_of}
+use Rattle.fw_script_command.specs.Pieces.{parted, pieces}
+use Rattle.fw_script_command.specs.Words.{both, channel_in, frame_in, is, is_decimal, is_name, is_name_byte, is_taken, kind_in, late_in}
+use Rattle.fw_script_command.specs.Words.{meaning_in, name_in, number_in, offset_in, only_if, or_none, place_by, place_in, shown_in, some_in, word_in}
+use Rattle.fw_script_command.proofs.NumberLaws.{all_digits}
+use Rattle.fw_script_command.proofs.PiecesLaws.{pieces_part}
 use Rattle.fw_explore_laws.proofs.Lines.{is_one_line}
 
 -- ---- texts of one line

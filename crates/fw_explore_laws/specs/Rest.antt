@@ -2,7 +2,7 @@
 use Rattle.std.specs.Prelude.{ℕ, ◌==◌, not, nat_le, List, [], ◌∷◌, ◌++◌, Bool, codes, length, if◌then◌else◌}
 use Rattle.std.specs.List.{filter, flat_map, list_all}
 use Rattle.std.specs.Str.{bytes_eq}
-use Rattle.fw_command.specs.Pieces.{onto}
+use Rattle.fw_script_command.specs.Pieces.{onto}
 
 -- the lines of some bytes; the last may lack its line feed
 abbrev pub lines_in : List ℕ → List (List ℕ)

@@ -1,16 +1,16 @@
 -- A row's paragraph is the rest of a script, which `run` carries out, and which ends as the row says.
 use Rattle.std.specs.Prelude.{ℕ, ◌≡◌, ◌+◌, ◌≤◌, List, [], ◌∷◌, ◌++◌, true, None, Some, length, slice_get}
-use Rattle.fw_command.specs.declared.command.Command.{Command}
-use Rattle.fw_command.specs.declared.command.Command.TheVariants.{End}
-use Rattle.fw_run.specs.Desks.{DeskRelations, IsFunction}
-use Rattle.fw_run.specs.State.{State}
+use Rattle.fw_script_command.specs.declared.command.Command.{Command}
+use Rattle.fw_script_command.specs.declared.command.Command.TheVariants.{End}
+use Rattle.fw_model_run.specs.Desks.{DeskRelations, IsFunction}
+use Rattle.fw_model_run.specs.State.{State}
 use Rattle.fw_script.specs.Script.{IsScript}
-use Rattle.fw_movers.specs.declared.mover.Explored.{Explored}
-use Rattle.fw_movers.specs.Words.{IsExploredBy}
-use Rattle.fw_endings.specs.declared.rows.Row.{Row}
-use Rattle.fw_endings.specs.Texts.{rest_text, row_text}
-use Rattle.fw_explored.specs.Moves.{Behind}
-use Rattle.fw_explored.specs.Rows.{Explores, HasLines}
+use Rattle.fw_explore_movers.specs.declared.mover.Explored.{Explored}
+use Rattle.fw_explore_movers.specs.Words.{IsExploredBy}
+use Rattle.fw_explore_endings.specs.declared.rows.Row.{Row}
+use Rattle.fw_explore_endings.specs.Texts.{rest_text, row_text}
+use Rattle.fw_explore_meaning.specs.Moves.{Behind}
+use Rattle.fw_explore_meaning.specs.Rows.{Explores, HasLines}
 use Rattle.fw_explore_laws.specs.Rest.{without_end, has_short_lines}
 
 -- A paragraph has room after a script: no line of it is too long, nor both together. Its lines are never too long, but a remark may be:
@@ -29,7 +29,7 @@ pub record IsRest (D : DeskRelations) (script : List ℕ) (commands : List Comma
   pub state : State
   pub runs : Behind D commands rest (told.ends.moved ++ told.ends.written) state
 
--- So are the row's lines below its remarks, where the script has room for them; and with its remarks the whole paragraph.
+-- So are the row's lines below its remarks, if the script has room for them; and with its remarks the whole paragraph.
 pub record RowIsRest (D : DeskRelations) (script : List ℕ) (commands : List Command) (x : Explored) (number : ℕ) (r : Row) : Type 0 where
   pub lines : length (without_end script ++ rest_text x r) ≤ 1048576 → IsRest D script commands x (rest_text x r) r
   pub paragraph : HasRoom script (row_text x number r) → IsRest D script commands x (row_text x number r) r

@@ -1,16 +1,16 @@
 -- What a call of `run` does with a row's script.
 use Rattle.std.specs.Prelude.{ℕ, ◌≡◌, List, ◌++◌, Option, Some}
 use Rattle.fw_outside.specs.declared.stop.Stop.TheVariants as Stops
-use Rattle.fw_entry.specs.declared.entry.Entry.TheVariants.{End as EndEntry}
-use Rattle.fw_entry.specs.declared.entry.Timed.{Timed}
-use Rattle.fw_command.specs.declared.command.Command.{Command}
-use Rattle.fw_run.specs.Desks.{DeskRelations, IsFunction}
-use Rattle.fw_run.specs.Giving.{at_most}
-use Rattle.fw_movers.specs.declared.mover.Explored.{Explored}
-use Rattle.fw_endings.specs.declared.rows.Row.{Row}
-use Rattle.fw_simulate.specs.Ending.{Logged, Runs}
-use Rattle.fw_simulate.specs.declared.ending.RunEnding.{RunEnding}
-use Rattle.fw_simulate.specs.declared.ending.RunEnding.TheVariants.{Done, Refused, Stopped}
+use Rattle.fw_log_entry.specs.declared.entry.Entry.TheVariants.{End as EndEntry}
+use Rattle.fw_log_entry.specs.declared.entry.Timed.{Timed}
+use Rattle.fw_script_command.specs.declared.command.Command.{Command}
+use Rattle.fw_model_run.specs.Desks.{DeskRelations, IsFunction}
+use Rattle.fw_model_run.specs.Giving.{at_most}
+use Rattle.fw_explore_movers.specs.declared.mover.Explored.{Explored}
+use Rattle.fw_explore_endings.specs.declared.rows.Row.{Row}
+use Rattle.fw_script_words.specs.Ending.{Logged, Runs}
+use Rattle.fw_script_words.specs.declared.ending.RunEnding.{RunEnding}
+use Rattle.fw_script_words.specs.declared.ending.RunEnding.TheVariants.{Done, Refused, Stopped}
 use Rattle.fw_explore_laws.specs.Rest.{without_end}
 use Rattle.fw_explore_laws.specs.Rests.{IsRest}
 

@@ -1,10 +1,10 @@
 -- The paragraphs of a text that `explore` writes.
 use Rattle.std.specs.Prelude.{ℕ, ◌≡◌, ◌+◌, List, ◌++◌, Option, Some, slice_get}
-use Rattle.fw_run.specs.Desks.{DeskRelations, IsFunction}
-use Rattle.fw_movers.specs.declared.mover.Explored.{Explored}
-use Rattle.fw_movers.specs.Words.{IsExploredBy}
-use Rattle.fw_endings.specs.declared.rows.Row.{Row}
-use Rattle.fw_endings.specs.Texts.{row_text}
+use Rattle.fw_model_run.specs.Desks.{DeskRelations, IsFunction}
+use Rattle.fw_explore_movers.specs.declared.mover.Explored.{Explored}
+use Rattle.fw_explore_movers.specs.Words.{IsExploredBy}
+use Rattle.fw_explore_endings.specs.declared.rows.Row.{Row}
+use Rattle.fw_explore_endings.specs.Texts.{row_text}
 use Rattle.fw_explore.specs.Outcome.{HasExplored}
 use Rattle.fw_explore_laws.specs.Rests.{RowIsRest}
 

@@ -13,8 +13,8 @@ fn is_reserved(code: u8) -> bool
 
 /// Replaces `out` by the frame that all of the bytes, at most a block's 512, spell.
 ///
-/// The first fault that holds is answered: `Short` under three bytes, `NotAvc` where the first four bits are not 0, and
-/// `ReservedType` where the next four are a reserved code. Then `out` stays as it was.
+/// The first fault that holds is answered: `Short` under three bytes, `NotAvc` if the first four bits are not 0, and
+/// `ReservedType` if the next four are a reserved code. Then `out` stays as it was.
 pub fn read_frame(bytes: &[u8], out: &mut Frame) -> Result<(), FrameFault>
     requires { length bytes.now ≤ 512 }
     ensures fault { result_err result ≡ frame_fault bytes.now }

@@ -1,15 +1,14 @@
 -- An entry more counts once at most.
-use Rattle.std.proofs.Common.{ℕ, ◌+◌, ◌==◌, Bool, true, false, cond, Option, Some, None, is_some, arith}
+use Rattle.fw_holders.proofs.Common.{ℕ, ◌+◌, ◌==◌, Bool, true, false, cond, Option, Some, None, arith, Entry, Reset, Async, Iso, device_of_id, Account, Request, Looked, Asks, Replies, Shows, Happens}
+use Rattle.fw_holders.proofs.Common.{Other, Response, looked_packet, Judged, IsWithin, packet_judged, entry_judged}
+use Rattle.std.proofs.Common.{is_some}
 use Rattle.fw_words.specs.Quadlet.{quadlet_at}
-use Rattle.fw_entry.specs.declared.entry.Entry.{Entry}
-use Rattle.fw_entry.specs.declared.entry.Entry.TheVariants.{Reset, Async, Iso, Event, Outcome, Shown, End}
-use Rattle.fw_entry.specs.Network.{device_of_id}
-use Rattle.fw_account.specs.Account.{Account, Operation, Reads, Locks, Request}
-use Rattle.fw_account.specs.Packets.{is_quadlet_swap}
-use Rattle.fw_faults.specs.Judged.{watched_offset}
-use Rattle.fw_faults.specs.Looked.{Looked, Asks, Replies, Shows, Happens, Other, Response, looked_packet, is_watched}
-use Rattle.fw_holders.specs.declared.judged.Judged.{Judged}
-use Rattle.fw_holders.specs.Counts.{IsWithin, shows, swap_judged, operation_judged, answer_judged, response_judged, packet_judged, entry_judged}
+use Rattle.fw_log_entry.specs.declared.entry.Entry.TheVariants.{Event, Outcome, Shown, End}
+use Rattle.fw_model_account.specs.Account.{Operation, Reads, Locks}
+use Rattle.fw_model_account.specs.Packets.{is_quadlet_swap}
+use Rattle.fw_model_audit.specs.Judged.{watched_offset}
+use Rattle.fw_model_audit.specs.Looked.{is_watched}
+use Rattle.fw_holders.specs.Counts.{shows, swap_judged, operation_judged, answer_judged, response_judged}
 
 -- no more than n is no more than n + 1
 pub within_more : (n : ℕ) (j : Judged) → IsWithin n j → IsWithin (n + 1) j

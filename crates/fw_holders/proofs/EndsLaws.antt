@@ -1,19 +1,17 @@
 -- Ends of connections, summed plug by plug.
-use Rattle.std.proofs.Common.{◌≡◌, ◌<◌, ◌≤◌, ◌+◌, ℕ, Bool, true, false, nat_lt, Option, Some, None, slice_index, cond, ◌||◌, ◌⊎◌, inl, inr, refl, sym, ◌∙◌, ap, arith, add-one}
-use Rattle.std.proofs.lemmas.Bool.{false≢true, cases_lt}
+use Rattle.fw_holders.proofs.Common.{◌≡◌, ◌<◌, ◌≤◌, ◌+◌, ℕ, Bool, true, false, nat_lt, Option, Some, None, slice_index, cond, refl, sym, ◌∙◌, ap, arith, false≢true, PlugAt, sum_to, at_plug, Account}
+use Rattle.fw_holders.proofs.Common.{counter, has_connection, is_output, is_input, StandsFor, SeatsFor, Seats, Tables, ends_in}
+use Rattle.std.proofs.Common.{◌||◌, ◌⊎◌, inl, inr, add-one}
+use Rattle.std.proofs.lemmas.Bool.{cases_lt}
 use Rattle.std.proofs.lemmas.Bool.Decides.{nat_tests}
 use Rattle.std.proofs.lemmas.List.{get_or_past}
-use Rattle.fw_base.specs.declared.plug.PlugAt.{PlugAt}
-use Rattle.fw_base.specs.Tables.{sum_to, sum_plugs, at_plug}
-use Rattle.fw_base.proofs.Tables.{sum_to_same, sum_to_at}
-use Rattle.fw_account.specs.Account.{Account, Connections, Owner, counter, has_connection, is_there}
-use Rattle.fw_account.specs.Decode.{is_owner}
-use Rattle.fw_account.specs.Network.{is_output, is_input}
-use Rattle.fw_ledger.specs.Stands.{StandsFor, SeatsFor, seats_at, owner_of}
-use Rattle.fw_ledger.specs.declared.tables.Seats.{Seats}
-use Rattle.fw_ledger.specs.declared.tables.Tables.{Tables}
+use Rattle.fw_terms.specs.Tables.{sum_plugs}
+use Rattle.fw_terms.proofs.Tables.{sum_to_same, sum_to_at}
+use Rattle.fw_model_account.specs.Account.{Connections, Owner, is_there}
+use Rattle.fw_model_account.specs.Decode.{is_owner}
+use Rattle.fw_ledger.specs.Stands.{seats_at, owner_of}
 use Rattle.fw_holders.specs.Deeds.{ends_at}
-use Rattle.fw_holders.specs.Seated.{ends_if, ends_in}
+use Rattle.fw_holders.specs.Seated.{ends_if}
 
 pub no_sum : (f : ℕ → ℕ) → sum_to 0 f ≡ 0
 unfolding sum_to

@@ -1,9 +1,8 @@
 -- The channels that are held, one by one.
-use Rattle.std.proofs.Common.{◌≡◌, ◌+◌, ◌++◌, ℕ, [], refl, add-one}
-use Rattle.fw_account.specs.Account.{Account}
-use Rattle.fw_who.specs.Names.{nodes_of}
+use Rattle.fw_holders.proofs.Common.{◌≡◌, ◌+◌, ◌++◌, ℕ, [], refl, Account, nodes_of, channel_lines}
+use Rattle.std.proofs.Common.{add-one}
 use Rattle.fw_holders.specs.Held.{holding, with_holding, held_below}
-use Rattle.fw_holders.specs.Table.{channel_line, channel_lines}
+use Rattle.fw_holders.specs.Table.{channel_line}
 
 pub none_held : (l : Account) → held_below 0 l ≡ []
 unfolding held_below

@@ -1,10 +1,6 @@
 -- What the tables have is what is held in the account that they stand for.
-use Rattle.std.proofs.Common.{◌≡◌, Option, Some, None}
-use Rattle.fw_entry.specs.declared.entry.ResetEntry.{ResetEntry}
-use Rattle.fw_account.specs.Account.{Account}
-use Rattle.fw_ledger.specs.Stands.{StandsFor, ShowsReset}
-use Rattle.fw_ledger.specs.declared.tables.Tables.{Tables}
-use Rattle.fw_who.specs.Names.{nodes_of}
+use Rattle.fw_holders.proofs.Common.{◌≡◌, Option, Some, None, ResetEntry, Account, StandsFor, Tables, nodes_of}
+use Rattle.fw_ledger.specs.Stands.{ShowsReset}
 
 -- the nodes
 pub nodes_shown : (t : Tables) (l : Account) → StandsFor t l → t.nodes ≡ nodes_of l.latest

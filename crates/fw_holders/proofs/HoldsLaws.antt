@@ -1,21 +1,17 @@
 -- Entries that were taken, and one more.
-use Rattle.std.proofs.Common.{◌≡◌, ◌+◌, ◌<◌, ◌^◌, Option, Some, None, List, [], ◌∷◌, ◌++◌, length, refl, ap, sym, subst, ◌∙◌, length-append, Result, Ok, Err, IfOk}
-use Rattle.std.proofs.lemmas.List.{append-nil}
-use Rattle.fw_entry.specs.declared.entry.Entry.{Entry}
-use Rattle.fw_entry.specs.declared.entry.Timed.{Timed}
-use Rattle.fw_account.specs.Account.{Account}
-use Rattle.fw_account.specs.Fold.{account_from, account_of, entries_of, next_of, no_account}
-use Rattle.fw_faults.specs.Audited.{IsAudited, EndsFaulty}
-use Rattle.fw_faults.specs.Faults.{IsVerdict}
-use Rattle.fw_faults.specs.Looked.{looked}
-use Rattle.fw_faults.specs.declared.fault.AuditFault.{AuditFault}
+use Rattle.fw_holders.proofs.Common.{◌≡◌, ◌+◌, ◌<◌, ◌^◌, Option, Some, None, List, [], ◌∷◌, ◌++◌, length, refl, ap, sym, subst, ◌∙◌, Ok, append-nil, Entry, Account, looked, Judged, entry_judged}
+use Rattle.fw_holders.proofs.Common.{IsWithin, told, Holds, Room, TakesMore, holders, line_of}
+use Rattle.std.proofs.Common.{length-append, Result, Err, IfOk}
+use Rattle.fw_log_entry.specs.declared.entry.Timed.{Timed}
+use Rattle.fw_model_account.specs.Fold.{account_from, account_of, entries_of, next_of, no_account}
+use Rattle.fw_model_audit.specs.Audited.{IsAudited, EndsFaulty}
+use Rattle.fw_model_audit.specs.Faults.{IsVerdict}
+use Rattle.fw_model_audit.specs.declared.fault.AuditFault.{AuditFault}
 use Rattle.fw_audit.specs.Found.{Follows}
 use Rattle.fw_audit.specs.declared.audit.Audit.{Audit}
 use Rattle.fw_audit.proofs.Audits.{account_push, found_more}
-use Rattle.fw_holders.specs.declared.judged.Judged.{Judged}
-use Rattle.fw_holders.specs.Counts.{entry_judged, judged_from, judged_of, next_judged, none_judged, IsWithin}
-use Rattle.fw_holders.specs.Deeds.{told}
-use Rattle.fw_holders.specs.Told.{Holds, Room, Takes, TakesMore, entry_line, holders, line_of}
+use Rattle.fw_holders.specs.Counts.{judged_from, judged_of, next_judged, none_judged}
+use Rattle.fw_holders.specs.Told.{Takes, entry_line}
 use Rattle.fw_holders.proofs.CountLaws.{entry_within}
 
 -- the entries of a list and one more

@@ -1,14 +1,9 @@
 -- What is counted of entries.
-use Rattle.std.proofs.Common.{◌≡◌, Some, sym, ap, ◌∙◌, subst}
-use Rattle.fw_entry.specs.declared.entry.Entry.{Entry}
-use Rattle.fw_entry.specs.declared.entry.Entry.TheVariants.{Reset, Async, Iso, Event, Outcome, Shown, End}
-use Rattle.fw_account.specs.Account.{Account, Request}
-use Rattle.fw_faults.specs.Looked.{Looked, Asks, Replies, Shows, Happens, Other, Response, looked, looked_packet}
-use Rattle.fw_ledger.specs.Refused.{ShowsAnswer, IsAnswered}
+use Rattle.fw_holders.proofs.Common.{◌≡◌, Some, sym, ap, ◌∙◌, subst, Entry, Reset, Async, Iso, Account, Request, Looked, Asks, Replies, Shows, Happens, Other, Response, looked, looked_packet}
+use Rattle.fw_holders.proofs.Common.{ShowsAnswer, IsAnswered, Answer, Judged, packet_judged, entry_judged}
+use Rattle.fw_log_entry.specs.declared.entry.Entry.TheVariants.{Event, Outcome, Shown, End}
 use Rattle.fw_ledger.specs.Stands.{AskedFor}
-use Rattle.fw_ledger.specs.declared.answer.Answer.{Answer}
-use Rattle.fw_holders.specs.declared.judged.Judged.{Judged}
-use Rattle.fw_holders.specs.Counts.{answer_judged, response_judged, packet_judged, entry_judged}
+use Rattle.fw_holders.specs.Counts.{answer_judged, response_judged}
 
 -- a response counts by the request that it ends
 pub answered_packet : (l : Account) (r : Response) (a : Answer) (h : IsAnswered l r a) (j : Judged) → answer_judged (Some h.request) r j ≡ packet_judged l (Replies r) j

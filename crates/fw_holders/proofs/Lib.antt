@@ -1,9 +1,11 @@
+pub mod Common
 pub mod HoldingLaws
 pub mod HeldLaws
 pub mod EndsLaws
 pub mod TextLaws
 pub mod PlugLaws
 pub mod PassLaws
+pub mod ResetLaws
 pub mod MoveLaws
 pub mod JudgedLaws
 pub mod ReplyLaws

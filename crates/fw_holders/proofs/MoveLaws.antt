@@ -1,22 +1,21 @@
 -- The deed of a move is that of its register and its two words.
-use Rattle.std.proofs.Common.{◌≡◌, ◌+◌, ◌-◌, ◌==◌, ◌&&◌, ℕ, Bool, true, false, nat_lt, Option, Some, None, cond, refl, sym, ap, ◌∙◌, arith}
+use Rattle.fw_holders.proofs.Common.{◌≡◌, ◌+◌, ◌==◌, ℕ, Bool, true, false, nat_lt, Option, Some, None, cond, refl, sym, ap, ◌∙◌, arith, false≢true, PlugAt, field, Account, has_connection, is_output}
+use Rattle.fw_holders.proofs.Common.{is_input}
+use Rattle.std.proofs.Common.{◌-◌, ◌&&◌}
 use Rattle.std.specs.Bool.{⊤}
-use Rattle.std.proofs.lemmas.Bool.{false≢true}
 use Rattle.std.proofs.lemmas.Bool.Decides.{nat_tests}
-use Rattle.fw_base.specs.declared.plug.PlugAt.{PlugAt}
-use Rattle.fw_base.specs.declared.plug.ConnectionKind.{ConnectionKind}
-use Rattle.fw_words.specs.Quadlet.{field}
+use Rattle.fw_terms.specs.declared.plug.ConnectionKind.{ConnectionKind}
 use Rattle.fw_plug.specs.Words.{is_connected, out_fields, in_fields}
-use Rattle.fw_account.specs.Account.{Account, has_connection, pending_channel}
-use Rattle.fw_account.specs.Network.{is_output, is_input}
-use Rattle.fw_account.specs.Sound.{IsSound}
-use Rattle.fw_account.specs.Decode.{can, changed_bit, is_more, kind_of, units_move, bandwidth_move, channel_move, at_addressed, held_for, decoded, same_register, register_of_move, allowed, move_at}
-use Rattle.fw_account.specs.Moves.{Move, AllocateChannel, AllocateUnits, ConnectFirst, ConnectOverlaid, ConnectInput, DisconnectInput, DisconnectOutput, ReleaseUnits, ReleaseChannel, after}
-use Rattle.fw_account.specs.Words.{Register, BandwidthAvailable, ChannelsAvailable, OutputPlug, InputPlug, word_of, fields_at, input_fields_at}
+use Rattle.fw_model_account.specs.Account.{pending_channel}
+use Rattle.fw_model_account.specs.Sound.{IsSound}
+use Rattle.fw_model_account.specs.Decode.{can, changed_bit, is_more, kind_of, units_move, bandwidth_move, channel_move}
+use Rattle.fw_model_account.specs.Decode.{at_addressed, held_for, decoded, same_register, register_of_move, allowed, move_at}
+use Rattle.fw_model_account.specs.Moves.{Move, AllocateChannel, AllocateUnits, ConnectFirst, ConnectOverlaid, ConnectInput, DisconnectInput, DisconnectOutput, ReleaseUnits, ReleaseChannel, after}
+use Rattle.fw_model_account.specs.Words.{Register, BandwidthAvailable, ChannelsAvailable, OutputPlug, InputPlug, word_of, fields_at, input_fields_at}
 use Rattle.fw_ledger.proofs.PlugSwaps.{output_shows, input_shows, connected_is}
 use Rattle.fw_holders.specs.declared.deed.Deed.{Deed}
 use Rattle.fw_holders.specs.declared.deed.Deed.TheVariants.{TakesChannel, TakesUnits, GivesUnits, GivesChannel}
-use Rattle.fw_who.specs.declared.names.Side.TheVariants.{Output, Input}
+use Rattle.fw_holders_text.specs.declared.names.Side.TheVariants.{Output, Input}
 use Rattle.fw_holders.specs.Moves.{deed_of}
 use Rattle.fw_holders.specs.Found.{units_deed, channel_deed, connection_deed, word_deed}
 

@@ -1,42 +1,40 @@
 -- What is held after a packet that was taken from its bytes.
-use Rattle.std.proofs.Common.{◌≡◌, ℕ, ◌+◌, ◌<◌, ◌^◌, Some, None, Ok, List, [], ◌∷◌, ◌++◌, length, refl, ap, sym, subst, ◌∙◌}
-use Rattle.std.proofs.lemmas.List.{append-nil}
+use Rattle.fw_holders.proofs.Common.{◌≡◌, ℕ, ◌+◌, ◌<◌, ◌^◌, Some, None, Ok, List, [], ◌∷◌, ◌++◌, length, refl, ap, sym, subst, ◌∙◌, append-nil, device_of_id, Entry, Async, Account, Request, Looked}
+use Rattle.fw_holders.proofs.Common.{Asks, Replies, Shows, Happens, Other, Response, looked_packet, IsAnswered, ShowsAnswer, StandsFor, Answer, Tables, packet_judged, IsWithin, packet_told, told}
+use Rattle.fw_holders.proofs.Common.{Holds, Room, TakesMore, holders, line_of, Judged}
 use Rattle.fw_async.specs.declared.packet.Packet.{Packet}
-use Rattle.fw_entry.specs.Network.{device_of_id}
-use Rattle.fw_entry.specs.declared.entry.Entry.{Entry}
-use Rattle.fw_entry.specs.declared.entry.Entry.TheVariants.{Async}
-use Rattle.fw_entry.specs.declared.entry.Timed.{Timed}
-use Rattle.fw_account.specs.Account.{Account, Request}
-use Rattle.fw_account.specs.Packets.{answered}
-use Rattle.fw_account.specs.Sound.{IsSound}
-use Rattle.fw_faults.specs.Looked.{Looked, Asks, Replies, Shows, Happens, Other, Response, looked_packet}
+use Rattle.fw_log_entry.specs.declared.entry.Timed.{Timed}
+use Rattle.fw_model_account.specs.Packets.{answered}
+use Rattle.fw_model_account.specs.Sound.{IsSound}
 use Rattle.fw_audit.specs.Found.{Judges}
-use Rattle.fw_ledger.specs.Refused.{IsAnswered, ShowsAnswer}
-use Rattle.fw_ledger.specs.Stands.{AskedFor, StandsFor}
-use Rattle.fw_ledger.specs.declared.answer.Answer.{Answer}
-use Rattle.fw_ledger.specs.declared.tables.Tables.{Tables}
-use Rattle.fw_holders.specs.Counts.{answer_judged, packet_judged, IsWithin}
-use Rattle.fw_holders.specs.Deeds.{packet_told, told}
+use Rattle.fw_ledger.specs.Stands.{AskedFor}
+use Rattle.fw_holders.specs.Counts.{answer_judged}
 use Rattle.fw_holders.specs.Found.{HasReply}
-use Rattle.fw_holders.specs.Told.{Holds, Room, TakesMore, holders, line_of}
-use Rattle.fw_holders.specs.declared.judged.Judged.{Judged}
 use Rattle.fw_holders.proofs.HoldsLaws.{holds_push, text_push}
 use Rattle.fw_holders.proofs.JudgedLaws.{taken_answer}
 use Rattle.fw_holders.proofs.TakeLaws.{entry_answers, not_shown, packet_quiet}
 
+-- an entry of this cycle
+abbrev pub entry_at : ℕ → Entry → Timed
+entry_at cycle e = record { cycle = cycle; what = e }
+
 -- a packet of this cycle
 abbrev pub packet_of : ℕ → Packet → Timed
-packet_of cycle p = record { cycle = cycle; what = Async p }
+packet_of cycle p = entry_at cycle (Async p)
 
-same_packet : (cycle : ℕ) (p : Packet) (t : Timed) → t.cycle ≡ cycle → t.what ≡ Async p → packet_of cycle p ≡ t
-same_packet cycle p t at what = ap (λ (n : ℕ). record t { cycle = n; what = Async p }) (sym at) ∙ ap (λ (w : Entry). record t { what = w }) (sym what)
+same_entry : (cycle : ℕ) (e : Entry) (t : Timed) → t.cycle ≡ cycle → t.what ≡ e → entry_at cycle e ≡ t
+same_entry cycle e t at what = ap (λ (n : ℕ). record t { cycle = n; what = e }) (sym at) ∙ ap (λ (w : Entry). record t { what = w }) (sym what)
 
 -- what a call says that takes it
+pub passes_entry : (entries : List Timed) (old new : Room) (cycle : ℕ) (e : Entry) (t : Timed) → t.cycle ≡ cycle → t.what ≡ e → length entries + 1 < 2 ^ 64 → (h : Holds entries old)
+    → TakesMore h.account (entry_at cycle e) old new → Holds (entries ++ t ∷ []) new × (new.text ≡ old.text ++ holders entries (t ∷ []))
+passes_entry entries old new cycle e t at what few h m =
+    let P : Timed → Type 0 = λ u. Holds (entries ++ u ∷ []) new × (new.text ≡ old.text ++ holders entries (u ∷ [])) in
+    subst P (same_entry cycle e t at what) (holds_push entries (entry_at cycle e) old new few h m, text_push entries (entry_at cycle e) old new h m)
+
 pub passes : (entries : List Timed) (old new : Room) (cycle : ℕ) (p : Packet) (t : Timed) → t.cycle ≡ cycle → t.what ≡ Async p → length entries + 1 < 2 ^ 64 → (h : Holds entries old)
     → TakesMore h.account (packet_of cycle p) old new → Holds (entries ++ t ∷ []) new × (new.text ≡ old.text ++ holders entries (t ∷ []))
-passes entries old new cycle p t at what few h m =
-    let P : Timed → Type 0 = λ u. Holds (entries ++ u ∷ []) new × (new.text ≡ old.text ++ holders entries (u ∷ [])) in
-    subst P (same_packet cycle p t at what) (holds_push entries (packet_of cycle p) old new few h m, text_push entries (packet_of cycle p) old new h m)
+passes entries old new cycle p t at what few h m = passes_entry entries old new cycle (Async p) t at what few h m
 
 -- a response is counted, and its line is appended
 pub answer_more : (l : Account) (cycle : ℕ) (p : Packet) (a : Answer) (old new : Room) → IsSound l → Judges new.tables l (Async p) (Ok (Some a))

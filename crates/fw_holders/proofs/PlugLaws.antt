@@ -1,20 +1,15 @@
 -- The lines of plugs, one by one.
-use Rattle.std.proofs.Common.{◌≡◌, ◌<◌, ◌≤◌, ◌+◌, ◌++◌, ◌||◌, ◌⊎◌, inl, inr, ℕ, zero, suc, Bool, true, false, nat_lt, List, [], slice_index, codes, decimal, refl, sym, ◌∙◌, ap, arith, add-one}
-use Rattle.std.proofs.lemmas.Bool.{false≢true, cases_lt}
-use Rattle.fw_words.specs.Quadlet.{field}
+use Rattle.fw_holders.proofs.Common.{◌≡◌, ◌<◌, ◌≤◌, ◌+◌, ◌++◌, ℕ, Bool, true, false, nat_lt, List, [], slice_index, codes, decimal, refl, sym, ◌∙◌, ap, arith, false≢true, field, PlugAt, at_plug}
+use Rattle.fw_holders.proofs.Common.{sum_to, NodeRow, Account, has_connection, is_output, is_input, StandsFor, SeatsFor, Seats, Tables, counts_below, lines_below, plug_lines, output_line, input_line}
+use Rattle.std.proofs.Common.{◌||◌, ◌⊎◌, inl, inr, zero, suc, add-one}
+use Rattle.std.proofs.lemmas.Bool.{cases_lt}
 use Rattle.fw_plug.specs.Words.{OutFields, InFields}
-use Rattle.fw_base.specs.declared.plug.PlugAt.{PlugAt}
-use Rattle.fw_base.specs.Tables.{at_plug, sum_to}
-use Rattle.fw_entry.specs.declared.nodes.NodeRow.{NodeRow}
-use Rattle.fw_account.specs.Account.{Account, Connections, has_connection}
-use Rattle.fw_account.specs.Network.{is_output, is_input}
-use Rattle.fw_account.proofs.Decoded.{output_of_word, input_of_word}
-use Rattle.fw_ledger.specs.Stands.{StandsFor, SeatsFor, owner_of, word_at}
-use Rattle.fw_ledger.specs.declared.tables.Seats.{Seats}
-use Rattle.fw_ledger.specs.declared.tables.Tables.{Tables}
-use Rattle.fw_who.specs.declared.names.Side.{Side}
-use Rattle.fw_who.specs.Names.{who, plug_text}
-use Rattle.fw_holders.specs.Table.{with_count, counts_below, with_broadcast, owners_text, plug_line, lines_below, plug_lines, output_line, input_line}
+use Rattle.fw_model_account.specs.Account.{Connections}
+use Rattle.fw_model_account.proofs.Decoded.{output_of_word, input_of_word}
+use Rattle.fw_ledger.specs.Stands.{owner_of, word_at}
+use Rattle.fw_holders_text.specs.declared.names.Side.{Side}
+use Rattle.fw_holders_text.specs.Names.{who, plug_text}
+use Rattle.fw_holders.specs.Table.{with_count, with_broadcast, owners_text, plug_line}
 
 pub no_counts : (nodes : List NodeRow) (counts : ℕ → ℕ) → counts_below 0 nodes counts ≡ []
 unfolding counts_below

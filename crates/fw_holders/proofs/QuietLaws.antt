@@ -1,22 +1,16 @@
 -- Entries that no audit looks at have no line, and nothing is counted of them.
-use Rattle.std.proofs.Common.{◌≡◌, Bool, true, false, cond, nat_le, option_map, ◌+◌, ◌<◌, ◌^◌, ℕ, length, Option, Some, None, List, [], ◌∷◌, ◌++◌, refl, ap, sym, ◌∙◌}
-use Rattle.std.proofs.lemmas.List.{append-nil}
+use Rattle.fw_holders.proofs.Common.{◌≡◌, Bool, true, false, cond, ◌+◌, ◌<◌, ◌^◌, ℕ, length, Option, Some, None, List, [], ◌∷◌, ◌++◌, refl, ap, sym, ◌∙◌, append-nil, Async, Iso, NodeRow, device_of_id}
+use Rattle.fw_holders.proofs.Common.{Account, Looked, Asks, Replies, Shows, Happens, Other, looked_packet, Judged, packet_judged, packet_told, Holds, Room, TakesMore, holders, line_of}
+use Rattle.std.proofs.Common.{nat_le, option_map}
 use Rattle.fw_async.specs.declared.packet.Packet.{Packet}
 use Rattle.fw_cip.specs.declared.packet.IsoPacket.{IsoPacket}
-use Rattle.fw_entry.specs.declared.entry.Entry.TheVariants.{Async, Iso}
-use Rattle.fw_entry.specs.declared.entry.Timed.{Timed}
-use Rattle.fw_entry.specs.declared.nodes.NodeRow.{NodeRow}
-use Rattle.fw_entry.specs.Network.{device_of_id, first_id}
-use Rattle.fw_account.specs.Account.{Account}
-use Rattle.fw_account.specs.Fold.{no_account}
-use Rattle.fw_faults.specs.Faults.{HasNoFault}
-use Rattle.fw_faults.specs.Looked.{Looked, Asks, Replies, Shows, Happens, Other, looked_packet}
-use Rattle.fw_faults.specs.declared.fault.AuditFault.TheVariants.{NoNode}
+use Rattle.fw_log_entry.specs.declared.entry.Timed.{Timed}
+use Rattle.fw_log_entry.specs.Network.{first_id}
+use Rattle.fw_model_account.specs.Fold.{no_account}
+use Rattle.fw_model_audit.specs.Faults.{HasNoFault}
+use Rattle.fw_model_audit.specs.declared.fault.AuditFault.TheVariants.{NoNode}
 use Rattle.fw_audit.specs.Found.{IsPassedOver}
-use Rattle.fw_holders.specs.declared.judged.Judged.{Judged}
-use Rattle.fw_holders.specs.Counts.{packet_judged}
-use Rattle.fw_holders.specs.Deeds.{packet_told}
-use Rattle.fw_holders.specs.Told.{Holds, IsQuiet, Room, TakesMore, holders, line_of}
+use Rattle.fw_holders.specs.Told.{IsQuiet}
 use Rattle.fw_holders.proofs.HoldsLaws.{holds_push, line_push}
 
 -- before any bus reset there is no node

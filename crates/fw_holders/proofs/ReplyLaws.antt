@@ -1,25 +1,22 @@
 -- What is told of a response is what its request and its words say.
-use Rattle.std.proofs.Common.{◌≡◌, ◌-◌, ◌==◌, ◌&&◌, ℕ, Bool, true, false, nat_le, Option, Some, None, List, length, cond, refl, sym, ap, ◌∙◌, option_map}
-use Rattle.std.proofs.lemmas.Bool.{false≢true}
-use Rattle.fw_base.specs.declared.plug.PlugAt.{PlugAt}
+use Rattle.fw_holders.proofs.Common.{◌≡◌, ◌==◌, ℕ, Bool, true, false, Option, Some, None, List, length, cond, refl, sym, ap, ◌∙◌, false≢true, PlugAt, device_of_id, Account, Request, Replies, Response}
+use Rattle.fw_holders.proofs.Common.{IsAnswered, Answer, packet_told, nodes_of}
+use Rattle.std.proofs.Common.{◌-◌, ◌&&◌, nat_le, option_map}
 use Rattle.fw_words.specs.Quadlet.{quadlet_at}
-use Rattle.fw_entry.specs.Network.{device_of_id, first_id}
-use Rattle.fw_account.specs.Account.{Account, Operation, Reads, Locks, Request}
-use Rattle.fw_account.specs.Decode.{move_at}
-use Rattle.fw_account.specs.Moves.{Move, AllocateChannel, AllocateUnits, ConnectFirst, ConnectOverlaid, ConnectInput, DisconnectInput, DisconnectOutput, ReleaseUnits, ReleaseChannel, after}
-use Rattle.fw_account.specs.Packets.{Reply, Read, Locked, ended, is_reply_to, is_quadlet_swap, is_swapped, moved, swapped, replied, replied_to, answered}
-use Rattle.fw_account.specs.Sound.{IsSound}
-use Rattle.fw_account.specs.Words.{Register, BandwidthAvailable, ChannelsAvailable, OutputPlug, InputPlug, register_of, register_at, first_address}
-use Rattle.fw_account.proofs.Bounds.{IsThere, register_there}
-use Rattle.fw_faults.specs.Looked.{Replies, Response, quadlet_in}
-use Rattle.fw_ledger.specs.Refused.{IsAnswered}
-use Rattle.fw_ledger.specs.declared.answer.Answer.{Answer}
+use Rattle.fw_log_entry.specs.Network.{first_id}
+use Rattle.fw_model_account.specs.Account.{Operation, Reads, Locks}
+use Rattle.fw_model_account.specs.Decode.{move_at}
+use Rattle.fw_model_account.specs.Moves.{Move, AllocateChannel, AllocateUnits, ConnectFirst, ConnectOverlaid, ConnectInput, DisconnectInput, DisconnectOutput, ReleaseUnits, ReleaseChannel, after}
+use Rattle.fw_model_account.specs.Packets.{Reply, Read, Locked, ended, is_reply_to, is_quadlet_swap, is_swapped, moved, swapped, replied, replied_to, answered}
+use Rattle.fw_model_account.specs.Sound.{IsSound}
+use Rattle.fw_model_account.specs.Words.{Register, BandwidthAvailable, ChannelsAvailable, OutputPlug, InputPlug, register_of, register_at, first_address}
+use Rattle.fw_model_account.proofs.Bounds.{IsThere, register_there}
+use Rattle.fw_model_audit.specs.Looked.{quadlet_in}
 use Rattle.fw_holders.specs.declared.deed.Deed.{Deed}
 use Rattle.fw_holders.specs.Counts.{shows}
-use Rattle.fw_holders.specs.Deeds.{move_told, swap_told, answer_told, reply_told, response_told, packet_told}
+use Rattle.fw_holders.specs.Deeds.{move_told, swap_told, answer_told, reply_told, response_told}
 use Rattle.fw_holders.specs.Found.{word_deed, swap_deed, operation_deed, answer_deed, HasReply}
 use Rattle.fw_holders.specs.Moves.{done_text}
-use Rattle.fw_who.specs.Names.{nodes_of}
 use Rattle.fw_holders.proofs.MoveLaws.{IsIn, word_deed_is}
 
 -- what stays of an account, and what is told of a response

@@ -1,22 +1,18 @@
 -- What is told of an entry that was taken.
-use Rattle.std.proofs.Common.{◌≡◌, ◌≢◌, ◌==◌, ℕ, Bool, true, false, cond, Option, Some, None, List, ◌++◌, take, length, is_some, refl, ap, sym, subst, ◌∙◌}
+use Rattle.fw_holders.proofs.Common.{◌≡◌, ◌==◌, ℕ, Bool, true, false, cond, Option, Some, None, List, ◌++◌, length, refl, ap, sym, subst, ◌∙◌, device_of_id, Entry, Reset, Async, Iso, ResetEntry}
+use Rattle.fw_holders.proofs.Common.{Account, Looked, Asks, Replies, Shows, Happens, Other, Response, looked, looked_packet, IsAnswered, ShowsAnswer, Answer, packet_told, told}
+use Rattle.std.proofs.Common.{◌≢◌, take, is_some}
 use Rattle.std.proofs.Math.Seq.{take-append_seam}
 use Rattle.fw_async.specs.declared.packet.Packet.{Packet}
 use Rattle.fw_async.specs.declared.packet.Packet.TheVariants.{WriteQuadlet, WriteBlock, WriteReply, ReadQuadlet, ReadBlock, ReadQuadletReply, ReadBlockReply, CycleStart, Lock, LockReply}
-use Rattle.fw_base.specs.Labels.{label_code}
-use Rattle.fw_base.specs.declared.label.Label.TheVariants.{Procedure}
-use Rattle.fw_entry.specs.Network.{device_of_id}
-use Rattle.fw_entry.specs.declared.entry.Entry.{Entry}
-use Rattle.fw_entry.specs.declared.entry.Entry.TheVariants.{Reset, Async, Iso, Event, Outcome, Shown, End}
-use Rattle.fw_entry.specs.declared.entry.EventEntry.{EventEntry}
-use Rattle.fw_entry.specs.declared.entry.ResetEntry.{ResetEntry}
-use Rattle.fw_account.specs.Account.{Account}
-use Rattle.fw_account.specs.Fold.{next_account}
-use Rattle.fw_account.specs.Packets.{Read, Locked, answered, after_packet}
-use Rattle.fw_faults.specs.Looked.{Looked, Asks, Replies, Shows, Happens, Other, Response, looked, looked_packet, quadlet_in}
-use Rattle.fw_ledger.specs.Refused.{IsAnswered, ShowsAnswer}
-use Rattle.fw_ledger.specs.declared.answer.Answer.{Answer}
-use Rattle.fw_holders.specs.Deeds.{event_told, packet_told, told}
+use Rattle.fw_terms.specs.Labels.{label_code}
+use Rattle.fw_terms.specs.declared.label.Label.TheVariants.{Procedure}
+use Rattle.fw_log_entry.specs.declared.entry.Entry.TheVariants.{Event, Outcome, Shown, End}
+use Rattle.fw_log_entry.specs.declared.entry.EventEntry.{EventEntry}
+use Rattle.fw_model_account.specs.Fold.{next_account}
+use Rattle.fw_model_account.specs.Packets.{Read, Locked, answered, after_packet}
+use Rattle.fw_model_audit.specs.Looked.{quadlet_in}
+use Rattle.fw_holders.specs.Deeds.{event_told}
 use Rattle.fw_holders.specs.Found.{HasReply}
 use Rattle.fw_holders.proofs.TextLaws.{both_put}
 

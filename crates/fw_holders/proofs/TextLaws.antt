@@ -1,5 +1,6 @@
 -- Texts that are appended one after another.
-use Rattle.std.proofs.Common.{◌≡◌, ◌++◌, ◌∙◌, ap, List, ℕ, Result, Ok, Err, append_assoc}
+use Rattle.fw_holders.proofs.Common.{◌≡◌, ◌++◌, ◌∙◌, ap, List, ℕ, Ok}
+use Rattle.std.proofs.Common.{Result, Err, append_assoc}
 use Rattle.std.specs.Result.{OnOk}
 
 -- one more

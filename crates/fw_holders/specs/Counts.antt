@@ -1,16 +1,16 @@
 -- How much of a log was judged.
 use Rattle.std.specs.Prelude.{ℕ, ◌+◌, ◌==◌, ◌≤◌, Bool, false, List, [], ◌∷◌, Option, Some, None, is_some, if◌then◌else◌}
 use Rattle.fw_words.specs.Quadlet.{quadlet_at}
-use Rattle.fw_entry.specs.declared.entry.Entry.{Entry}
-use Rattle.fw_entry.specs.declared.entry.Entry.TheVariants.{Reset, Async, Shown}
-use Rattle.fw_entry.specs.declared.entry.ShownEntry.{ShownEntry}
-use Rattle.fw_entry.specs.declared.entry.Timed.{Timed}
-use Rattle.fw_entry.specs.Network.{device_of_id}
-use Rattle.fw_account.specs.Account.{Account, Operation, Reads, Locks, Request}
-use Rattle.fw_account.specs.Packets.{is_quadlet_swap}
-use Rattle.fw_account.specs.Fold.{entries_of, next_of, no_account}
-use Rattle.fw_faults.specs.Looked.{Looked, Replies, Response, looked_packet, is_watched}
-use Rattle.fw_faults.specs.Judged.{watched_offset}
+use Rattle.fw_log_entry.specs.declared.entry.Entry.{Entry}
+use Rattle.fw_log_entry.specs.declared.entry.Entry.TheVariants.{Reset, Async, Shown}
+use Rattle.fw_log_entry.specs.declared.entry.ShownEntry.{ShownEntry}
+use Rattle.fw_log_entry.specs.declared.entry.Timed.{Timed}
+use Rattle.fw_log_entry.specs.Network.{device_of_id}
+use Rattle.fw_model_account.specs.Account.{Account, Operation, Reads, Locks, Request}
+use Rattle.fw_model_account.specs.Packets.{is_quadlet_swap}
+use Rattle.fw_model_account.specs.Fold.{entries_of, next_of, no_account}
+use Rattle.fw_model_audit.specs.Looked.{Looked, Replies, Response, looked_packet, is_watched}
+use Rattle.fw_model_audit.specs.Judged.{watched_offset}
 use Rattle.fw_holders.specs.declared.judged.Judged.{Judged}
 
 -- nothing was judged
@@ -34,7 +34,7 @@ shows (Some word) argument = word == argument
 abbrev pub swap_judged : Bool → Judged → Judged
 swap_judged is_made j = if is_made then record j { made = j.made + 1 } else record j { unmade = j.unmade + 1 }
 
--- a complete answer at a watched register: a read, or a swap; where it is another lock an audit refuses it
+-- a complete answer at a watched register: a read, or a swap; if it is another lock an audit refuses it
 abbrev pub operation_judged : Operation → Option ℕ → Judged → Judged
 operation_judged Reads word j = record j { reads = j.reads + 1 }
 operation_judged (Locks function bytes) word j = if is_quadlet_swap function bytes then swap_judged (shows word (quadlet_at bytes 0)) j else j
@@ -65,7 +65,7 @@ entry_judged l (Async p) j = packet_judged l (looked_packet p) j
 entry_judged l (Shown s) j = shown_judged s j
 entry_judged l _ j = j
 
--- one entry more, where there is an account
+-- one entry more, if there is an account
 abbrev pub next_judged : Option Account → Entry → Judged → Judged
 next_judged None e j = j
 next_judged (Some l) e j = entry_judged l e j

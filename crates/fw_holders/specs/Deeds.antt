@@ -1,22 +1,22 @@
 -- What is told of an entry, over the account of the entries before it.
 use Rattle.std.specs.Prelude.{ℕ, ◌+◌, ◌==◌, List, [], ◌++◌, length, codes, decimal, Option, Some, None, slice_get, if◌then◌else◌}
-use Rattle.fw_base.specs.declared.plug.PlugAt.{PlugAt}
-use Rattle.fw_base.specs.Tables.{sum_plugs}
+use Rattle.fw_terms.specs.declared.plug.PlugAt.{PlugAt}
+use Rattle.fw_terms.specs.Tables.{sum_plugs}
 use Rattle.fw_words.specs.Quadlet.{quadlet_at}
-use Rattle.fw_entry.specs.declared.codes.event.TheConstants.{SECOND_OVER, DIED, WITHHELD}
-use Rattle.fw_entry.specs.declared.entry.Entry.{Entry}
-use Rattle.fw_entry.specs.declared.entry.Entry.TheVariants.{Reset, Async, Iso, Event, Outcome, Shown, End}
-use Rattle.fw_entry.specs.declared.entry.EventEntry.{EventEntry}
-use Rattle.fw_entry.specs.declared.entry.ResetEntry.{ResetEntry}
-use Rattle.fw_entry.specs.declared.nodes.NodeRow.{NodeRow}
-use Rattle.fw_entry.specs.Network.{device_of_id}
-use Rattle.fw_account.specs.Account.{Account, Connections, Operation, Reads, Locks, Request, pending_channel}
-use Rattle.fw_account.specs.Decode.{is_owner, move_at}
-use Rattle.fw_account.specs.Moves.{Move}
-use Rattle.fw_account.specs.Packets.{Reply, Read, Locked, is_swapped}
-use Rattle.fw_account.specs.Words.{Register, register_of}
-use Rattle.fw_faults.specs.Looked.{Looked, Replies, looked_packet}
-use Rattle.fw_who.specs.Names.{nodes_of, count_text, who}
+use Rattle.fw_log_entry.specs.declared.codes.event.TheConstants.{SECOND_OVER, DIED, WITHHELD}
+use Rattle.fw_log_entry.specs.declared.entry.Entry.{Entry}
+use Rattle.fw_log_entry.specs.declared.entry.Entry.TheVariants.{Reset, Async, Iso, Event, Outcome, Shown, End}
+use Rattle.fw_log_entry.specs.declared.entry.EventEntry.{EventEntry}
+use Rattle.fw_log_entry.specs.declared.entry.ResetEntry.{ResetEntry}
+use Rattle.fw_log_entry.specs.declared.nodes.NodeRow.{NodeRow}
+use Rattle.fw_log_entry.specs.Network.{device_of_id}
+use Rattle.fw_model_account.specs.Account.{Account, Connections, Operation, Reads, Locks, Request, pending_channel}
+use Rattle.fw_model_account.specs.Decode.{is_owner, move_at}
+use Rattle.fw_model_account.specs.Moves.{Move}
+use Rattle.fw_model_account.specs.Packets.{Reply, Read, Locked, is_swapped}
+use Rattle.fw_model_account.specs.Words.{Register, register_of}
+use Rattle.fw_model_audit.specs.Looked.{Looked, Replies, looked_packet}
+use Rattle.fw_holders_text.specs.Names.{nodes_of, count_text, who}
 use Rattle.fw_holders.specs.Moves.{deed_of, done_text}
 
 -- ---- bus resets

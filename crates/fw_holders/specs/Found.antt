@@ -1,19 +1,19 @@
 -- What a swap does that is a move, by its register and its two words.
 use Rattle.std.specs.Prelude.{◌≡◌, ⊤, ℕ, ◌+◌, ◌-◌, ◌==◌, ◌&&◌, nat_lt, Bool, Option, Some, None, if◌then◌else◌}
-use Rattle.fw_base.specs.declared.plug.PlugAt.{PlugAt}
-use Rattle.fw_base.specs.declared.plug.ConnectionKind.{ConnectionKind}
+use Rattle.fw_terms.specs.declared.plug.PlugAt.{PlugAt}
+use Rattle.fw_terms.specs.declared.plug.ConnectionKind.{ConnectionKind}
 use Rattle.fw_words.specs.Quadlet.{field, quadlet_at}
 use Rattle.fw_plug.specs.Words.{is_connected, out_fields, in_fields}
-use Rattle.fw_entry.specs.declared.entry.ResetEntry.{ResetEntry}
-use Rattle.fw_account.specs.Account.{Operation, Reads, Locks, Request}
-use Rattle.fw_account.specs.Decode.{changed_bit, is_more, kind_of}
-use Rattle.fw_account.specs.Packets.{Reply, Read, Locked, is_quadlet_swap}
-use Rattle.fw_account.specs.Words.{Register, BandwidthAvailable, ChannelsAvailable, OutputPlug, InputPlug, register_of}
+use Rattle.fw_log_entry.specs.declared.entry.ResetEntry.{ResetEntry}
+use Rattle.fw_model_account.specs.Account.{Operation, Reads, Locks, Request}
+use Rattle.fw_model_account.specs.Decode.{changed_bit, is_more, kind_of}
+use Rattle.fw_model_account.specs.Packets.{Reply, Read, Locked, is_quadlet_swap}
+use Rattle.fw_model_account.specs.Words.{Register, BandwidthAvailable, ChannelsAvailable, OutputPlug, InputPlug, register_of}
 use Rattle.fw_holders.specs.declared.deed.Deed.{Deed}
 use Rattle.fw_holders.specs.declared.deed.Deed.TheVariants.{TakesChannel, TakesUnits, GivesUnits, GivesChannel, Connects, Adds, Leaves}
-use Rattle.fw_who.specs.declared.names.Side.{Side}
-use Rattle.fw_who.specs.declared.names.Side.TheVariants.{Output, Input}
-use Rattle.fw_faults.specs.Looked.{quadlet_in}
+use Rattle.fw_holders_text.specs.declared.names.Side.{Side}
+use Rattle.fw_holders_text.specs.declared.names.Side.TheVariants.{Output, Input}
+use Rattle.fw_model_audit.specs.Looked.{quadlet_in}
 use Rattle.fw_holders.specs.Counts.{shows}
 
 -- units that are taken or given back

@@ -1,12 +1,12 @@
 -- Which channels are held, how and by whom.
 use Rattle.std.specs.Prelude.{ℕ, zero, suc, ◌==◌, Bool, List, [], ◌∷◌, ◌++◌, codes, decimal, Option, Some, None, if◌then◌else◌}
-use Rattle.fw_base.specs.declared.plug.PlugAt.{PlugAt}
-use Rattle.fw_entry.specs.declared.nodes.NodeRow.{NodeRow}
-use Rattle.fw_account.specs.Account.{Holder, Pending, Connected, Orphaned, Allocation, Flow, Account}
+use Rattle.fw_terms.specs.declared.plug.PlugAt.{PlugAt}
+use Rattle.fw_log_entry.specs.declared.nodes.NodeRow.{NodeRow}
+use Rattle.fw_model_account.specs.Account.{Holder, Pending, Connected, Orphaned, Allocation, Flow, Account}
 use Rattle.fw_holders.specs.declared.holding.How.{How}
 use Rattle.fw_holders.specs.declared.holding.How.TheVariants.{Pending as IsPending, Connected as IsConnected, Orphaned as IsOrphaned, Continues, Reclaimable}
 use Rattle.fw_holders.specs.declared.holding.Holding.{Holding}
-use Rattle.fw_who.specs.Names.{nodes_of, who}
+use Rattle.fw_holders_text.specs.Names.{nodes_of, who}
 
 -- how an allocated channel is held
 abbrev pub how_allocated : Holder → How
@@ -44,7 +44,7 @@ holding l ch = holding_of (l.allocations ch) (unallocated l.continues (l.reclaim
 
 -- ---- as text
 
--- how it is held, where it is not connected
+-- how it is held, if it is not connected
 unfoldable pub how_text : How → List ℕ
 how_text (IsPending c) = codes " pending"
 how_text IsConnected = []

@@ -6,3 +6,4 @@ pub mod Counts
 pub mod Table
 pub mod Found
 pub mod Told
+pub mod Buses

@@ -1,15 +1,15 @@
 -- Moves as text.
 use Rattle.std.specs.Prelude.{ℕ, Bool, List, [], ◌++◌, codes, decimal, if◌then◌else◌}
-use Rattle.fw_base.specs.declared.plug.PlugAt.{PlugAt}
-use Rattle.fw_base.specs.declared.plug.ConnectionKind.{ConnectionKind}
-use Rattle.fw_base.specs.declared.plug.ConnectionKind.TheVariants.{PointToPoint, Broadcast}
-use Rattle.fw_entry.specs.declared.nodes.NodeRow.{NodeRow}
-use Rattle.fw_account.specs.Account.{Account, has_connection}
-use Rattle.fw_account.specs.Moves.{Move, AllocateChannel, AllocateUnits, ConnectFirst, ConnectOverlaid, ConnectInput, DisconnectInput, DisconnectOutput, ReleaseUnits, ReleaseChannel}
+use Rattle.fw_terms.specs.declared.plug.PlugAt.{PlugAt}
+use Rattle.fw_terms.specs.declared.plug.ConnectionKind.{ConnectionKind}
+use Rattle.fw_terms.specs.declared.plug.ConnectionKind.TheVariants.{PointToPoint, Broadcast}
+use Rattle.fw_log_entry.specs.declared.nodes.NodeRow.{NodeRow}
+use Rattle.fw_model_account.specs.Account.{Account, has_connection}
+use Rattle.fw_model_account.specs.Moves.{Move, AllocateChannel, AllocateUnits, ConnectFirst, ConnectOverlaid, ConnectInput, DisconnectInput, DisconnectOutput, ReleaseUnits, ReleaseChannel}
 use Rattle.fw_holders.specs.declared.deed.Deed.{Deed}
 use Rattle.fw_holders.specs.declared.deed.Deed.TheVariants.{TakesChannel, TakesUnits, GivesUnits, GivesChannel, Connects, Adds, Leaves}
-use Rattle.fw_who.specs.declared.names.Side.TheVariants.{Output, Input}
-use Rattle.fw_who.specs.Names.{count_text, who, plug_text}
+use Rattle.fw_holders_text.specs.declared.names.Side.TheVariants.{Output, Input}
+use Rattle.fw_holders_text.specs.Names.{count_text, who, plug_text}
 
 -- what a move does at plug p, over the account before it
 abbrev pub deed_of : Account → PlugAt → Move → Deed
@@ -32,7 +32,7 @@ connection_text Broadcast = codes " broadcast"
 unfoldable pub takes_text : Bool → List ℕ
 takes_text reclaiming = if reclaiming then codes "reclaims " else codes "takes "
 
--- what is done, where a reclaim second runs or not
+-- what is done, if a reclaim second runs or not
 unfoldable pub deed_text : List NodeRow → Bool → Deed → List ℕ
 deed_text nodes reclaiming (TakesChannel ch) = takes_text reclaiming ++ codes "channel " ++ decimal ch
 deed_text nodes reclaiming (TakesUnits u) = takes_text reclaiming ++ count_text u (codes "unit")

@@ -1,7 +1,7 @@
 -- Ends of connections, as the tables of seats have them.
 use Rattle.std.specs.Prelude.{ℕ, ◌+◌, nat_lt, Bool, List, slice_index, if◌then◌else◌}
-use Rattle.fw_base.specs.declared.plug.PlugAt.{PlugAt}
-use Rattle.fw_account.specs.Decode.{is_owner}
+use Rattle.fw_terms.specs.declared.plug.PlugAt.{PlugAt}
+use Rattle.fw_model_account.specs.Decode.{is_owner}
 use Rattle.fw_ledger.specs.Stands.{owner_of, seats_at}
 use Rattle.fw_ledger.specs.declared.tables.Seats.{Seats}
 

@@ -1,17 +1,17 @@
 -- The table at a log's end.
 use Rattle.std.specs.Prelude.{ℕ, zero, suc, ◌==◌, ◌&&◌, Bool, List, [], ◌∷◌, ◌++◌, codes, decimal, Option, Some, None, if◌then◌else◌}
-use Rattle.fw_base.specs.declared.plug.PlugAt.{PlugAt}
-use Rattle.fw_base.specs.Tables.{at_plug}
-use Rattle.fw_entry.specs.declared.nodes.NodeRow.{NodeRow}
-use Rattle.fw_account.specs.Account.{Account, Connections, Owner, Of, Dead, has_connection, remainder}
+use Rattle.fw_terms.specs.declared.plug.PlugAt.{PlugAt}
+use Rattle.fw_terms.specs.Tables.{at_plug}
+use Rattle.fw_log_entry.specs.declared.nodes.NodeRow.{NodeRow}
+use Rattle.fw_model_account.specs.Account.{Account, Connections, Owner, Of, Dead, has_connection, remainder}
 use Rattle.fw_holders.specs.declared.holding.How.{How}
 use Rattle.fw_holders.specs.declared.holding.How.TheVariants.{Pending, Connected, Orphaned, Continues, Reclaimable}
 use Rattle.fw_holders.specs.declared.holding.Holding.{Holding}
 use Rattle.fw_holders.specs.declared.judged.Judged.{Judged}
-use Rattle.fw_who.specs.declared.names.Side.{Side}
-use Rattle.fw_who.specs.declared.names.Side.TheVariants.{Output, Input}
+use Rattle.fw_holders_text.specs.declared.names.Side.{Side}
+use Rattle.fw_holders_text.specs.declared.names.Side.TheVariants.{Output, Input}
 use Rattle.fw_holders.specs.Held.{holding}
-use Rattle.fw_who.specs.Names.{nodes_of, count_text, who, plug_text}
+use Rattle.fw_holders_text.specs.Names.{nodes_of, count_text, who, plug_text}
 
 -- ---- channels
 
@@ -110,7 +110,7 @@ amount_text j =
     if is_nothing j then codes "nothing: no answer with label 0 of a watched register, no shown word of one,"
     else count_text j.reads (codes "read") ++ codes ", " ++ count_text j.made (codes "swap") ++ codes " made, " ++ decimal j.unmade ++ codes " not made, " ++ count_text j.shown (codes "shown word")
 
--- how much was judged; where it is nothing, this log's yes says nothing
+-- how much was judged; if it is nothing, this log's yes says nothing
 unfoldable pub judged_line : Judged → List ℕ
 judged_line j = codes "judged " ++ amount_text j ++ codes " in " ++ count_text j.resets (codes "bus reset") ++ codes "\n"
 

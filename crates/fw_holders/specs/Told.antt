@@ -1,20 +1,20 @@
 -- The lines of a log's entries: each is a function of its entry and of the account of the entries before it.
 use Rattle.std.specs.Prelude.{◌≡◌, ◌+◌, ◌<◌, ◌^◌, ℕ, List, [], ◌∷◌, ◌++◌, length, codes, decimal, Option, Some, None}
-use Rattle.fw_entry.specs.declared.entry.Entry.{Entry}
-use Rattle.fw_entry.specs.declared.entry.Timed.{Timed}
-use Rattle.fw_account.specs.Account.{Account, remainder}
-use Rattle.fw_account.specs.Fold.{account_of, entries_of, next_account, next_of}
-use Rattle.fw_faults.specs.Audited.{IsAudited}
-use Rattle.fw_faults.specs.Faults.{HasNoFault, IsVerdict}
-use Rattle.fw_faults.specs.Looked.{looked}
-use Rattle.fw_faults.specs.declared.fault.AuditFault.{AuditFault}
+use Rattle.fw_log_entry.specs.declared.entry.Entry.{Entry}
+use Rattle.fw_log_entry.specs.declared.entry.Timed.{Timed}
+use Rattle.fw_model_account.specs.Account.{Account, remainder}
+use Rattle.fw_model_account.specs.Fold.{account_of, entries_of, next_account, next_of}
+use Rattle.fw_model_audit.specs.Audited.{IsAudited}
+use Rattle.fw_model_audit.specs.Faults.{HasNoFault, IsVerdict}
+use Rattle.fw_model_audit.specs.Looked.{looked}
+use Rattle.fw_model_audit.specs.declared.fault.AuditFault.{AuditFault}
 use Rattle.fw_audit.specs.Found.{IsPassedOver}
 use Rattle.fw_ledger.specs.Stands.{StandsFor}
 use Rattle.fw_ledger.specs.declared.tables.Tables.{Tables}
 use Rattle.fw_holders.specs.declared.judged.Judged.{Judged}
 use Rattle.fw_holders.specs.Counts.{entry_judged, judged_of, IsWithin}
 use Rattle.fw_holders.specs.Table.{table_text}
-use Rattle.fw_who.specs.Names.{left, right}
+use Rattle.fw_holders_text.specs.Names.{left, right}
 use Rattle.fw_holders.specs.Held.{held_text}
 use Rattle.fw_holders.specs.Deeds.{told}
 

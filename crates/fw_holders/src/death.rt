@@ -1,19 +1,19 @@
 //! What a controller leaves that dies.
 
 ghost use Rattle.std.specs.Prelude.{◌≡◌, ◌≤◌, ◌<◌, ◌+◌, ◌==◌, ◌++◌, [], OnOk, codes, decimal, length, slice_index, if◌then◌else◌};
-ghost use Rattle.fw_base.specs.Tables.{find_to, sum_to, sum_plugs, at_plug};
-ghost use Rattle.fw_account.specs.Account.{Account, is_pending, pending_channel};
-ghost use Rattle.fw_account.specs.Decode.{is_owner};
+ghost use Rattle.fw_terms.specs.Tables.{find_to, sum_to, sum_plugs, at_plug};
+ghost use Rattle.fw_model_account.specs.Account.{Account, is_pending, pending_channel};
+ghost use Rattle.fw_model_account.specs.Decode.{is_owner};
 ghost use Rattle.fw_ledger.specs.Stands.{Stands, StandsFor, allocation_of, charge_at, owner_of, place};
-ghost use Rattle.fw_who.specs.Names.{count_text};
+ghost use Rattle.fw_holders_text.specs.Names.{count_text};
 ghost use Rattle.fw_holders.specs.Deeds.{ends_of, orphans_text, death_text};
 ghost use Rattle.fw_holders.specs.Seated.{ends_if, ends_in};
 
 use crate::place::{has_plug, seats_at};
-use fw_base::PlugAt;
+use fw_holders_text::{put_count, put_who};
 use fw_ledger::{Broadcaster, Charge, Seats, Tables};
-use fw_names::{put_number, put_word};
-use fw_who::{put_count, put_who};
+use fw_log_names::{put_number, put_word};
+use fw_terms::PlugAt;
 use std::alloc::AllocError;
 
 // This is a Pending allocation of a controller.

@@ -2,12 +2,12 @@
 
 ghost use Rattle.std.specs.Prelude.{◌≡◌, ◌++◌, OnOk};
 ghost use Rattle.fw_holders.specs.Moves.{connection_text, takes_text, deed_text, done_text};
-ghost use Rattle.fw_who.specs.Names.{plug_text};
+ghost use Rattle.fw_holders_text.specs.Names.{plug_text};
 
-use fw_base::{ConnectionKind, PlugAt};
-use fw_entry::NodeRow;
-use fw_names::{put_number, put_word};
-use fw_who::{Side, put_count, put_plug, put_who};
+use fw_holders_text::{Side, put_count, put_plug, put_who};
+use fw_log_entry::NodeRow;
+use fw_log_names::{put_number, put_word};
+use fw_terms::{ConnectionKind, PlugAt};
 use std::alloc::AllocError;
 
 /// What a controller does by a compare_swap.

@@ -1,15 +1,15 @@
 //! All that is held, as text.
 
 ghost use Rattle.std.specs.Prelude.{◌≡◌, ◌++◌, List, ℕ, OnOk, length};
-ghost use Rattle.fw_account.specs.Account.{Account};
+ghost use Rattle.fw_model_account.specs.Account.{Account};
 ghost use Rattle.fw_ledger.specs.Stands.{Stands, StandsFor};
 ghost use Rattle.fw_holders.specs.Held.{how_text, units_text, holding_text, separator, with_holding, held_text};
 
 use crate::holding::{Holding, How, held_on};
-use fw_entry::NodeRow;
+use fw_holders_text::put_who;
 use fw_ledger::Tables;
-use fw_names::{put_number, put_word};
-use fw_who::put_who;
+use fw_log_entry::NodeRow;
+use fw_log_names::{put_number, put_word};
 use std::alloc::AllocError;
 
 // Appends how a channel is held, if its plug is not connected.
@@ -63,7 +63,7 @@ fn put_separator(text: &mut Vec<u8>, from: usize) -> Result<(), AllocError>
     put_word(text, if text.len() == from { ": " } else { ", " })
 }
 
-// Appends a channel, if it is held, where the first of those that are stands at this byte.
+// Appends a channel, if it is held, if the first of those that are stands at this byte.
 fn put_next(
     text: &mut Vec<u8>,
     from: usize,

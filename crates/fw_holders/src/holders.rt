@@ -3,15 +3,17 @@
 ghost use Rattle.std.specs.Prelude.{◌≡◌, ◌+◌, ◌<◌, ◌^◌, ◌++◌, ◌∷◌, [], List, length, IfOk, Some, None, is_some, true, IsTrue, IsFalse};
 ghost use Rattle.fw_async.specs.Reader.{IsPacket, Spells};
 ghost use Rattle.fw_async.specs.declared.packet.Packet.{Packet as APacket};
-ghost use Rattle.fw_entry.specs.Log.{Fits};
-ghost use Rattle.fw_entry.specs.declared.entry.Entry.TheVariants.{Async, Event};
-ghost use Rattle.fw_entry.specs.declared.entry.EventEntry.{EventEntry as LogEvent};
-ghost use Rattle.fw_entry.specs.declared.entry.Timed.{Timed as TimedEntry};
-ghost use Rattle.fw_account.specs.Account.{Account};
-ghost use Rattle.fw_account.specs.Fold.{entries_of};
-ghost use Rattle.fw_faults.specs.Audited.{EndsFaulty};
-ghost use Rattle.fw_faults.specs.declared.fault.AuditFault.{AuditFault as Fault};
+ghost use Rattle.fw_log_entry.specs.Log.{Fits, ResetFits};
+ghost use Rattle.fw_log_entry.specs.declared.entry.Entry.TheVariants.{Async, Event, Reset};
+ghost use Rattle.fw_log_entry.specs.declared.entry.ResetEntry.{ResetEntry as AReset};
+ghost use Rattle.fw_log_entry.specs.declared.entry.EventEntry.{EventEntry as LogEvent};
+ghost use Rattle.fw_log_entry.specs.declared.entry.Timed.{Timed as TimedEntry};
+ghost use Rattle.fw_model_account.specs.Account.{Account};
+ghost use Rattle.fw_model_account.specs.Fold.{entries_of};
+ghost use Rattle.fw_model_audit.specs.Audited.{EndsFaulty};
+ghost use Rattle.fw_model_audit.specs.declared.fault.AuditFault.{AuditFault as Fault};
 ghost use Rattle.fw_ledger.specs.Stands.{StandsFor};
+ghost use Rattle.fw_holders.specs.Buses.{IsBusOf};
 ghost use Rattle.fw_holders.specs.Deeds.{event_told};
 ghost use Rattle.fw_holders.specs.Told.{Holds, Takes, holders, table_of};
 
@@ -19,8 +21,8 @@ use crate::judged::Judged;
 use crate::lines::{is_told, put_answer, put_cycle, put_event, put_reset, put_rest};
 use crate::table::put_table;
 use fw_audit::{AuditFault, take_entry, take_packet};
-use fw_entry::{Entry, EventEntry, Timed};
 use fw_ledger::Ledger;
+use fw_log_entry::{Entry, EventEntry, ResetEntry, Timed};
 use std::alloc::{AllocError, Global};
 use std::marker::Model;
 
@@ -131,8 +133,8 @@ impl Holders {
         }
     }
 
-    /// Takes the packet of this cycle that these bytes are where a short look finds that it has no fault, as of nearly all, and answers
-    /// whether it did; it appends the line, if it has one. Where it did not nothing is changed, and `take` says what the packet is. An
+    /// Takes the packet of this cycle that these bytes are if a short look finds that it has no fault, as of nearly all, and answers
+    /// whether it did; it appends the line, if it has one. If it did not nothing is changed, and `take` says what the packet is. An
     /// error says that memory ran out.
     #[inline(always)]
     pub fn pass_packet(&mut self, cycle: u64, bytes: &[u8]) -> Result<bool, AllocError>
@@ -151,6 +153,24 @@ impl Holders {
             Some(None) => Ok(true),
             None => Ok(false),
         }
+    }
+
+    /// Takes the bus reset of this cycle of which this is what a line tells of it, if no device has more output plugs than before it,
+    /// and answers whether it did; it appends the line. If it did not nothing is changed, and `take` takes the entry. An error says
+    /// that memory ran out.
+    pub fn pass_reset(&mut self, cycle: u64, bus: &ResetEntry) -> Result<bool, AllocError>
+        requires bus { (r : AReset) × ResetFits r × IsBusOf r bus.now }
+        ensures passed { (entries : List TimedEntry) (t : TimedEntry) (r : AReset) → t.cycle ≡ cycle → t.what ≡ Reset r → ResetFits r → IsBusOf r bus.now
+            → length entries + 1 < 2 ^ 64 → Holds entries self.old
+            → IfOk result (λ passed. IsTrue passed → Holds (entries ++ t ∷ []) self.new × (self.new.text ≡ self.old.text ++ holders entries (t ∷ []))) }
+        ensures kept { IfOk result (λ passed. IsFalse passed → self.new ≡ self.old) }
+    {
+        if !self.ledger.take_bus(bus.manager, bus.nodes.as_slice()) {
+            return Ok(false);
+        }
+        self.judged.take_reset();
+        put_reset(&mut self.text, cycle, self.ledger.tables(), bus)?;
+        Ok(true)
     }
 
     /// The table of what is held after the entries. An error says that memory ran out.

@@ -1,13 +1,13 @@
 //! What is held with a channel.
 
 ghost use Rattle.std.specs.Prelude.{◌≡◌, ◌<◌, length, None, IsTrue};
-ghost use Rattle.fw_account.specs.Account.{Account};
+ghost use Rattle.fw_model_account.specs.Account.{Account};
 ghost use Rattle.fw_ledger.specs.Stands.{Stands, StandsFor, place, continues_at, reclaimable_at, flow_of, charge_at, allocation_of};
 ghost use Rattle.fw_holders.specs.Held.{device_of, holding_of, holding, unallocated};
 
 use crate::place::{has_plug, place};
-use fw_base::PlugAt;
 use fw_ledger::{Charge, Reclaimable, Tables};
+use fw_terms::PlugAt;
 
 /// How a channel is held.
 #[derive(Clone, Copy)]
@@ -30,7 +30,7 @@ pub(crate) struct Holding {
     pub how: How,
     /// The output plug that it is held for.
     pub plug: PlugAt,
-    /// Bandwidth allocation units; 0 where none are held yet, or no longer.
+    /// Bandwidth allocation units; 0 if none are held yet, or no longer.
     pub units: u32,
 }
 

@@ -1,9 +1,9 @@
 //! How much of a log was judged.
 
 ghost use Rattle.std.specs.Prelude.{◌≡◌, ◌<◌, ◌+◌, ◌^◌, ℕ, Some, None, is_some, if◌then◌else◌};
-ghost use Rattle.fw_account.specs.Account.{Account, Request};
-ghost use Rattle.fw_faults.specs.Judged.{watched_offset};
-ghost use Rattle.fw_faults.specs.Looked.{Response, looked};
+ghost use Rattle.fw_model_account.specs.Account.{Account, Request};
+ghost use Rattle.fw_model_audit.specs.Judged.{watched_offset};
+ghost use Rattle.fw_model_audit.specs.Looked.{Response, looked};
 ghost use Rattle.fw_ledger.specs.Stands.{AskedFor};
 ghost use Rattle.fw_ledger.specs.Refused.{ShowsAnswer};
 ghost use Rattle.fw_holders.specs.Counts.{none_judged, swap_judged, operation_judged, answer_judged, entry_judged, IsWithin};
@@ -11,8 +11,8 @@ ghost use Rattle.fw_holders.specs.Table.{is_nothing};
 
 use crate::moves::shows;
 use fw_audit::{is_watched, watched_offset};
-use fw_entry::Entry;
 use fw_ledger::{Answer, Asked};
+use fw_log_entry::Entry;
 
 /// How much of a log was judged.
 #[derive(Clone, Copy)]
@@ -92,12 +92,19 @@ impl Judged {
         }
     }
 
+    /// A bus reset more.
+    pub(crate) fn take_reset(&mut self)
+        ensures { (n : ℕ) → n + 1 < 2 ^ 64 → IsWithin n self.old → self.new ≡ record self.old { resets = self.old.resets + 1 } }
+    {
+        self.resets = self.resets.saturating_add(1);
+    }
+
     // An entry more that is no answer.
     fn take_other(&mut self, entry: &Entry)
         ensures { (l : Account) (n : ℕ) → n + 1 < 2 ^ 64 → IsWithin n self.old → ShowsAnswer l (looked entry.now) None → self.new ≡ entry_judged l entry.now self.old }
     {
         match entry {
-            Entry::Reset(_) => self.resets = self.resets.saturating_add(1),
+            Entry::Reset(_) => self.take_reset(),
             Entry::Shown(shown) if is_watched(u64::from(shown.offset)) => {
                 self.shown = self.shown.saturating_add(1);
             },

@@ -1,14 +1,14 @@
 //! The lines of entries.
 
 ghost use Rattle.std.specs.Prelude.{◌≡◌, ◌++◌, ◌+◌, List, ℕ, OnOk, Some, is_some, length, codes, decimal, slice_get, IsTrue};
-ghost use Rattle.fw_account.specs.Account.{Account};
+ghost use Rattle.fw_model_account.specs.Account.{Account};
 ghost use Rattle.fw_ledger.specs.Stands.{Stands, StandsFor};
-ghost use Rattle.fw_entry.specs.Network.{device_of_id};
-ghost use Rattle.fw_account.specs.Packets.{answered};
-ghost use Rattle.fw_account.specs.Sound.{IsSound};
-ghost use Rattle.fw_faults.specs.Looked.{Response, Replies};
+ghost use Rattle.fw_log_entry.specs.Network.{device_of_id};
+ghost use Rattle.fw_model_account.specs.Packets.{answered};
+ghost use Rattle.fw_model_account.specs.Sound.{IsSound};
+ghost use Rattle.fw_model_audit.specs.Looked.{Response, Replies};
 ghost use Rattle.fw_ledger.specs.Refused.{IsAnswered};
-ghost use Rattle.fw_who.specs.Names.{nodes_of, right};
+ghost use Rattle.fw_holders_text.specs.Names.{nodes_of, right};
 ghost use Rattle.fw_holders.specs.Moves.{done_text};
 ghost use Rattle.fw_holders.specs.Found.{HasReply};
 ghost use Rattle.fw_holders.specs.Deeds.{event_told, initiator_text, manager_text, reset_text, packet_told};
@@ -18,11 +18,11 @@ use crate::death::put_death;
 use crate::deed::{Deed, put_done};
 use crate::held::put_held;
 use crate::moves::deed_of;
-use fw_entry::codes::event::{DIED, SECOND_OVER, WITHHELD};
-use fw_entry::{EventEntry, ResetEntry};
+use fw_holders_text::{fill, put_count, put_right, put_who};
 use fw_ledger::{Answer, Ledger, Tables};
-use fw_names::{put_number, put_word};
-use fw_who::{fill, put_count, put_right, put_who};
+use fw_log_entry::codes::event::{DIED, SECOND_OVER, WITHHELD};
+use fw_log_entry::{EventEntry, ResetEntry};
+use fw_log_names::{put_number, put_word};
 use std::alloc::AllocError;
 
 /// How many columns the cycle has, what is told, and the units that are left.

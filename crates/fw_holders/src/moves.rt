@@ -1,19 +1,19 @@
 //! Which move a compare_swap is, by its register and its two words.
 
 ghost use Rattle.std.specs.Prelude.{◌≡◌, ◌<◌, IfSome, Some};
-ghost use Rattle.fw_account.specs.Account.{Account, Request};
-ghost use Rattle.fw_account.specs.Decode.{changed_bit, is_more, kind_of};
-ghost use Rattle.fw_account.specs.Words.{OutputPlug, InputPlug};
+ghost use Rattle.fw_model_account.specs.Account.{Account, Request};
+ghost use Rattle.fw_model_account.specs.Decode.{changed_bit, is_more, kind_of};
+ghost use Rattle.fw_model_account.specs.Words.{OutputPlug, InputPlug};
 ghost use Rattle.fw_ledger.specs.Stands.{Stands, StandsFor, AskedFor};
 ghost use Rattle.fw_ledger.specs.Swaps.{register_named};
 ghost use Rattle.fw_holders.specs.Counts.{shows};
 ghost use Rattle.fw_holders.specs.Found.{units_deed, channel_deed, connection_deed, word_deed, answer_deed};
 
 use crate::deed::Deed;
-use fw_base::{ConnectionKind, PlugAt};
+use fw_holders_text::Side;
 use fw_ledger::{Answer, Asked, Register, Tables};
 use fw_plug::{InWord, OutWord};
-use fw_who::Side;
+use fw_terms::{ConnectionKind, PlugAt};
 use fw_words::{Quadlet, Swap};
 
 // Units that are taken or given back.
@@ -135,7 +135,7 @@ pub(crate) fn shows(shown: Option<u32>, word: u32) -> bool
     }
 }
 
-/// What a response does that was taken: it is a move exactly where it shows the argument of a compare_swap of a register of the
+/// What a response does that was taken: it is a move exactly if it shows the argument of a compare_swap of a register of the
 /// account.
 pub(crate) fn deed_of(tables: &Tables, answer: &Answer) -> Option<Deed>
     requires stands { Stands tables.now }

@@ -1,15 +1,15 @@
 //! Whose the connections of a plug are, as text.
 
 ghost use Rattle.std.specs.Prelude.{◌≡◌, ◌++◌, List, ℕ, OnOk, codes, length, slice_index};
-ghost use Rattle.fw_account.specs.Account.{Connections, counter as connections};
+ghost use Rattle.fw_model_account.specs.Account.{Connections, counter as connections};
 ghost use Rattle.fw_ledger.specs.Stands.{SeatsFor, owner_of};
-ghost use Rattle.fw_who.specs.Names.{who};
+ghost use Rattle.fw_holders_text.specs.Names.{who};
 ghost use Rattle.fw_holders.specs.Table.{comma, with_count, counts_below, with_broadcast, owners_text};
 
-use fw_entry::NodeRow;
+use fw_holders_text::put_who;
 use fw_ledger::{Broadcaster, Seats};
-use fw_names::{put_number, put_word};
-use fw_who::put_who;
+use fw_log_entry::NodeRow;
+use fw_log_names::{put_number, put_word};
 use std::alloc::AllocError;
 
 // Appends what stands between one who has a connection and the next, if the first stands at this byte.
@@ -68,7 +68,7 @@ fn put_counts(
     Ok(())
 }
 
-// How many point-to-point connections of a plug are of controllers that died, where it has so many.
+// How many point-to-point connections of a plug are of controllers that died, if it has so many.
 fn orphaned(seats: &Seats, counter: u8) -> u8
     ensures { (s : Connections) → SeatsFor seats.now s → counter ≡ connections s → result ≡ s.orphaned }
 {
@@ -79,7 +79,7 @@ fn orphaned(seats: &Seats, counter: u8) -> u8
     orphaned
 }
 
-// Appends whose the broadcast connection of a plug is, where this is the first byte of whose the others are.
+// Appends whose the broadcast connection of a plug is, if this is the first byte of whose the others are.
 #[tactic(auto, unfolding(crate::specs::Table::with_broadcast))]
 fn put_broadcast(
     text: &mut Vec<u8>,

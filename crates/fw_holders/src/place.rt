@@ -3,8 +3,8 @@
 ghost use Rattle.std.specs.Prelude.{◌≡◌, ◌<◌, nat_lt, length, slice_index};
 ghost use Rattle.fw_ledger.specs.Stands.{place, seats_at, word_at};
 
-use fw_base::PlugAt;
 use fw_ledger::Seats;
+use fw_terms::PlugAt;
 
 /// The place of a plug.
 pub(crate) fn place(p: PlugAt) -> usize

@@ -1,19 +1,19 @@
 //! The connections at a log's end.
 
 ghost use Rattle.std.specs.Prelude.{◌≡◌, ◌++◌, OnOk, codes, decimal, IsTrue};
-ghost use Rattle.fw_account.specs.Account.{Account, Connections, has_connection, counter as connections};
+ghost use Rattle.fw_model_account.specs.Account.{Account, Connections, has_connection, counter as connections};
 ghost use Rattle.fw_ledger.specs.Stands.{Stands, StandsFor, SeatsFor};
-ghost use Rattle.fw_who.specs.Names.{plug_text};
+ghost use Rattle.fw_holders_text.specs.Names.{plug_text};
 ghost use Rattle.fw_holders.specs.Table.{plug_line, output_line, input_line, lines_below, plug_lines};
 
 use crate::owners::put_owners;
 use crate::place::{has_plug, seats_at, word_at};
-use fw_base::PlugAt;
-use fw_entry::NodeRow;
+use fw_holders_text::{Side, put_plug};
 use fw_ledger::{Seats, Tables};
-use fw_names::{put_number, put_word};
+use fw_log_entry::NodeRow;
+use fw_log_names::{put_number, put_word};
 use fw_plug::{InWord, OutWord};
-use fw_who::{Side, put_plug};
+use fw_terms::PlugAt;
 use std::alloc::AllocError;
 
 // Appends the beginning of a plug's line.

@@ -1,17 +1,17 @@
 //! The table at a log's end.
 
 ghost use Rattle.std.specs.Prelude.{◌≡◌, ◌++◌, OnOk, decimal};
-ghost use Rattle.fw_account.specs.Account.{Account};
+ghost use Rattle.fw_model_account.specs.Account.{Account};
 ghost use Rattle.fw_ledger.specs.Stands.{Stands, StandsFor};
 ghost use Rattle.fw_holders.specs.Table.{how_word, units_words, by_text, channel_line, channel_lines, amount_text, judged_line, left_line, table_text};
 
 use crate::holding::{Holding, How, held_on};
 use crate::judged::Judged;
 use crate::plugs::put_plugs;
-use fw_entry::NodeRow;
+use fw_holders_text::{Side, put_count, put_plug, put_who};
 use fw_ledger::Tables;
-use fw_names::{put_number, put_word};
-use fw_who::{Side, put_count, put_plug, put_who};
+use fw_log_entry::NodeRow;
+use fw_log_names::{put_number, put_word};
 use std::alloc::AllocError;
 
 // Appends how a channel is held.

@@ -1,16 +1,16 @@
 -- The channels of the table.
 use Rattle.std.proofs.Common.{◌≡◌, ◌+◌, ℕ, zero, suc, Bool, true, false, List, [], ◌++◌, Option, Some, None, IsTrue, refl, ap, ◌∙◌, arith, codes, decimal}
 use Rattle.std.proofs.lemmas.List.{append-nil}
-use Rattle.fw_base.specs.declared.plug.PlugAt.{PlugAt}
-use Rattle.fw_entry.specs.declared.entry.Timed.{Timed}
-use Rattle.fw_entry.specs.declared.nodes.NodeRow.{NodeRow}
-use Rattle.fw_account.specs.Account.{Account, Allocation, Flow, Holder, Pending, Connected, Orphaned, remainder, total}
-use Rattle.fw_account.specs.Fold.{account_of, entries_of}
-use Rattle.fw_account.specs.Sound.{IsSound}
-use Rattle.fw_account.specs.Words.{BandwidthAvailable, word_of}
+use Rattle.fw_terms.specs.declared.plug.PlugAt.{PlugAt}
+use Rattle.fw_log_entry.specs.declared.entry.Timed.{Timed}
+use Rattle.fw_log_entry.specs.declared.nodes.NodeRow.{NodeRow}
+use Rattle.fw_model_account.specs.Account.{Account, Allocation, Flow, Holder, Pending, Connected, Orphaned, remainder, total}
+use Rattle.fw_model_account.specs.Fold.{account_of, entries_of}
+use Rattle.fw_model_account.specs.Sound.{IsSound}
+use Rattle.fw_model_account.specs.Words.{BandwidthAvailable, word_of}
 use Rattle.fw_holders.specs.Counts.{judged_of}
 use Rattle.fw_holders.specs.Held.{holding, holding_of, unallocated, allocated}
-use Rattle.fw_who.specs.Names.{nodes_of, plug_text, side_text}
+use Rattle.fw_holders_text.specs.Names.{nodes_of, plug_text, side_text}
 use Rattle.fw_holders.specs.Table.{by_text, channel_line, channel_lines, how_word, judged_line, left_line, plug_lines, table_text, units_words}
 use Rattle.fw_holders.specs.Told.{table_by, table_of}
 use Rattle.fw_holders_laws.specs.Channels.{account_lines, allocated_line, flow_line, line_with, output_name}

@@ -2,15 +2,15 @@
 use Rattle.std.proofs.Common.{◌≡◌, ◌↔◌, ◌<◌, ◌⊎◌, inl, inr, ◌||◌, Bool, true, false, [], ◌∙◌, Option, Some, None, IsTrue, IsFalse, refl, sym, arith}
 use Rattle.std.proofs.lemmas.Bool.{false≢true}
 use Rattle.std.proofs.lemmas.Bool.Decides.{nat_tests}
-use Rattle.fw_base.specs.declared.plug.PlugAt.{PlugAt}
-use Rattle.fw_entry.specs.declared.entry.ResetEntry.{ResetEntry}
-use Rattle.fw_entry.specs.Network.{HasRange}
-use Rattle.fw_account.specs.Account.{Account, has_connection}
-use Rattle.fw_account.specs.Network.{is_input, is_input_of}
-use Rattle.fw_account.specs.Sound.{IsSound}
-use Rattle.fw_account.proofs.Network.{any_place, output_in_range}
+use Rattle.fw_terms.specs.declared.plug.PlugAt.{PlugAt}
+use Rattle.fw_log_entry.specs.declared.entry.ResetEntry.{ResetEntry}
+use Rattle.fw_log_entry.specs.Network.{HasRange}
+use Rattle.fw_model_account.specs.Account.{Account, has_connection}
+use Rattle.fw_model_account.specs.Network.{is_input, is_input_of}
+use Rattle.fw_model_account.specs.Sound.{IsSound}
+use Rattle.fw_model_account.proofs.Network.{any_place, output_in_range}
 use Rattle.fw_holders.proofs.PlugLaws.{plug_line_is}
-use Rattle.fw_who.specs.Names.{nodes_of}
+use Rattle.fw_holders_text.specs.Names.{nodes_of}
 use Rattle.fw_holders.specs.Table.{input_line, output_line, plug_line}
 use Rattle.fw_holders_laws.proofs.Lines.{some_begin}
 

@@ -2,26 +2,26 @@
 use Rattle.std.proofs.Common.{◌≡◌, ◌==◌, ◌&&◌, ℕ, Bool, true, false, cond, List, [], ◌∷◌, ◌++◌, Option, Some, None, is_none, is_some, refl, ap, sym, subst, ◌∙◌, codes}
 use Rattle.fw_async.specs.declared.packet.Packet.{Packet}
 use Rattle.fw_async.specs.declared.packet.Packet.TheVariants.{WriteQuadlet, WriteBlock, WriteReply, ReadQuadlet, ReadBlock, ReadQuadletReply, ReadBlockReply, CycleStart, Lock, LockReply}
-use Rattle.fw_base.specs.Labels.{label_code}
-use Rattle.fw_base.specs.declared.label.Label.TheVariants.{Procedure}
-use Rattle.fw_base.specs.declared.plug.PlugAt.{PlugAt}
+use Rattle.fw_terms.specs.Labels.{label_code}
+use Rattle.fw_terms.specs.declared.label.Label.TheVariants.{Procedure}
+use Rattle.fw_terms.specs.declared.plug.PlugAt.{PlugAt}
 use Rattle.fw_words.specs.Quadlet.{quadlet_at}
-use Rattle.fw_entry.specs.Network.{device_of_id}
-use Rattle.fw_entry.specs.declared.codes.event.TheConstants.{SECOND_OVER, DIED, WITHHELD}
-use Rattle.fw_entry.specs.declared.entry.Entry.{Entry}
-use Rattle.fw_entry.specs.declared.entry.Entry.TheVariants.{Reset, Async, Iso, Event, Outcome, Shown, End}
-use Rattle.fw_entry.specs.declared.entry.EventEntry.{EventEntry}
-use Rattle.fw_entry.specs.declared.entry.Timed.{Timed}
-use Rattle.fw_account.specs.Account.{Account, Operation, Reads, Locks, Request}
-use Rattle.fw_account.specs.Decode.{move_at}
-use Rattle.fw_account.specs.Events.{after_second, after_death, after_withholding}
-use Rattle.fw_account.specs.Fold.{account_from, account_of, after_event, entries_of, next_account, no_account}
-use Rattle.fw_account.specs.Moves.{Move}
-use Rattle.fw_account.specs.Packets.{Reply, Read, Locked, asked, asked_by, is_reply_to, is_swapped, moved, swapped, replied, replied_to, answered, ended, after_packet}
-use Rattle.fw_account.specs.Words.{Register, register_of}
-use Rattle.fw_account.proofs.Fold.{account_from-append}
+use Rattle.fw_log_entry.specs.Network.{device_of_id}
+use Rattle.fw_log_entry.specs.declared.codes.event.TheConstants.{SECOND_OVER, DIED, WITHHELD}
+use Rattle.fw_log_entry.specs.declared.entry.Entry.{Entry}
+use Rattle.fw_log_entry.specs.declared.entry.Entry.TheVariants.{Reset, Async, Iso, Event, Outcome, Shown, End}
+use Rattle.fw_log_entry.specs.declared.entry.EventEntry.{EventEntry}
+use Rattle.fw_log_entry.specs.declared.entry.Timed.{Timed}
+use Rattle.fw_model_account.specs.Account.{Account, Operation, Reads, Locks, Request}
+use Rattle.fw_model_account.specs.Decode.{move_at}
+use Rattle.fw_model_account.specs.Events.{after_second, after_death, after_withholding}
+use Rattle.fw_model_account.specs.Fold.{account_from, account_of, after_event, entries_of, next_account, no_account}
+use Rattle.fw_model_account.specs.Moves.{Move}
+use Rattle.fw_model_account.specs.Packets.{Reply, Read, Locked, asked, asked_by, is_reply_to, is_swapped, moved, swapped, replied, replied_to, answered, ended, after_packet}
+use Rattle.fw_model_account.specs.Words.{Register, register_of}
+use Rattle.fw_model_account.proofs.Fold.{account_from-append}
 use Rattle.fw_audit.proofs.Audits.{account_push}
-use Rattle.fw_faults.specs.Looked.{Replies, Other, Response, looked_packet, quadlet_in}
+use Rattle.fw_model_audit.specs.Looked.{Replies, Other, Response, looked_packet, quadlet_in}
 use Rattle.fw_holders.specs.Deeds.{death_text, event_told, move_told, swap_told, answer_told, reply_told, response_told, packet_told, told}
 use Rattle.fw_holders.specs.Told.{entry_line, holders, line, line_of, rest_of_line}
 use Rattle.fw_holders.proofs.HoldsLaws.{entries_push}

@@ -2,19 +2,19 @@
 use Rattle.std.proofs.Common.{◌≡◌, ◌==◌, ◌&&◌, ℕ, Bool, true, false, cond, List, Option, Some, None, refl}
 use Rattle.fw_async.specs.declared.packet.Packet.{Packet}
 use Rattle.fw_async.specs.declared.packet.Packet.TheVariants.{WriteQuadlet, WriteBlock, WriteReply, ReadQuadlet, ReadBlock, ReadQuadletReply, ReadBlockReply, CycleStart, Lock, LockReply}
-use Rattle.fw_base.specs.Labels.{label_code}
-use Rattle.fw_base.specs.declared.label.Label.TheVariants.{Procedure}
-use Rattle.fw_base.specs.declared.plug.PlugAt.{PlugAt}
+use Rattle.fw_terms.specs.Labels.{label_code}
+use Rattle.fw_terms.specs.declared.label.Label.TheVariants.{Procedure}
+use Rattle.fw_terms.specs.declared.plug.PlugAt.{PlugAt}
 use Rattle.fw_words.specs.Quadlet.{quadlet_at}
-use Rattle.fw_entry.specs.Network.{device_of_id}
-use Rattle.fw_account.specs.Account.{Account, Operation, Reads, Locks, Request}
-use Rattle.fw_account.specs.Decode.{move_at}
-use Rattle.fw_account.specs.Moves.{Move}
-use Rattle.fw_account.specs.Packets.{Reply, Read, Locked, is_reply_to, is_swapped, moved, swapped, replied, replied_to, answered, ended, after_packet}
-use Rattle.fw_account.specs.Sound.{IsSound}
-use Rattle.fw_account.specs.Words.{Register, register_of}
-use Rattle.fw_account.proofs.Decoded.{move_at_is}
-use Rattle.fw_faults.specs.Looked.{Asks, Replies, Other, Response, looked_packet, quadlet_in}
+use Rattle.fw_log_entry.specs.Network.{device_of_id}
+use Rattle.fw_model_account.specs.Account.{Account, Operation, Reads, Locks, Request}
+use Rattle.fw_model_account.specs.Decode.{move_at}
+use Rattle.fw_model_account.specs.Moves.{Move}
+use Rattle.fw_model_account.specs.Packets.{Reply, Read, Locked, is_reply_to, is_swapped, moved, swapped, replied, replied_to, answered, ended, after_packet}
+use Rattle.fw_model_account.specs.Sound.{IsSound}
+use Rattle.fw_model_account.specs.Words.{Register, register_of}
+use Rattle.fw_model_account.proofs.Decoded.{move_at_is}
+use Rattle.fw_model_audit.specs.Looked.{Asks, Replies, Other, Response, looked_packet, quadlet_in}
 use Rattle.fw_holders.specs.Deeds.{move_told, swap_told, answer_told, reply_told, response_told, packet_told}
 use Rattle.fw_holders_laws.specs.Moves.{IsMoveTold}
 

@@ -1,6 +1,6 @@
 -- Accounts with the same holders.
 use Rattle.std.specs.Prelude.{◌≡◌}
-use Rattle.fw_account.specs.Account.{Account}
+use Rattle.fw_model_account.specs.Account.{Account}
 
 -- all that is allocated, connected and reclaimable is the same, and what the plugs keep; requests may be others
 pub record HasSameHolders (l k : Account) : Type 0 where

@@ -1,9 +1,9 @@
 -- The lines of channels, by what is allocated and what is reclaimable in an account.
 use Rattle.std.specs.Prelude.{ℕ, zero, suc, Bool, List, [], ◌++◌, Option, Some, None, codes, decimal, if◌then◌else◌}
-use Rattle.fw_base.specs.declared.plug.PlugAt.{PlugAt}
-use Rattle.fw_entry.specs.declared.nodes.NodeRow.{NodeRow}
-use Rattle.fw_account.specs.Account.{Account, Allocation, Flow, Holder, Pending, Connected, Orphaned, plug_of}
-use Rattle.fw_who.specs.Names.{nodes_of, who}
+use Rattle.fw_terms.specs.declared.plug.PlugAt.{PlugAt}
+use Rattle.fw_log_entry.specs.declared.nodes.NodeRow.{NodeRow}
+use Rattle.fw_model_account.specs.Account.{Account, Allocation, Flow, Holder, Pending, Connected, Orphaned, plug_of}
+use Rattle.fw_holders_text.specs.Names.{nodes_of, who}
 use Rattle.fw_holders.specs.Table.{units_words}
 
 -- how a holder has its channel

@@ -1,13 +1,13 @@
 -- What a line tells of a move.
 use Rattle.std.specs.Prelude.{◌≡◌, ℕ, List}
-use Rattle.fw_base.specs.declared.plug.PlugAt.{PlugAt}
-use Rattle.fw_account.specs.Account.{Account}
-use Rattle.fw_account.specs.Decode.{IsMove}
-use Rattle.fw_account.specs.Moves.{Move, after}
-use Rattle.fw_account.specs.Packets.{ended}
-use Rattle.fw_account.specs.Words.{Register}
+use Rattle.fw_terms.specs.declared.plug.PlugAt.{PlugAt}
+use Rattle.fw_model_account.specs.Account.{Account}
+use Rattle.fw_model_account.specs.Decode.{IsMove}
+use Rattle.fw_model_account.specs.Moves.{Move, after}
+use Rattle.fw_model_account.specs.Packets.{ended}
+use Rattle.fw_model_account.specs.Words.{Register}
 use Rattle.fw_holders.specs.Moves.{deed_of, done_text}
-use Rattle.fw_who.specs.Names.{nodes_of}
+use Rattle.fw_holders_text.specs.Names.{nodes_of}
 
 -- a move was made, which makes the one account of the other, and this text is that of its controller and of it
 pub record IsMoveTold (l k : Account) (what : List ℕ) : Type 0 where

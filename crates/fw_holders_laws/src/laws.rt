@@ -2,13 +2,13 @@
 
 ghost use Rattle.std.specs.Prelude.{◌≡◌, ◌↔◌, ◌<◌, ◌+◌, ◌++◌, ◌⊎◌, [], List, Some, ℕ, IsTrue, IsFalse};
 ghost use Rattle.fw_async.specs.declared.packet.Packet.{Packet};
-ghost use Rattle.fw_base.specs.declared.plug.PlugAt.{PlugAt};
-ghost use Rattle.fw_entry.specs.declared.entry.Entry.TheVariants.{Async};
-ghost use Rattle.fw_entry.specs.declared.entry.Timed.{Timed};
-ghost use Rattle.fw_account.specs.Account.{Account, Flow, has_connection, total};
-ghost use Rattle.fw_account.specs.Fold.{account_of, entries_of, next_account};
-ghost use Rattle.fw_account.specs.Sound.{IsSound};
-ghost use Rattle.fw_account.specs.Words.{BandwidthAvailable, word_of};
+ghost use Rattle.fw_terms.specs.declared.plug.PlugAt.{PlugAt};
+ghost use Rattle.fw_log_entry.specs.declared.entry.Entry.TheVariants.{Async};
+ghost use Rattle.fw_log_entry.specs.declared.entry.Timed.{Timed};
+ghost use Rattle.fw_model_account.specs.Account.{Account, Flow, has_connection, total};
+ghost use Rattle.fw_model_account.specs.Fold.{account_of, entries_of, next_account};
+ghost use Rattle.fw_model_account.specs.Sound.{IsSound};
+ghost use Rattle.fw_model_account.specs.Words.{BandwidthAvailable, word_of};
 ghost use Rattle.fw_holders.specs.Counts.{judged_of};
 ghost use Rattle.fw_holders.specs.Deeds.{told};
 ghost use Rattle.fw_holders.specs.Table.{input_line, judged_line, left_line, output_line, plug_lines};
@@ -26,7 +26,7 @@ pub fn tables_tell_the_account()
     ensures left { (l : Account) → IsSound l → total l.allocations + word_of l BandwidthAvailable ≡ 4915 }
 {}
 
-/// The plugs of the table are those that have a connection: a plug has a line exactly where it has one, and each plug that has one
+/// The plugs of the table are those that have a connection: a plug has a line exactly if it has one, and each plug that has one
 /// is among those that the table goes through.
 pub fn tables_tell_the_connections()
     ensures outputs { (l : Account) (p : PlugAt) → (output_line l p ≡ []) ↔ IsFalse (has_connection (l.outputs p)) }

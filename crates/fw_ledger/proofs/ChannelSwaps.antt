@@ -1,26 +1,18 @@
 -- Swaps of CHANNELS_AVAILABLE.
-use Rattle.fw_base.specs.declared.plug.PlugAt.{PlugAt}
-use Rattle.std.proofs.Common.{◌≡◌, ◌≢◌, ◌<◌, ◌+◌, ◌-◌, ◌*◌, ◌^◌, inl, inr, ◌==◌, ◌&&◌, not, nat_lt, ℕ, true, false, Option, Some, None, length, slice_set, Vec, Global, cond, refl, sym, ◌∙◌, ap, arith, length-set}
-use Rattle.std.proofs.lemmas.Bool.Decides.{nat_tests}
-use Rattle.std.proofs.lemmas.Bool.{false≢true}
-use Rattle.fw_base.specs.Tables.{update}
-use Rattle.fw_base.proofs.Tables.{sum_to_same}
-use Rattle.fw_plug.specs.Words.{flag}
-use Rattle.fw_account.specs.Account.{Holder, Pending, Connected, Orphaned, Account, Allocation, allocated, is_free, is_open, is_withheld, is_pending_of}
-use Rattle.fw_account.specs.Moves.{Move, AllocateChannel, ReleaseChannel, with_allocation}
-use Rattle.fw_account.specs.Words.{ChannelsAvailable, word_of, channel_word}
-use Rattle.fw_account.specs.Decode.{IsMove, can, at_addressed, held_for, allowed}
-use Rattle.fw_account.specs.Sound.{IsSound}
-use Rattle.fw_ledger.specs.Stands.{StandsFor, Follows, allocation_of}
-use Rattle.fw_ledger.specs.Swaps.{IsHalf, half_of, with_half, holds_no_units, moved_by}
-use Rattle.fw_ledger.specs.declared.tables.Charge.{Charge}
-use Rattle.fw_ledger.specs.declared.tables.Charge.TheVariants.{Free, Pending as PendingCharge}
-use Rattle.fw_ledger.specs.declared.tables.Tables.{Tables}
-use Rattle.fw_account.proofs.Allocations.{total_changed}
-use Rattle.fw_account.proofs.Moves.{moves_keep}
-use Rattle.fw_account.proofs.Tests.{can_is, can_from}
-use Rattle.fw_account.proofs.Open.{open_is, opens, taken, same_open, not_withheld}
-use Rattle.fw_account.proofs.Words.{word_without}
+use Rattle.fw_ledger.proofs.Common.{PlugAt, ◌≡◌, ◌≢◌, ◌<◌, ◌+◌, ◌-◌, ◌*◌, ◌^◌, inl, inr, ◌==◌, ◌&&◌, not, nat_lt, ℕ, true, false, Option, Some, None, length, slice_set, Vec, Global, cond, refl, sym}
+use Rattle.fw_ledger.proofs.Common.{◌∙◌, ap, arith, length-set, nat_tests, false≢true, update, flag, Account, Allocation, is_free, is_open, Move, ChannelsAvailable, word_of, IsMove, allowed, IsSound}
+use Rattle.fw_ledger.proofs.Common.{StandsFor, Follows, allocation_of, moved_by, Charge, Free, Tables, moves_keep, same_open}
+use Rattle.fw_terms.proofs.Tables.{sum_to_same}
+use Rattle.fw_model_account.specs.Account.{Holder, Pending, Connected, Orphaned, allocated, is_withheld, is_pending_of}
+use Rattle.fw_model_account.specs.Moves.{AllocateChannel, ReleaseChannel, with_allocation}
+use Rattle.fw_model_account.specs.Words.{channel_word}
+use Rattle.fw_model_account.specs.Decode.{can, at_addressed, held_for}
+use Rattle.fw_ledger.specs.Swaps.{IsHalf, half_of, with_half, holds_no_units}
+use Rattle.fw_ledger.specs.declared.tables.Charge.TheVariants.{Pending as PendingCharge}
+use Rattle.fw_model_account.proofs.Allocations.{total_changed}
+use Rattle.fw_model_account.proofs.Tests.{can_is, can_from}
+use Rattle.fw_model_account.proofs.Open.{open_is, opens, taken, not_withheld}
+use Rattle.fw_model_account.proofs.Words.{word_without}
 use Rattle.fw_ledger.proofs.Related.{related_set, update_same, update_other}
 use Rattle.fw_ledger.proofs.Swapping.{swap_taken, swap_refused}
 

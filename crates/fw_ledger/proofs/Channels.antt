@@ -1,22 +1,19 @@
 -- The free channels as one number of 64 bits, and the registers of the resource manager in their ranges.
-use Rattle.std.proofs.Common.{◌≡◌, ◌<◌, ◌≤◌, ◌+◌, ◌-◌, ◌*◌, ◌%◌, ◌^◌, ◌⊎◌, inl, inr, ℕ, Bool, Option, List, ap, arith, ◌∙◌}
+use Rattle.fw_ledger.proofs.Common.{◌≡◌, ◌<◌, ◌≤◌, ◌+◌, ◌-◌, ◌*◌, ◌%◌, ◌^◌, ◌⊎◌, inl, inr, ℕ, Bool, Option, List, ap, arith, ◌∙◌, flag, Allocation, Account, is_open, ResourcesFor, StandsFor, Charge}
+use Rattle.fw_ledger.proofs.Common.{Tables}
 use Rattle.std.proofs.lemmas.Bool.{cases_lt}
 use Rattle.std.specs.Int.{bit_at}
 use Rattle.std.proofs.lemmas.Nat.Bits.{bit_at_cat_low, bit_at_cat_high}
-use Rattle.fw_plug.specs.Words.{flag}
-use Rattle.fw_account.specs.Account.{Allocation, Account, is_open}
-use Rattle.fw_account.specs.Words.{bits_word}
-use Rattle.fw_ledger.specs.Stands.{ResourcesFor, StandsFor}
-use Rattle.fw_ledger.specs.declared.tables.Charge.{Charge}
-use Rattle.fw_ledger.specs.declared.tables.Tables.{Tables}
-use Rattle.fw_account.proofs.Words.{bits_below, bit_is}
+use Rattle.fw_model_account.specs.Words.{bits_word}
+use Rattle.fw_model_account.proofs.Words.{bits_below, bit_is}
 
 -- a half's word has 32 bits
 pub word_fits : (free : ℕ → Bool) → bits_word free < 2 ^ 32
 word_fits free = bits_below 32 (λ i. free (31 - i))
 
 -- the words of a table fit 32 bits
-pub halves_fit : (withheld : Bool) (units high low : ℕ) (charges : List Charge) (allocations : ℕ → Option Allocation) → ResourcesFor withheld units high low charges allocations → (units < 2 ^ 32) × (high < 2 ^ 32) × (low < 2 ^ 32)
+pub halves_fit : (withheld : Bool) (units high low : ℕ) (charges : List Charge) (allocations : ℕ → Option Allocation) → ResourcesFor withheld units high low charges allocations → (units < 2 ^ 32)
+    × (high < 2 ^ 32) × (low < 2 ^ 32)
 halves_fit withheld units high low charges allocations h =
     (omega (arith, h.left), rw h.high (word_fits (λ i. is_open withheld allocations (0 + i))), rw h.low (word_fits (λ i. is_open withheld allocations (32 + i))))
 

@@ -1,27 +1,18 @@
 -- Swaps of input plug registers.
-use Rattle.fw_base.specs.declared.plug.PlugAt.{PlugAt}
-use Rattle.fw_base.specs.declared.plug.ConnectionKind.{ConnectionKind}
-use Rattle.std.proofs.Common.{◌≡◌, ◌≢◌, ◌<◌, ◌+◌, ◌==◌, ◌||◌, not, nat_lt, ℕ, Bool, true, false, Some, slice_index, slice_set, cond, refl, sym, ◌∙◌, ap, subst, arith, length-set}
-use Rattle.std.proofs.lemmas.Bool.Decides.{nat_tests}
-use Rattle.std.specs.Vec.{with_item}
-use Rattle.fw_base.specs.Tables.{update_plug}
-use Rattle.fw_base.proofs.Tables.{update_plug_same}
-use Rattle.fw_words.specs.Quadlet.{field}
-use Rattle.fw_plug.specs.Words.{InFields, in_word, in_fields, is_connected}
-use Rattle.fw_account.specs.Account.{Account, Connections, counter, has_connection, is_there}
-use Rattle.fw_account.specs.Moves.{ConnectInput, DisconnectInput, HasRoom, HasConnection, after, add_connection, drop_connection}
-use Rattle.fw_account.specs.Words.{InputPlug, word_of, input_fields_at}
-use Rattle.fw_account.specs.Network.{is_input}
-use Rattle.fw_account.specs.Decode.{IsMove, has_connection_of, is_more, kind_of, decoded, allowed, move_at}
-use Rattle.fw_account.specs.Sound.{IsSound}
-use Rattle.fw_ledger.specs.Stands.{StandsFor, Follows, InputsFor, SeatsFor, place, word_at, seats_at, no_seats}
-use Rattle.fw_ledger.specs.Swaps.{Shows, shows_room, keeps_channel, with_channel, connection_value, moved_by}
-use Rattle.fw_ledger.specs.declared.tables.Seats.{Seats}
-use Rattle.fw_ledger.specs.declared.tables.Tables.{Tables}
-use Rattle.fw_account.proofs.Decoded.{input_of_word}
-use Rattle.fw_account.proofs.Moves.{moves_keep}
+use Rattle.fw_ledger.proofs.Common.{PlugAt, ConnectionKind, ◌≡◌, ◌≢◌, ◌<◌, ◌+◌, ◌==◌, ◌||◌, not, nat_lt, ℕ, Bool, true, false, Some, slice_index, slice_set, cond, refl, sym, ◌∙◌, ap, subst, arith}
+use Rattle.fw_ledger.proofs.Common.{length-set, nat_tests, with_item, field, in_word, is_connected, Account, Connections, counter, has_connection, is_there, word_of, is_input, IsMove, decoded}
+use Rattle.fw_ledger.proofs.Common.{allowed, move_at, IsSound, StandsFor, Follows, SeatsFor, place, word_at, seats_at, no_seats, shows_room, connection_value, moved_by, Seats, Tables, moves_keep}
+use Rattle.fw_terms.specs.Tables.{update_plug}
+use Rattle.fw_terms.proofs.Tables.{update_plug_same}
+use Rattle.fw_plug.specs.Words.{InFields, in_fields}
+use Rattle.fw_model_account.specs.Moves.{ConnectInput, DisconnectInput, HasRoom, HasConnection, after, add_connection, drop_connection}
+use Rattle.fw_model_account.specs.Words.{InputPlug, input_fields_at}
+use Rattle.fw_model_account.specs.Decode.{has_connection_of, is_more, kind_of}
+use Rattle.fw_ledger.specs.Stands.{InputsFor}
+use Rattle.fw_ledger.specs.Swaps.{Shows, keeps_channel, with_channel}
+use Rattle.fw_model_account.proofs.Decoded.{input_of_word}
 use Rattle.fw_ledger.proofs.Plugs.{input_in_range}
-use Rattle.fw_account.proofs.Tests.{has_room-true, has_room_from, has_connection_of-true, has_connection_of_from, either}
+use Rattle.fw_model_account.proofs.Tests.{has_room-true, has_room_from, has_connection_of-true, has_connection_of_from, either}
 use Rattle.fw_ledger.proofs.Swapping.{swap_taken, swap_refused, swap_decoded, plug_set}
 use Rattle.fw_ledger.proofs.PlugSwaps.{plug_other, input_shows, room_is, connected_is, bits_more, bits_less}
 

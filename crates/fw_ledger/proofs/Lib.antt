@@ -1,3 +1,4 @@
+pub mod Common
 pub mod Starts
 pub mod Plugs
 pub mod Channels
@@ -7,6 +8,7 @@ pub mod Seconds
 pub mod Orphans
 pub mod PlugCounts
 pub mod ResetWords
+pub mod Renewals
 pub mod ResetTables
 pub mod Replies
 pub mod Swapping

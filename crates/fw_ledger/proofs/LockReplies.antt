@@ -1,35 +1,26 @@
 -- The tables after the response to a lock request.
-use Rattle.fw_base.specs.declared.plug.PlugAt.{PlugAt}
-use Rattle.std.proofs.Common.{◌≡◌, ◌<◌, ◌==◌, ◌&&◌, ℕ, Bool, true, false, Option, Some, None, List, length, cond, refl, sym, ◌∙◌, ap, subst, arith}
-use Rattle.std.specs.Option.{option_map}
-use Rattle.std.proofs.lemmas.Bool.Decides.{nat_tests}
-use Rattle.std.proofs.lemmas.Bool.{false≢true}
+use Rattle.fw_ledger.proofs.Common.{PlugAt, ◌≡◌, ◌<◌, ◌==◌, ◌&&◌, ℕ, Bool, true, false, Option, Some, None, List, length, cond, refl, sym, ◌∙◌, ap, subst, arith, option_map, nat_tests, false≢true}
+use Rattle.fw_ledger.proofs.Common.{Account, Request, Locks, Move, IsSound, word_of, IsMove, move_at, StandsFor, AskedFor, moved_by, GoesOn, response_in, Asked, Tables, NotAsked}
 use Rattle.std.proofs.lemmas.Option.{same_Some}
 use Rattle.fw_async.specs.declared.packet.Head.{Head}
 use Rattle.fw_words.specs.Quadlet.{quadlet_at}
 use Rattle.fw_words.specs.Swaps.{quadlet_swap}
 use Rattle.fw_words.specs.declared.swap.Swap.{Swap as TheSwap}
-use Rattle.fw_entry.specs.Network.{device_of_id}
-use Rattle.fw_account.specs.Account.{Account, Request, Reads, Locks}
-use Rattle.fw_account.specs.Moves.{Move}
-use Rattle.fw_account.specs.Sound.{IsSound}
-use Rattle.fw_account.specs.Words.{Register, register_of, word_of}
-use Rattle.fw_account.specs.Decode.{IsMove, move_at}
-use Rattle.fw_account.specs.Packets.{Locked, ended, is_swapped, is_reply_to, swapped, moved, replied_to, is_quadlet_swap}
-use Rattle.fw_account.proofs.Decoded.{move_found}
-use Rattle.fw_faults.specs.Looked.{Response, Replies, IsAnswer, quadlet_in}
-use Rattle.fw_faults.specs.Faults.{IsBadSwap}
-use Rattle.fw_faults.proofs.Refusals.{IsRegisterAt, same_request}
-use Rattle.fw_faults.proofs.Verdicts.{register_placed}
-use Rattle.fw_ledger.specs.Stands.{StandsFor, AskedFor}
-use Rattle.fw_ledger.specs.Swaps.{account_after, moved_by, shows_argument}
+use Rattle.fw_log_entry.specs.Network.{device_of_id}
+use Rattle.fw_model_account.specs.Account.{Reads}
+use Rattle.fw_model_account.specs.Words.{Register, register_of}
+use Rattle.fw_model_account.specs.Packets.{Locked, ended, is_swapped, is_reply_to, swapped, moved, replied_to, is_quadlet_swap}
+use Rattle.fw_model_account.proofs.Decoded.{move_found}
+use Rattle.fw_model_audit.specs.Looked.{Response, Replies, IsAnswer, quadlet_in}
+use Rattle.fw_model_audit.specs.Faults.{IsBadSwap}
+use Rattle.fw_model_audit.proofs.Refusals.{IsRegisterAt, same_request}
+use Rattle.fw_model_audit.proofs.Verdicts.{register_placed}
+use Rattle.fw_ledger.specs.Swaps.{account_after, shows_argument}
 use Rattle.fw_ledger.specs.Swapped.{is_lock_of, swap_done, account_swapped}
-use Rattle.fw_ledger.specs.Refused.{GoesOn, IsRefusedFor, IsSwapRefused, response_in, word_asked}
+use Rattle.fw_ledger.specs.Refused.{IsRefusedFor, IsSwapRefused, word_asked}
 use Rattle.fw_ledger.specs.declared.refused.Refused.{Refused}
 use Rattle.fw_ledger.specs.declared.refused.Refused.TheVariants.{Orphan, NoMove}
-use Rattle.fw_ledger.specs.declared.tables.Asked.{Asked}
-use Rattle.fw_ledger.specs.declared.tables.Tables.{Tables}
-use Rattle.fw_ledger.specs.declared.tables.Asked.TheVariants.{Nothing as NotAsked, Read, Swap, Lock}
+use Rattle.fw_ledger.specs.declared.tables.Asked.TheVariants.{Read, Swap, Lock}
 use Rattle.fw_ledger.proofs.Replies.{IsEnded, ended_answer, orphan_by}
 
 -- ---- what is asked
@@ -119,7 +110,8 @@ lock_ended l c h rcode function old (Lock target address asked) is holds = recor
 }
 
 -- what it makes
-pub lock_next : (l : Account) (c : ℕ) (h : Head) (rcode function : ℕ) (old : List ℕ) (a : Asked) (q : Request) → l.outstanding c ≡ Some q → AskedFor a (l.outstanding c) → is_lock_of a h.source function ≡ true
+pub lock_next : (l : Account) (c : ℕ) (h : Head) (rcode function : ℕ) (old : List ℕ) (a : Asked) (q : Request) → l.outstanding c ≡ Some q → AskedFor a (l.outstanding c)
+    → is_lock_of a h.source function ≡ true
     → replied_to c (l.outstanding c) h.source (Locked function rcode old) l ≡ option_map (ended c) (account_swapped c (register_of l.latest q.target q.address) (swap_done a rcode old) l)
 lock_next l c h rcode function old NotAsked q out is holds = absurd (false≢true holds)
 lock_next l c h rcode function old (Read target address) q out is holds = absurd (false≢true holds)
@@ -179,8 +171,10 @@ stops l c source function rcode old (Some q) none = go (q.target == source) (is_
     go true false e f = rw (e, f) refl
     go false b e f = rw e refl
 
-pub lock_refused : (l : Account) (c : ℕ) (h : Head) (rcode function : ℕ) (old : List ℕ) (a : Asked) → device_of_id l.latest h.destination ≡ Some c → AskedFor a (l.outstanding c) → is_lock_of a h.source function ≡ false
-    → (replied_to c (l.outstanding c) h.source (Locked function rcode old) l ≡ None) × IsRefusedFor l (Replies (response_in h rcode (Locked function rcode old) (quadlet_in old))) (Orphan h.destination)
+pub lock_refused : (l : Account) (c : ℕ) (h : Head) (rcode function : ℕ) (old : List ℕ) (a : Asked) → device_of_id l.latest h.destination ≡ Some c → AskedFor a (l.outstanding c)
+    → is_lock_of a h.source function ≡ false
+    → (replied_to c (l.outstanding c) h.source (Locked function rcode old) l ≡ None)
+    × IsRefusedFor l (Replies (response_in h rcode (Locked function rcode old) (quadlet_in old))) (Orphan h.destination)
 lock_refused l c h rcode function old a d is fails =
     let none = lock_other l c h.source function rcode old a is fails in
     (stops l c h.source function rcode old (l.outstanding c) none, orphan_by l (response_in h rcode (Locked function rcode old) (quadlet_in old)) c d none)
@@ -275,7 +269,8 @@ lock_goes mid new l c h rcode function old a o done x is holds place made on end
     subst (GoesOn new) (sym n) (goes new c (account_swapped c (register_of l.latest x.request.target x.request.address) (swap_done a rcode old) l) mid at end)
 
 pub lock_stopped : (t mid : Tables) (l : Account) (c : ℕ) (h : Head) (rcode function : ℕ) (old : List ℕ) (a : Asked) (o : Option Register) (done : Option TheSwap) (f : Refused) → c < 63 → IsSound l
-    → device_of_id l.latest h.destination ≡ Some c → (x : IsEnded l c (response_in h rcode (Locked function rcode old) (quadlet_in old)) a) → AskedFor a (l.outstanding c) → is_lock_of a h.source function ≡ true
+    → device_of_id l.latest h.destination ≡ Some c → (x : IsEnded l c (response_in h rcode (Locked function rcode old) (quadlet_in old)) a) → AskedFor a (l.outstanding c)
+    → is_lock_of a h.source function ≡ true
     → o ≡ register_of l.latest x.request.target x.request.address → done ≡ swap_done a rcode old → (account_swapped c o done l ≡ None) × (mid ≡ t) × IsSwapRefused l c o done f
     → (replied_to c (l.outstanding c) h.source (Locked function rcode old) l ≡ None) × (mid ≡ t) × IsRefusedFor l (Replies (response_in h rcode (Locked function rcode old) (quadlet_in old))) f
 lock_stopped t mid l c h rcode function old a o done f lt sound d x is holds place made stop =

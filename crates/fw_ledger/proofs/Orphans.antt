@@ -1,31 +1,21 @@
 -- The tables after the death of a controller.
-use Rattle.fw_base.specs.declared.plug.PlugAt.{PlugAt}
-use Rattle.std.proofs.Common.{◌≡◌, ◌≢◌, ◌<◌, ◌≤◌, ◌+◌, zero, suc, [], ◌∷◌, ◌-◌, ◌*◌, ◌^◌, ◌⊎◌, inl, inr, ℕ, Bool, true, false, nat_lt, Option, Some, None, List, length, map, get_or, slice_set, Vec, Global, cond, refl, sym, ◌∙◌, ap, arith, get_or-set_same, get_or-set_other, length-set}
-use Rattle.std.proofs.lemmas.Bool.{cases_eq}
-use Rattle.std.proofs.lemmas.Bool.Decides.{nat_tests}
+use Rattle.fw_ledger.proofs.Common.{PlugAt, ◌≡◌, ◌≢◌, ◌<◌, ◌≤◌, ◌+◌, zero, suc, [], ◌-◌, ◌*◌, ◌^◌, ◌⊎◌, inl, inr, ℕ, Bool, true, false, nat_lt, Option, Some, None, List, length, map, get_or}
+use Rattle.fw_ledger.proofs.Common.{slice_set, Vec, Global, cond, refl, sym, ◌∙◌, ap, arith, get_or-set_same, get_or-set_other, length-set, cases_eq, nat_tests, update, flag, Account, Allocation}
+use Rattle.fw_ledger.proofs.Common.{Connections, is_free, is_open, is_output, is_input, orphaned_charge, orphaned_seats, StandsFor, ResourcesFor, SeatsFor, AskedFor, allocation_of, seats_at, no_seats}
+use Rattle.fw_ledger.proofs.Common.{place, Tables, Charge, Free, Pending, Connected, Seats, Asked, NotAsked, same_open, output_in_range}
+use Rattle.std.proofs.Common.{◌∷◌}
 use Rattle.std.specs.Vec.{with_items}
 use Rattle.std.proofs.lemmas.List.{with_items_is}
-use Rattle.fw_base.specs.Tables.{update}
-use Rattle.fw_base.proofs.Tables.{sum_to_same}
-use Rattle.fw_plug.specs.Words.{flag}
-use Rattle.fw_account.specs.Account.{Account, Allocation, Connections, is_free, is_open}
-use Rattle.fw_account.specs.Network.{is_output, is_input}
-use Rattle.fw_account.specs.Events.{after_death, orphaned_allocation, orphaned_connections, orphaned_owner}
-use Rattle.fw_account.specs.Words.{bits_word}
-use Rattle.fw_ledger.specs.Deaths.{orphaned_charge, orphaned_seats, orphaned_broadcaster}
-use Rattle.fw_ledger.specs.Stands.{StandsFor, ResourcesFor, SeatsFor, OutputsFor, InputsFor, AskedFor, allocation_of, owner_of, asked_at, seats_at, no_seats, place}
-use Rattle.fw_ledger.specs.declared.tables.Tables.{Tables}
-use Rattle.fw_ledger.specs.declared.tables.Charge.{Charge}
-use Rattle.fw_ledger.specs.declared.tables.Charge.TheVariants.{Free, Pending, Connected, Orphaned}
+use Rattle.fw_terms.proofs.Tables.{sum_to_same}
+use Rattle.fw_model_account.specs.Events.{after_death, orphaned_allocation, orphaned_connections, orphaned_owner}
+use Rattle.fw_model_account.specs.Words.{bits_word}
+use Rattle.fw_ledger.specs.Deaths.{orphaned_broadcaster}
+use Rattle.fw_ledger.specs.Stands.{OutputsFor, InputsFor, owner_of, asked_at}
+use Rattle.fw_ledger.specs.declared.tables.Charge.TheVariants.{Orphaned}
 use Rattle.fw_ledger.specs.declared.tables.Broadcaster.{Broadcaster}
 use Rattle.fw_ledger.specs.declared.tables.Broadcaster.TheVariants.{Nobody, Controller, Died}
-use Rattle.fw_ledger.specs.declared.tables.Seats.{Seats}
-use Rattle.fw_ledger.specs.declared.tables.Asked.{Asked}
-use Rattle.fw_ledger.specs.declared.tables.Asked.TheVariants.{Nothing as NotAsked}
-use Rattle.fw_account.proofs.Deaths.{death_keeps, orphaned_total, orphaned_counter, orphaned_there}
-use Rattle.fw_account.proofs.Connections.{NoneBeyond}
-use Rattle.fw_account.proofs.Open.{same_open}
-use Rattle.fw_account.proofs.Network.{output_in_range}
+use Rattle.fw_model_account.proofs.Deaths.{death_keeps, orphaned_total, orphaned_counter, orphaned_there}
+use Rattle.fw_model_account.proofs.Connections.{NoneBeyond}
 use Rattle.fw_ledger.proofs.Plugs.{input_in_range, place_low}
 use Rattle.fw_ledger.proofs.Related.{related_set, update_same, update_other}
 

@@ -1,30 +1,24 @@
 -- Swaps of output plug registers.
-use Rattle.fw_base.specs.declared.plug.PlugAt.{PlugAt}
-use Rattle.fw_base.specs.declared.plug.ConnectionKind.{ConnectionKind}
-use Rattle.std.proofs.Common.{◌≡◌, ◌≢◌, ◌<◌, ◌≤◌, ◌+◌, ◌&&◌, not, nat_lt, ℕ, Bool, true, false, Option, Some, length, slice_index, slice_set, Vec, Global, cond, refl, sym, ◌∙◌, ap, subst, arith, length-set, true≢false}
-use Rattle.std.specs.Vec.{with_item}
-use Rattle.fw_base.specs.Tables.{update_plug}
-use Rattle.fw_base.proofs.Tables.{update_plug_same}
-use Rattle.fw_plug.specs.Words.{OutFields, Settings, FitsRegister, out_word, out_fields, is_connected, units_of}
-use Rattle.fw_plug.specs.Units.{units}
-use Rattle.fw_account.specs.Account.{Pending, Connected, Account, Allocation, Connections, allocated, counter, has_connection, has_pending, is_free, is_there}
-use Rattle.fw_account.specs.Moves.{Move, HasRoom, HasConnection, ConnectFirst, ConnectOverlaid, DisconnectOutput, CanDisconnectOutput, HasNoPending, after, add_connection, drop_connection, made_connected, made_pending}
-use Rattle.fw_account.specs.Words.{OutputPlug, word_of, fields_at}
-use Rattle.fw_account.specs.Network.{is_output}
-use Rattle.fw_account.specs.Decode.{IsMove, is_held, is_plug, has_connection_of, is_more, kind_of, decoded, allowed, move_at}
-use Rattle.fw_account.specs.Sound.{IsSound}
-use Rattle.fw_ledger.specs.Stands.{StandsFor, Follows, ResourcesFor, OutputsFor, SecondFor, SeatsFor, allocation_of, charge_at, continues_at, place, word_at, seats_at, no_seats}
-use Rattle.fw_ledger.specs.Swaps.{Shows, shows_room, connection_value, connected_once, is_broadcast, moved_by}
-use Rattle.fw_ledger.specs.declared.tables.Charge.{Charge}
+use Rattle.fw_ledger.proofs.Common.{PlugAt, ConnectionKind, ◌≡◌, ◌≢◌, ◌<◌, ◌≤◌, ◌+◌, ◌&&◌, not, nat_lt, ℕ, Bool, true, false, Option, Some, length, slice_index, slice_set, Vec, Global, cond, refl}
+use Rattle.fw_ledger.proofs.Common.{sym, ◌∙◌, ap, subst, arith, length-set, true≢false, with_item, out_word, out_fields, is_connected, units, Account, Allocation, Connections, counter, has_connection}
+use Rattle.fw_ledger.proofs.Common.{is_free, is_there, Move, word_of, is_output, IsMove, decoded, allowed, move_at, IsSound, StandsFor, Follows, ResourcesFor, SeatsFor, allocation_of, charge_at}
+use Rattle.fw_ledger.proofs.Common.{place, word_at, seats_at, no_seats, shows_room, connection_value, moved_by, Charge, Seats, Tables, moves_keep, output_in_range}
+use Rattle.fw_terms.specs.Tables.{update_plug}
+use Rattle.fw_terms.proofs.Tables.{update_plug_same}
+use Rattle.fw_plug.specs.Words.{OutFields, Settings, FitsRegister, units_of}
+use Rattle.fw_model_account.specs.Account.{Pending, Connected, allocated, has_pending}
+use Rattle.fw_model_account.specs.Moves.{HasRoom, HasConnection, ConnectFirst, ConnectOverlaid, DisconnectOutput, CanDisconnectOutput}
+use Rattle.fw_model_account.specs.Moves.{HasNoPending, after, add_connection, drop_connection, made_connected, made_pending}
+use Rattle.fw_model_account.specs.Words.{OutputPlug, fields_at}
+use Rattle.fw_model_account.specs.Decode.{is_held, is_plug, has_connection_of, is_more, kind_of}
+use Rattle.fw_ledger.specs.Stands.{OutputsFor, SecondFor, continues_at}
+use Rattle.fw_ledger.specs.Swaps.{Shows, connected_once, is_broadcast}
 use Rattle.fw_ledger.specs.declared.tables.Charge.TheVariants.{Pending as PendingCharge, Connected as ConnectedCharge}
-use Rattle.fw_ledger.specs.declared.tables.Seats.{Seats}
-use Rattle.fw_ledger.specs.declared.tables.Tables.{Tables}
-use Rattle.fw_account.proofs.Allocations.{total_changed}
-use Rattle.fw_account.proofs.Connections.{had_connection, fewer_connections}
-use Rattle.fw_account.proofs.Decoded.{output_of_word}
-use Rattle.fw_account.proofs.Moves.{moves_keep}
-use Rattle.fw_account.proofs.Network.{output_in_range}
-use Rattle.fw_account.proofs.Tests.{has_room-true, has_room_from, has_connection_of-true, has_connection_of_from, is_held-true, is_held_self, is_plug-true, is_plug_self, none_pending, no_pending_found}
+use Rattle.fw_model_account.proofs.Allocations.{total_changed}
+use Rattle.fw_model_account.proofs.Connections.{had_connection, fewer_connections}
+use Rattle.fw_model_account.proofs.Decoded.{output_of_word}
+use Rattle.fw_model_account.proofs.Tests.{has_room-true, has_room_from, has_connection_of-true, has_connection_of_from, is_held-true}
+use Rattle.fw_model_account.proofs.Tests.{is_held_self, is_plug-true, is_plug_self, none_pending, no_pending_found}
 use Rattle.fw_ledger.proofs.Swapping.{swap_taken, swap_refused, swap_decoded, charge_set, plug_set}
 use Rattle.fw_ledger.proofs.PlugSwaps.{plug_other, output_shows, room_is, connected_is, units_of_word, bits_more, bits_less, once_there, once_counted}
 

@@ -1,22 +1,16 @@
 -- What the word of a plug says of its connections, and how one connection more or less changes it.
-use Rattle.fw_base.specs.declared.plug.PlugAt.{PlugAt}
-use Rattle.fw_base.specs.declared.plug.ConnectionKind.{ConnectionKind}
-use Rattle.fw_base.specs.declared.plug.ConnectionKind.TheVariants.{PointToPoint, Broadcast}
-use Rattle.std.proofs.Common.{◌≡◌, ◌≢◌, ◌<◌, ◌≤◌, ◌+◌, ◌-◌, ◌*◌, ◌⊎◌, inl, inr, ◌==◌, ◌||◌, not, nat_lt, ℕ, Bool, false, slice_index, cond, refl, ◌∙◌, ap, arith}
-use Rattle.std.proofs.lemmas.Bool.Decides.{nat_tests}
-use Rattle.fw_base.specs.Tables.{update_plug}
-use Rattle.fw_base.proofs.Tables.{update_plug_at, sum_to_at}
-use Rattle.fw_words.specs.Quadlet.{field}
-use Rattle.fw_plug.specs.Words.{OutFields, InFields, FitsRegister, flag, out_word, in_word, out_fields, in_fields, is_connected, units_of}
-use Rattle.fw_plug.specs.Units.{units}
+use Rattle.fw_ledger.proofs.Common.{PlugAt, ConnectionKind, ◌≡◌, ◌≢◌, ◌<◌, ◌≤◌, ◌+◌, ◌-◌, ◌*◌, ◌⊎◌, inl, inr, ◌==◌, ◌||◌, not, nat_lt, ℕ, Bool, false, slice_index, cond, refl, ◌∙◌, ap, arith}
+use Rattle.fw_ledger.proofs.Common.{nat_tests, field, flag, out_word, in_word, out_fields, is_connected, units, Connections, counter, has_connection, is_there, SeatsFor, shows_room, connection_value}
+use Rattle.fw_ledger.proofs.Common.{Seats}
+use Rattle.fw_terms.specs.declared.plug.ConnectionKind.TheVariants.{PointToPoint, Broadcast}
+use Rattle.fw_terms.specs.Tables.{update_plug}
+use Rattle.fw_terms.proofs.Tables.{update_plug_at, sum_to_at}
+use Rattle.fw_plug.specs.Words.{OutFields, InFields, FitsRegister, in_fields, units_of}
 use Rattle.fw_plug.proofs.Words.{fields_of_word, in_fields_of_word}
-use Rattle.fw_account.specs.Account.{Connections, counter, has_connection, is_there}
-use Rattle.fw_account.specs.Moves.{HasRoom, HasConnection, add_connection, drop_connection}
-use Rattle.fw_account.specs.Decode.{has_room}
-use Rattle.fw_ledger.specs.Stands.{SeatsFor}
-use Rattle.fw_ledger.specs.Swaps.{Shows, shows_room, connection_value, is_broadcast}
-use Rattle.fw_ledger.specs.declared.tables.Seats.{Seats}
-use Rattle.fw_account.proofs.Connections.{counter_changed}
+use Rattle.fw_model_account.specs.Moves.{HasRoom, HasConnection, add_connection, drop_connection}
+use Rattle.fw_model_account.specs.Decode.{has_room}
+use Rattle.fw_ledger.specs.Swaps.{Shows, is_broadcast}
+use Rattle.fw_model_account.proofs.Connections.{counter_changed}
 
 -- another plug keeps what it has
 pub plug_other : {A : Type 0} (f : PlugAt → A) (p : PlugAt) (v : A) (q : PlugAt) → q ≢ p → update_plug f p v q ≡ f q

@@ -1,20 +1,15 @@
 -- Where the tables have the plugs, the nodes and the channels of the account.
-use Rattle.fw_base.specs.declared.plug.PlugAt.{PlugAt}
-use Rattle.fw_entry.specs.declared.entry.ResetEntry.{ResetEntry}
-use Rattle.fw_entry.specs.declared.nodes.NodeRow.{NodeRow}
-use Rattle.std.proofs.Common.{◌≡◌, ◌<◌, ◌-◌, ℕ, zero, suc, Bool, true, false, nat_lt, nat_le, Option, Some, None, List, [], slice_get, slice_index, cond, if◌then◌else◌, refl, ◌∙◌, ap, arith}
-use Rattle.std.proofs.lemmas.Bool.Decides.{nat_tests}
-use Rattle.fw_entry.specs.Network.{first_id, row_of_id}
-use Rattle.fw_account.specs.Account.{Account, is_pending, pending_channel}
-use Rattle.fw_account.specs.Network.{is_output, is_input}
-use Rattle.fw_account.specs.Words.{OutputPlug, InputPlug, word_of}
-use Rattle.fw_ledger.specs.Stands.{word_at, StandsFor, ShowsReset, place, row_at, allocation_of, charge_at}
-use Rattle.fw_ledger.specs.declared.tables.Tables.{Tables}
-use Rattle.fw_entry.specs.Network.{HasRange}
-use Rattle.std.proofs.lemmas.Bool.{false≢true}
-use Rattle.fw_account.specs.Network.{is_input_of}
-use Rattle.fw_account.proofs.Network.{output_in_range, any_place}
-use Rattle.fw_base.specs.Tables.{find_to}
+use Rattle.fw_ledger.proofs.Common.{PlugAt, ResetEntry, NodeRow, ◌≡◌, ◌<◌, ◌-◌, ℕ, zero, suc, Bool, true, false, nat_lt, Option, Some, None, List, [], slice_index, cond, refl, ◌∙◌, ap, arith}
+use Rattle.fw_ledger.proofs.Common.{nat_tests, Account, is_pending, is_output, is_input, word_of, word_at, StandsFor, ShowsReset, place, allocation_of, charge_at, Tables, false≢true, output_in_range}
+use Rattle.fw_ledger.proofs.Common.{find_to}
+use Rattle.std.proofs.Common.{nat_le, slice_get, if◌then◌else◌}
+use Rattle.fw_log_entry.specs.Network.{first_id, row_of_id}
+use Rattle.fw_model_account.specs.Account.{pending_channel}
+use Rattle.fw_model_account.specs.Words.{OutputPlug, InputPlug}
+use Rattle.fw_ledger.specs.Stands.{row_at}
+use Rattle.fw_log_entry.specs.Network.{HasRange}
+use Rattle.fw_model_account.specs.Network.{is_input_of}
+use Rattle.fw_model_account.proofs.Network.{any_place}
 
 -- the place of a plug on a device below 63, with a number below 31
 pub place_low : (p : PlugAt) → (p.device < 63) × (p.plug < 31) → place p < 1953
@@ -63,15 +58,19 @@ pub pending_is_found : (t : Tables) (l : Account) (c : ℕ) → StandsFor t l �
 pending_is_found t l c h = find_same 64 _ _ (λ ch lt. ap (is_pending c) (h.resources.charges ch lt))
 
 -- what is told of an output plug
-pub output_told : (t : Tables) (l : Account) (p : PlugAt) (w : ℕ) → StandsFor t l → nat_lt p.plug (slice_index t.outs p.device) ≡ true → w ≡ word_at t.outputs.items p → Some w ≡ (if is_output l.latest p then Some (word_of l (OutputPlug p)) else None)
+pub output_told : (t : Tables) (l : Account) (p : PlugAt) (w : ℕ) → StandsFor t l → nat_lt p.plug (slice_index t.outs p.device) ≡ true → w ≡ word_at t.outputs.items p
+    → Some w ≡ (if is_output l.latest p then Some (word_of l (OutputPlug p)) else None)
 output_told t l p w h lt e = let is : is_output l.latest p ≡ true = h.plugs.outs p ∙ lt in rw (is, e) (ap Some (h.outputs.words p is))
 
-pub output_missing : (t : Tables) (l : Account) (p : PlugAt) → StandsFor t l → nat_lt p.plug (slice_index t.outs p.device) ≡ false → None ≡ (if is_output l.latest p then Some (word_of l (OutputPlug p)) else None)
+pub output_missing : (t : Tables) (l : Account) (p : PlugAt) → StandsFor t l → nat_lt p.plug (slice_index t.outs p.device) ≡ false
+    → None ≡ (if is_output l.latest p then Some (word_of l (OutputPlug p)) else None)
 output_missing t l p h no_plug = let is : is_output l.latest p ≡ false = h.plugs.outs p ∙ no_plug in rw is refl
 
 -- what is told of an input plug
-pub input_told : (t : Tables) (l : Account) (p : PlugAt) (w : ℕ) → StandsFor t l → nat_lt p.plug (slice_index t.ins p.device) ≡ true → w ≡ word_at t.inputs.items p → Some w ≡ (if is_input l.latest p then Some (word_of l (InputPlug p)) else None)
+pub input_told : (t : Tables) (l : Account) (p : PlugAt) (w : ℕ) → StandsFor t l → nat_lt p.plug (slice_index t.ins p.device) ≡ true → w ≡ word_at t.inputs.items p
+    → Some w ≡ (if is_input l.latest p then Some (word_of l (InputPlug p)) else None)
 input_told t l p w h lt e = let is : is_input l.latest p ≡ true = h.plugs.ins p ∙ lt in rw (is, e) (ap Some (h.inputs.words p is))
 
-pub input_missing : (t : Tables) (l : Account) (p : PlugAt) → StandsFor t l → nat_lt p.plug (slice_index t.ins p.device) ≡ false → None ≡ (if is_input l.latest p then Some (word_of l (InputPlug p)) else None)
+pub input_missing : (t : Tables) (l : Account) (p : PlugAt) → StandsFor t l → nat_lt p.plug (slice_index t.ins p.device) ≡ false
+    → None ≡ (if is_input l.latest p then Some (word_of l (InputPlug p)) else None)
 input_missing t l p h no_plug = let is : is_input l.latest p ≡ false = h.plugs.ins p ∙ no_plug in rw is refl

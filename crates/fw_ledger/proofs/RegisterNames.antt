@@ -1,20 +1,17 @@
 -- The register of the account at an address, and the plug that it is of.
-use Rattle.fw_entry.specs.declared.entry.ResetEntry.{ResetEntry}
-use Rattle.fw_entry.specs.declared.nodes.NodeRow.{NodeRow}
-use Rattle.std.proofs.Common.{◌≡◌, ◌≤◌, ◌-◌, ◌&&◌, ℕ, Bool, true, false, nat_le, Option, Some, None, List, [], option_map, slice_get, cond, refl, sym, ◌∙◌, arith, rules, IfSome}
+use Rattle.fw_ledger.proofs.Common.{ResetEntry, NodeRow, ◌≡◌, ◌≤◌, ◌-◌, ◌&&◌, ℕ, Bool, true, false, Option, Some, None, List, [], cond, refl, sym, ◌∙◌, arith, rules, nat_tests, Account, StandsFor}
+use Rattle.fw_ledger.proofs.Common.{ShowsReset, Tables}
+use Rattle.std.proofs.Common.{nat_le, option_map, slice_get, IfSome}
 use Rattle.std.specs.Option.{option_or}
-use Rattle.std.proofs.lemmas.Bool.Decides.{nat_tests}
 use Rattle.fw_async.specs.NodeIds.{local_number}
-use Rattle.fw_entry.specs.Network.{first_id}
-use Rattle.fw_account.specs.Account.{Account}
-use Rattle.fw_account.specs.Words.{Register, is_node, manager_register, plug_register, register_at, register_of, first_address}
-use Rattle.fw_ledger.specs.Stands.{StandsFor, ShowsReset, row_at}
+use Rattle.fw_log_entry.specs.Network.{first_id}
+use Rattle.fw_model_account.specs.Words.{Register, is_node, manager_register, plug_register, register_at, register_of, first_address}
+use Rattle.fw_ledger.specs.Stands.{row_at}
 use Rattle.fw_ledger.specs.Swaps.{register_named, IsThere}
 use Rattle.fw_ledger.specs.declared.register.Register.{Register as RegisterName}
 use Rattle.fw_ledger.specs.declared.register.Register.TheVariants.{Bandwidth, HighChannels, LowChannels, Output, Input}
-use Rattle.fw_ledger.specs.declared.tables.Tables.{Tables}
-use Rattle.fw_account.proofs.Bounds.{register_there}
-use Rattle.fw_account.proofs.Network.{not_both}
+use Rattle.fw_model_account.proofs.Bounds.{register_there}
+use Rattle.fw_model_account.proofs.Network.{not_both}
 
 no_row : (id : ℕ) → row_at [] id ≡ None
 no_row id = go (nat_le first_id id)

@@ -1,25 +1,23 @@
 -- The tables after packets of procedures and others, and after the response to a read request.
-use Rattle.std.proofs.Common.{◌≡◌, ◌==◌, ◌&&◌, ℕ, Bool, true, false, Option, Some, None, length, slice_set, Vec, Global, cond, refl, sym, ◌∙◌, ap, subst, arith, length-set, IsTrue}
-use Rattle.std.proofs.lemmas.Bool.{false≢true}
-use Rattle.std.proofs.lemmas.Bool.Decides.{nat_tests}
+use Rattle.fw_ledger.proofs.Common.{◌≡◌, ◌==◌, ◌&&◌, ℕ, Bool, true, false, Option, Some, None, length, slice_set, Vec, Global, cond, refl, sym, ◌∙◌, ap, subst, arith, length-set, false≢true}
+use Rattle.fw_ledger.proofs.Common.{nat_tests, Account, Request, Locks, StandsFor, AskedFor, GoesOn, response_in, Tables, Asked, NotAsked}
+use Rattle.std.proofs.Common.{IsTrue}
 use Rattle.std.proofs.lemmas.Option.{same_Some}
 use Rattle.fw_async.specs.declared.packet.Head.{Head}
-use Rattle.fw_base.specs.declared.label.Label.TheVariants.{Procedure}
-use Rattle.fw_base.specs.Labels.{label_code}
-use Rattle.fw_entry.specs.Network.{device_of_id}
-use Rattle.fw_account.specs.Account.{Account, Request, Reads, Locks}
-use Rattle.fw_account.specs.Packets.{Reply, Read as ReadReply, is_reply_to, replied_to, answered, after_reply, ended}
-use Rattle.fw_faults.specs.Looked.{Response, Looked, Asks, Replies, Other, labelled, IsAnswer}
-use Rattle.fw_ledger.specs.Stands.{StandsFor, AskedFor, is_read_of}
-use Rattle.fw_ledger.specs.Refused.{GoesOn, IsRefusedFor, IsAnswered, ShowsAnswer, response_in, word_asked}
+use Rattle.fw_terms.specs.declared.label.Label.TheVariants.{Procedure}
+use Rattle.fw_terms.specs.Labels.{label_code}
+use Rattle.fw_log_entry.specs.Network.{device_of_id}
+use Rattle.fw_model_account.specs.Account.{Reads}
+use Rattle.fw_model_account.specs.Packets.{Reply, Read as ReadReply, is_reply_to, replied_to, answered, after_reply, ended}
+use Rattle.fw_model_audit.specs.Looked.{Response, Looked, Asks, Replies, Other, labelled, IsAnswer}
+use Rattle.fw_ledger.specs.Stands.{is_read_of}
+use Rattle.fw_ledger.specs.Refused.{IsRefusedFor, IsAnswered, ShowsAnswer, word_asked}
 use Rattle.fw_ledger.specs.declared.answer.Answer.{Answer}
 use Rattle.fw_ledger.specs.declared.refused.Refused.{Refused}
 use Rattle.fw_ledger.specs.declared.refused.Refused.TheVariants.{NoNode, Orphan}
-use Rattle.fw_ledger.specs.declared.tables.Tables.{Tables}
-use Rattle.fw_ledger.specs.declared.tables.Asked.{Asked}
-use Rattle.fw_ledger.specs.declared.tables.Asked.TheVariants.{Nothing as NotAsked, Read, Swap, Lock}
+use Rattle.fw_ledger.specs.declared.tables.Asked.TheVariants.{Read, Swap, Lock}
 use Rattle.fw_ledger.proofs.Related.{related_set}
-use Rattle.fw_account.proofs.Packets.{ended_keeps}
+use Rattle.fw_model_account.proofs.Packets.{ended_keeps}
 
 -- ---- labels
 
@@ -55,7 +53,8 @@ pub reply_labelled : (l : Account) (h : Head) (reply : Reply) (r : Response) (c 
 reply_labelled l h reply r c a new e d is goes = (rw e (a, refl, is), rw e (subst (GoesOn new) (sym (ap (λ o. answered o h.source reply l) d)) goes))
 
 -- one that is refused
-pub refusal_labelled : (t new : Tables) (l : Account) (h : Head) (reply : Reply) (r : Response) (c : ℕ) (f : Refused) → (h.tl == label_code Procedure) ≡ true → device_of_id l.latest h.destination ≡ Some c
+pub refusal_labelled : (t new : Tables) (l : Account) (h : Head) (reply : Reply) (r : Response) (c : ℕ) (f : Refused) → (h.tl == label_code Procedure) ≡ true
+    → device_of_id l.latest h.destination ≡ Some c
     → (replied_to c (l.outstanding c) h.source reply l ≡ None) × (new ≡ t) × IsRefusedFor l (Replies r) f → (after_reply h reply l ≡ None) × (new ≡ t) × IsRefusedFor l (labelled h (Replies r)) f
 refusal_labelled t new l h reply r c f e d stop = (rw e (ap (λ o. answered o h.source reply l) d ∙ stop.0), stop.1, subst (λ b. IsRefusedFor l (cond b (Replies r) Other) f) (sym e) stop.2)
 
@@ -148,7 +147,8 @@ read_stops l c source (Lock target address function) is fails = rw is.1 (both (t
     both true = refl
     both false = refl
 
-pub read_refused : (l : Account) (c : ℕ) (h : Head) (rcode : ℕ) (word : Option ℕ) (a : Asked) → device_of_id l.latest h.destination ≡ Some c → AskedFor a (l.outstanding c) → is_read_of a h.source ≡ false
+pub read_refused : (l : Account) (c : ℕ) (h : Head) (rcode : ℕ) (word : Option ℕ) (a : Asked) → device_of_id l.latest h.destination ≡ Some c → AskedFor a (l.outstanding c)
+    → is_read_of a h.source ≡ false
     → (replied_to c (l.outstanding c) h.source ReadReply l ≡ None) × IsRefusedFor l (Replies (response_in h rcode ReadReply word)) (Orphan h.destination)
 read_refused l c h rcode word a d is fails = (read_stops l c h.source a is fails, orphan_by l (response_in h rcode ReadReply word) c d (read_other l c h.source a is fails))
 

@@ -1,28 +1,24 @@
 -- The tables after a request.
-use Rattle.fw_base.specs.declared.plug.PlugAt.{PlugAt}
-use Rattle.std.proofs.Common.{◌≡◌, ◌≢◌, ◌<◌, ℕ, Bool, true, false, not, Option, Some, None, length, slice_set, Vec, Global, cond, get_or-set_same, get_or-set_other, ◌⊎◌, inl, inr, is_none, is_some, refl, sym, ◌∙◌, ap, rules, IfSome, length-set}
-use Rattle.fw_account.specs.Account.{Account, Request, has_pending, is_pending}
-use Rattle.fw_account.specs.Packets.{asked, asked_by, addressed_after}
-use Rattle.fw_account.specs.Words.{output_addressed}
-use Rattle.fw_account.specs.Decode.{is_plug}
-use Rattle.fw_base.proofs.Tables.{same_plug-true}
-use Rattle.fw_faults.specs.Looked.{Asks}
-use Rattle.fw_ledger.specs.Refused.{GoesOn, IsRefusedFor}
+use Rattle.fw_ledger.proofs.Common.{PlugAt, ◌≡◌, ◌≢◌, ◌<◌, ℕ, Bool, true, false, not, Option, Some, None, length, slice_set, Vec, Global, cond, get_or-set_same, get_or-set_other, ◌⊎◌, inl, inr}
+use Rattle.fw_ledger.proofs.Common.{is_some, refl, sym, ◌∙◌, ap, rules, length-set, Account, Request, is_pending, GoesOn, StandsFor, AskedFor, allocation_of, charge_at, Tables, Asked, update, find_to}
+use Rattle.fw_ledger.proofs.Common.{cases_eq, false≢true, NotAsked, option_map, NodeRow}
+use Rattle.std.proofs.Common.{is_none, IfSome}
+use Rattle.fw_model_account.specs.Account.{has_pending}
+use Rattle.fw_model_account.specs.Packets.{asked, asked_by, addressed_after}
+use Rattle.fw_model_account.specs.Words.{output_addressed}
+use Rattle.fw_model_account.specs.Decode.{is_plug}
+use Rattle.fw_terms.proofs.Tables.{same_plug-true}
+use Rattle.fw_model_audit.specs.Looked.{Asks}
+use Rattle.fw_ledger.specs.Refused.{IsRefusedFor}
 use Rattle.fw_ledger.specs.declared.refused.Refused.TheVariants.{Overlap}
-use Rattle.fw_ledger.specs.Stands.{StandsFor, AskedFor, plug_of, addressed_at, is_asked, device_at, allocation_of, charge_at}
-use Rattle.fw_ledger.specs.declared.tables.Tables.{Tables}
+use Rattle.fw_ledger.specs.Stands.{plug_of, addressed_at, is_asked, device_at}
 use Rattle.fw_ledger.specs.declared.tables.Addressed.{Addressed}
-use Rattle.fw_ledger.specs.declared.tables.Asked.{Asked}
-use Rattle.fw_base.specs.Tables.{update, find_to}
-use Rattle.std.proofs.lemmas.Bool.{cases_eq, false≢true}
 use Rattle.fw_ledger.specs.declared.tables.Addressed.TheVariants.{Nowhere}
-use Rattle.fw_ledger.specs.declared.tables.Asked.TheVariants.{Nothing as NotAsked, Read, Swap, Lock}
-use Rattle.std.specs.Option.{option_map}
-use Rattle.fw_entry.specs.declared.nodes.NodeRow.{NodeRow}
-use Rattle.fw_entry.specs.Network.{device_of_id}
+use Rattle.fw_ledger.specs.declared.tables.Asked.TheVariants.{Read, Swap, Lock}
+use Rattle.fw_log_entry.specs.Network.{device_of_id}
 use Rattle.fw_ledger.proofs.Plugs.{row_is, pending_is_found}
 use Rattle.fw_ledger.proofs.Related.{related_set, update_same, update_other}
-use Rattle.fw_account.proofs.Packets.{asked_keeps, device_below}
+use Rattle.fw_model_account.proofs.Packets.{asked_keeps, device_below}
 
 -- a request of controller c at this output plug changes what c addressed, and nothing else
 addressed_else : (c d : ℕ) (o : Option PlugAt) (l : Account) → d ≢ c → addressed_after c o l d ≡ l.addressed d
@@ -34,7 +30,8 @@ addressed_else c d (Some p) l ne = go (has_pending c l.allocations)
     go false = update_other l.addressed c d (Some p) ne
 
 -- the tables after a request of controller c that has none outstanding
-pub asked_stands : (t : Tables) (l : Account) (c : ℕ) (request : Request) (a : Asked) (x : Addressed) (plugs : Vec Addressed Global) (requests : Vec Asked Global) → StandsFor t l → c < 63 → l.latest ≢ None
+pub asked_stands : (t : Tables) (l : Account) (c : ℕ) (request : Request) (a : Asked) (x : Addressed) (plugs : Vec Addressed Global) (requests : Vec Asked Global) → StandsFor t l → c < 63
+    → l.latest ≢ None
     → plugs.items ≡ slice_set t.addressed.items c x → requests.items ≡ slice_set t.asked.items c a → AskedFor a (Some request)
     → plug_of x ≡ addressed_after c (output_addressed l.latest request.target request.address) l c
     → StandsFor (record t { addressed = plugs; asked = requests }) (asked c request l)
@@ -66,7 +63,8 @@ asked_stands t l c request a x plugs requests h lt started at_plugs at_requests 
   where
     at_place : (d : ℕ) → (d ≡ c) ⊎ (d ≢ c) → d < 63 → plug_of (addressed_at plugs.items d) ≡ addressed_after c (output_addressed l.latest request.target request.address) l d
     at_place d (inl e) dlt = rw e (rw at_plugs (rw (get_or-set_same t.addressed.items c x Nowhere (rw h.sizes.addressed lt)) here))
-    at_place d (inr ne) dlt = rw at_plugs (rw (get_or-set_other t.addressed.items c d x Nowhere ne) (h.controllers.addressed d dlt ∙ sym (addressed_else c d (output_addressed l.latest request.target request.address) l ne)))
+    at_place d (inr ne) dlt = rw at_plugs (rw (get_or-set_other t.addressed.items c d x Nowhere ne)
+        (h.controllers.addressed d dlt ∙ sym (addressed_else c d (output_addressed l.latest request.target request.address) l ne)))
 
 -- the device of a node ID, by the nodes that are kept
 pub device_is : (t : Tables) (l : Account) (id : ℕ) → StandsFor t l → device_at t.nodes id ≡ device_of_id l.latest id
@@ -81,14 +79,14 @@ device_within (Some d) t l id h e = device_below l.latest id d h.sound.range (sy
 pub holds_is : (t : Tables) (l : Account) (c : ℕ) → StandsFor t l → is_some (find_to 64 (λ ch. is_pending c (allocation_of (charge_at t.charges.items ch)))) ≡ has_pending c l.allocations
 holds_is t l c h = ap is_some (pending_is_found t l c h)
 
--- a request is outstanding exactly where the table has one
+-- a request is outstanding exactly if the table has one
 pub outstanding_is : (a : Asked) (o : Option Request) → AskedFor a o → is_asked a ≡ is_some o
 outstanding_is NotAsked o h = rw h refl
 outstanding_is (Read target address) o h = rw h refl
 outstanding_is (Swap target address swap) o h = rw h.1 refl
 outstanding_is (Lock target address function) o h = rw h.1 refl
 
--- what c addressed: the plug, where c has no Pending allocation
+-- what c addressed: the plug, if c has no Pending allocation
 pub addressed_plug : (c : ℕ) (o : Option PlugAt) (p : PlugAt) (l : Account) → o ≡ Some p → has_pending c l.allocations ≡ false → Some p ≡ addressed_after c o l c
 addressed_plug c o p l e none = rw e (rw none (sym (update_same l.addressed c c (Some p) refl)))
 
@@ -96,7 +94,7 @@ pub addressed_held : (c : ℕ) (o : Option PlugAt) (l : Account) → has_pending
 addressed_held c None l some = refl
 addressed_held c (Some p) l some = rw some refl
 
--- no request is outstanding where not one is
+-- no request is outstanding if not one is
 none_is : (o : Option Request) → is_none o ≡ not (is_some o)
 none_is None = refl
 none_is (Some r) = refl
@@ -117,7 +115,8 @@ refused_beside l c id request e busy =
     let q = request_there (l.outstanding c) busy in
     (rw (e, none_is (l.outstanding c), busy) refl, (refl, (c, q.0, e, q.1)))
 
-pub asked_follows : (new : Tables) (l : Account) (c : ℕ) (o : Option ℕ) (request : Request) → o ≡ Some c → is_some (l.outstanding c) ≡ false → StandsFor new (asked c request l) → GoesOn new (asked_by o request l)
+pub asked_follows : (new : Tables) (l : Account) (c : ℕ) (o : Option ℕ) (request : Request) → o ≡ Some c → is_some (l.outstanding c) ≡ false → StandsFor new (asked c request l)
+    → GoesOn new (asked_by o request l)
 asked_follows new l c o request e free h = rw (e, none_is (l.outstanding c), free) h
 
 -- the same plug again

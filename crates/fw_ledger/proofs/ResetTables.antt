@@ -1,32 +1,27 @@
 -- The tables after a bus reset stand for the account after it.
-use Rattle.fw_base.specs.declared.plug.PlugAt.{PlugAt}
-use Rattle.fw_entry.specs.declared.entry.ResetEntry.{ResetEntry}
-use Rattle.std.proofs.Common.{◌≡◌, ◌≢◌, ◌<◌, ◌-◌, ◌==◌, ◌&&◌, ◌||◌, not, nat_lt, ℕ, Bool, true, false, Option, Some, None, is_some, List, length, cond, slice_index, refl, sym, ◌∙◌, ap, subst, arith}
-use Rattle.std.proofs.lemmas.Bool.Decides.{nat_tests}
-use Rattle.fw_base.proofs.Tables.{sum_to_zero}
-use Rattle.fw_plug.specs.Words.{units_of, out_word, in_word, is_connected}
-use Rattle.fw_entry.specs.Network.{IsNetwork}
-use Rattle.fw_account.specs.Account.{Account, Allocation, Flow, Connected as ConnectedHolder, Pending as PendingHolder, Orphaned as OrphanedHolder, talks, has_connection, counter, is_there}
-use Rattle.fw_account.specs.Network.{is_output, is_input, declared}
-use Rattle.fw_account.specs.Events.{after_reset, talker_at, no_connections}
-use Rattle.fw_account.specs.Words.{fields_at, input_fields_at}
-use Rattle.fw_ledger.specs.Resets.{first_high, first_output, first_input, rate_of, talker}
+use Rattle.fw_ledger.proofs.Common.{PlugAt, ResetEntry, ◌≡◌, ◌≢◌, ◌<◌, ◌-◌, ◌==◌, ◌&&◌, ◌||◌, not, nat_lt, ℕ, Bool, true, false, Option, Some, None, is_some, List, length, cond, slice_index, refl}
+use Rattle.fw_ledger.proofs.Common.{sym, ◌∙◌, ap, subst, arith, nat_tests, out_word, in_word, is_connected, Account, Allocation, Connections, has_connection, counter, is_there, is_output, is_input}
+use Rattle.fw_ledger.proofs.Common.{AreRates, IsSound, StandsFor, ShowsReset, no_seats, SeatsFor, allocation_of, charge_at, word_at, seats_at, place, Tables, Charge, Free, Pending, Connected, Seats}
+use Rattle.fw_ledger.proofs.Common.{NotAsked, NodeRow, output_in_range, false≢true}
+use Rattle.fw_terms.proofs.Tables.{sum_to_zero, sum_to_at}
+use Rattle.fw_plug.specs.Words.{units_of}
+use Rattle.fw_log_entry.specs.Network.{IsNetwork}
+use Rattle.fw_model_account.specs.Account.{Owner, Flow, Connected as ConnectedHolder}
+use Rattle.fw_model_account.specs.Account.{Pending as PendingHolder, Orphaned as OrphanedHolder, talks}
+use Rattle.fw_model_account.specs.Network.{declared}
+use Rattle.fw_model_account.specs.Events.{after_reset, talker_at, no_connections}
+use Rattle.fw_model_account.specs.Words.{fields_at, input_fields_at}
+use Rattle.fw_ledger.specs.Resets.{first_high, first_output, first_input, talker}
 use Rattle.fw_plug.specs.Plugs.{disconnected}
-use Rattle.fw_account.specs.Sound.{IsSound}
-use Rattle.fw_ledger.specs.Renewed.{HasNewPlugs, AreEmpty}
-use Rattle.fw_ledger.specs.Stands.{StandsFor, ShowsReset, asked_at, OutputsFor, InputsFor, SeatsFor, SecondFor, flow_of, allocation_of, charge_at, reclaimable_at, continues_at, word_at, seats_at, place}
-use Rattle.fw_ledger.specs.declared.tables.Tables.{Tables}
-use Rattle.fw_ledger.specs.declared.tables.Charge.{Charge}
-use Rattle.fw_ledger.specs.declared.tables.Charge.TheVariants.{Free, Pending, Connected, Orphaned}
-use Rattle.fw_ledger.specs.declared.tables.Seats.{Seats}
-use Rattle.fw_ledger.specs.declared.tables.Asked.TheVariants.{Nothing as NotAsked}
-use Rattle.fw_entry.specs.declared.nodes.NodeRow.{NodeRow}
-use Rattle.fw_account.proofs.Events.{IsTalker, talker_at_is, talker_is_allocated, reset_reclaimable, reset_keeps}
-use Rattle.fw_account.proofs.Network.{output_in_range}
+use Rattle.fw_ledger.specs.Renewed.{HasNewPlugs, IsRenewed}
+use Rattle.fw_ledger.specs.Stands.{asked_at, OutputsFor, InputsFor, SecondFor}
+use Rattle.fw_ledger.specs.Stands.{flow_of, reclaimable_at, continues_at}
+use Rattle.fw_ledger.specs.declared.tables.Charge.TheVariants.{Orphaned}
+use Rattle.fw_model_account.proofs.Events.{IsTalker, talker_at_is, talker_is_allocated, reset_reclaimable, reset_keeps}
 use Rattle.fw_ledger.proofs.Plugs.{input_in_range, place_low}
 use Rattle.fw_ledger.proofs.Starts.{copy_at}
-use Rattle.fw_account.proofs.Open.{low_starts}
-use Rattle.fw_ledger.proofs.ResetWords.{place_device, place_plug, output_disconnected, input_disconnected, output_connected}
+use Rattle.fw_model_account.proofs.Open.{low_starts}
+use Rattle.fw_ledger.proofs.ResetWords.{place_device, place_plug, output_disconnected, input_disconnected, output_connected, input_connected}
 
 -- ---- the flows that may be allocated again
 
@@ -62,7 +57,7 @@ flow_talks r l ch (Connected p u) none s e =
     rw (same, w.1) (sym (subst (λ b. (cond b l.reclaimable (talker_at l)) (l.settings p).channel ≡ Some
     (record { plug = p; units = units_of (l.settings p) })) none listed))
 
--- a reset entry came before exactly where one is kept
+-- a reset entry came before exactly if one is kept
 started_is : (started : Bool) (manager : Option ℕ) (nodes : List NodeRow) (latest : Option ResetEntry) → ShowsReset started manager nodes latest
     → started ≡ is_some latest
 started_is started manager nodes None h = h.0
@@ -70,25 +65,37 @@ started_is started manager nodes (Some r) h = h.0
 
 -- ---- the tables
 
--- the tables after a bus reset with this entry
-pub record IsReset (t : Tables) (r : ResetEntry) (new : Tables) : Type 0 where
-  pub latest : (new.started ≡ true) × (new.manager ≡ r.manager) × (new.nodes ≡ r.nodes)
-  pub reclaiming : new.reclaiming ≡ t.started
-  pub withheld : new.withheld ≡ t.withheld
-  pub words : (new.left ≡ 4915) × (new.high ≡ first_high t.withheld) × (new.low ≡ 4294967295)
-  pub plugs : HasNewPlugs t r new
-  pub charge_size : length new.charges.items ≡ 64
-  pub charges : (ch : ℕ) → ch < 64 → charge_at new.charges.items ch ≡ Free
-  pub flow_size : length new.reclaimable.items ≡ 64
-  pub flows : (ch : ℕ) → ch < 64
-      → reclaimable_at new.reclaimable.items ch ≡ cond t.reclaiming (reclaimable_at t.reclaimable.items ch) (talker (charge_at t.charges.items ch))
-  pub addressed : new.addressed ≡ t.addressed
-  pub asked_size : length new.asked.items ≡ 63
-  pub asked : (c : ℕ) → c < 63 → asked_at new.asked.items c ≡ NotAsked
+-- no connections
+none_seated : SeatsFor no_seats no_connections
+none_seated = record { size = refl; counts = λ c clt. let none : ℕ = 0 in copy_at {A = ℕ} 63 c none; broadcast = refl }
 
--- a plug without connections
-pub empty_seats : (counts : List ℕ) (seats : List Seats) (p : PlugAt) → AreEmpty counts seats → place p < 1953 → p.plug < 31 → nat_lt p.plug (slice_index counts p.device) ≡ true → SeatsFor (seats_at seats p) no_connections
-empty_seats counts seats p e lt small is = rw (e.all (place p) lt (rw (place_device p small, place_plug p small) is)) (record { size = refl; counts = λ c clt. let none : ℕ = 0 in copy_at {A = ℕ} 63 c none; broadcast = refl })
+-- nobody has the broadcast connection where there is none
+no_owner : (o : Option Owner) → is_there o ≡ false → o ≡ None
+no_owner None h = refl
+no_owner (Some x) h = absurd (false≢true (sym h))
+
+-- no connection is counted where there is none
+none_of : (n : ℕ) (b : Bool) → (nat_lt 0 n || b) ≡ false → (n ≡ 0) × (b ≡ false)
+none_of n b h = (grind (arith, nat_tests), grind (arith, nat_tests))
+
+-- the seats of a plug that has no connection are those of one without
+left_seated : (t : Seats) (s : Connections) → SeatsFor t s → has_connection s ≡ false → SeatsFor t no_connections
+left_seated t s h none = let w = none_of (counter s) (is_there s.broadcast) none in record {
+  size = h.size;
+  counts = λ c lt. h.counts c lt ∙ (let most = sum_to_at 63 c s.counts lt in let all = w.0 in omega arith);
+  broadcast = h.broadcast ∙ no_owner s.broadcast w.1;
+}
+
+-- whether a word shows a connection, in the words of the account
+counted : (b : Bool) (n : ℕ) → (b || not (n == 0)) ≡ (nat_lt 0 n || b)
+counted b n = grind (arith, nat_tests)
+
+-- the seats of a plug after the reset: those of one that was there and had no connection are as they were
+seated : (there connected : Bool) (t : Seats) (s : Connections) → (there ≡ true → SeatsFor t s × (connected ≡ has_connection s))
+    → SeatsFor (cond (there && not connected) t no_seats) no_connections
+seated false connected t s h = none_seated
+seated true true t s h = none_seated
+seated true false t s h = let w = h refl in left_seated t s w.0 (sym w.1)
 
 -- no connections are counted
 none_counted : counter no_connections ≡ 0
@@ -99,7 +106,7 @@ flows_renewed : (t : Tables) (l : Account) (r : ResetEntry) (ch : ℕ) (b : Bool
 flows_renewed t l r ch true h lt a b = h.second.reclaimable a ch lt
 flows_renewed t l r ch false h lt a b = flow_talks r l ch (charge_at t.charges.items ch) b h.sound (h.resources.charges ch lt)
 
--- an output plug goes on where it talks, before it had the latest entry
+-- an output plug goes on if it talks, before it had the latest entry
 on_renewed : (t : Tables) (l : Account) (p : PlugAt) (there runs : Bool) → StandsFor t l → is_output l.latest p ≡ there → t.reclaiming ≡ runs
     → (there && (is_connected (word_at t.outputs.items p) || (runs && continues_at t.continues.items p))) ≡ talks l p
 on_renewed t l p false runs h is run = grind (arith, h.sound.there p)
@@ -110,20 +117,29 @@ on_renewed t l p true runs h is run =
     (is_there (l.outputs p).broadcast) (counter (l.outputs p)) in
     rw same (ap (λ b. has_connection (l.outputs p) || b) (goes runs run))
   where
-    counted : (b : Bool) (n : ℕ) → (b || not (n == 0)) ≡ (nat_lt 0 n || b)
-    counted b n = grind (arith, nat_tests)
-
     goes : (b : Bool) → t.reclaiming ≡ b → (b && continues_at t.continues.items p) ≡ l.continues p
     goes true e = h.second.continues e p is
     goes false e = grind (arith, h.sound.continuing p, h.sound.reclaimable_ends (sym h.second.runs ∙ e) (l.settings p).channel)
 
+-- an output plug that was there shows whether it has a connection
+output_shown : (t : Tables) (l : Account) (p : PlugAt) → StandsFor t l → is_output l.latest p ≡ true → is_connected (word_at t.outputs.items p) ≡ has_connection (l.outputs p)
+output_shown t l p h is =
+    let connected = output_connected (fields_at l p) (let m = h.sound.counts p in omega arith) (h.sound.settings_fit p is) in
+    ap is_connected (h.outputs.words p is) ∙ connected ∙ counted (is_there (l.outputs p).broadcast) (counter (l.outputs p))
+
+-- and so does an input plug
+input_shown : (t : Tables) (l : Account) (p : PlugAt) → StandsFor t l → is_input l.latest p ≡ true → is_connected (word_at t.inputs.items p) ≡ has_connection (l.inputs p)
+input_shown t l p h is =
+    let connected = input_connected (input_fields_at l p) (let m = h.sound.counts p in omega arith) (h.sound.channels_fit p is) in
+    ap is_connected (h.inputs.words p is) ∙ connected ∙ counted (is_there (l.inputs p).broadcast) (counter (l.inputs p))
+
 -- the word of an output plug after the reset
-word_renewed : (t : Tables) (l : Account) (r : ResetEntry) (new : List ℕ) (p : PlugAt) (there : Bool) → StandsFor t l → is_output l.latest p ≡ there
-    → nat_lt p.plug (slice_index new p.device) ≡ true
-    → cond (nat_lt p.plug (slice_index new p.device)) (cond there (disconnected (word_at t.outputs.items p)) (first_output (rate_of r.nodes r.ids p.device))) (word_at t.outputs.items p)
+word_renewed : (t : Tables) (l : Account) (r : ResetEntry) (rates new : List ℕ) (p : PlugAt) (there : Bool) → StandsFor t l → is_output l.latest p ≡ there
+    → AreRates t.outs new r.nodes r.ids rates → nat_lt p.plug (slice_index t.outs p.device) ≡ there → nat_lt p.plug (slice_index new p.device) ≡ true
+    → cond (nat_lt p.plug (slice_index new p.device)) (cond there (disconnected (word_at t.outputs.items p)) (first_output (slice_index rates p.device))) (word_at t.outputs.items p)
     ≡ out_word (record { broadcast = false; counter = 0; settings = cond there (l.settings p) (declared r p) })
-word_renewed t l r new p true h is now = rw (now, h.outputs.words p is) (output_disconnected (fields_at l p) (let m = h.sound.counts p in omega arith) (h.sound.settings_fit p is))
-word_renewed t l r new p false h is now = rw now refl
+word_renewed t l r rates new p true h is are was now = rw (now, h.outputs.words p is) (output_disconnected (fields_at l p) (let m = h.sound.counts p in omega arith) (h.sound.settings_fit p is))
+word_renewed t l r rates new p false h is are was now = rw (now, are p.device p.plug now was) refl
 
 input_renewed : (t : Tables) (l : Account) (p : PlugAt) (there : Bool) → StandsFor t l → is_input l.latest p ≡ there
     → cond there (disconnected (word_at t.inputs.items p)) first_input ≡ in_word
@@ -131,28 +147,29 @@ input_renewed : (t : Tables) (l : Account) (p : PlugAt) (there : Bool) → Stand
 input_renewed t l p true h is = rw (h.inputs.words p is) (input_disconnected (input_fields_at l p) (let m = h.sound.counts p in omega arith) (h.sound.channels_fit p is))
 input_renewed t l p false h is = refl
 
-outputs_reset : (t : Tables) (l : Account) (r : ResetEntry) (new : Tables) → StandsFor t l → IsNetwork r → HasNewPlugs t r new
-    → OutputsFor new.outputs.items new.output_seats.items (Some r) (λ p. no_connections) (after_reset r l).settings
-outputs_reset t l r new h net x = record {
+outputs_reset : (t : Tables) (l : Account) (r : ResetEntry) (rates : List ℕ) (new : Tables) → StandsFor t l → IsNetwork r → AreRates t.outs new.outs r.nodes r.ids rates
+    → HasNewPlugs t r.nodes rates new → OutputsFor new.outputs.items new.output_seats.items (Some r) (λ p. no_connections) (after_reset r l).settings
+outputs_reset t l r rates new h net are x = record {
   words = λ p is. word p is (output_in_range (Some r) p net.range is);
-  seats = λ p is.
-      let low = output_in_range (Some r) p net.range is in
-      empty_seats new.outs new.output_seats.items p x.output_seats (place_low p low) low.1 (sym (x.outs p) ∙ is);
+  seats = λ p is. seat p is (output_in_range (Some r) p net.range is);
 }
   where
     word : (p : PlugAt) → is_output (Some r) p ≡ true → (p.device < 63) × (p.plug < 31)
         → word_at new.outputs.items p ≡ out_word (record
         { broadcast = false; counter = counter no_connections; settings = cond (is_output l.latest p) (l.settings p) (declared r p) })
     word p is low = rw (none_counted, x.outputs (place p) (place_low p low), place_device p low.1, place_plug p low.1)
-        (rw (← h.plugs.outs p) (word_renewed t l r new.outs p (is_output l.latest p) h refl (sym (x.outs p) ∙ is)))
+        (rw (← h.plugs.outs p) (word_renewed t l r rates new.outs p (is_output l.latest p) h refl are (sym (h.plugs.outs p)) (sym (x.outs p) ∙ is)))
 
-inputs_reset : (t : Tables) (l : Account) (r : ResetEntry) (new : Tables) → StandsFor t l → IsNetwork r → HasNewPlugs t r new
+    seat : (p : PlugAt) → is_output (Some r) p ≡ true → (p.device < 63) × (p.plug < 31) → SeatsFor (seats_at new.output_seats.items p) no_connections
+    seat p is low = rw (x.output_seats (place p) (place_low p low), place_device p low.1, place_plug p low.1, sym (x.outs p) ∙ is)
+        (seated (nat_lt p.plug (slice_index t.outs p.device)) (is_connected (word_at t.outputs.items p)) (seats_at t.output_seats.items p) (l.outputs p)
+        (λ was. let there = h.plugs.outs p ∙ was in (h.outputs.seats p there, output_shown t l p h there)))
+
+inputs_reset : (t : Tables) (l : Account) (r : ResetEntry) (rates : List ℕ) (new : Tables) → StandsFor t l → IsNetwork r → HasNewPlugs t r.nodes rates new
     → InputsFor new.inputs.items new.input_seats.items (Some r) (λ p. no_connections) (after_reset r l).input_channel
-inputs_reset t l r new h net x = record {
+inputs_reset t l r rates new h net x = record {
   words = λ p is. word p is (input_in_range (Some r) p net.range is);
-  seats = λ p is.
-      let low = input_in_range (Some r) p net.range is in
-      empty_seats new.ins new.input_seats.items p x.input_seats (place_low p low) low.1 (sym (x.ins p) ∙ is);
+  seats = λ p is. seat p is (input_in_range (Some r) p net.range is);
 }
   where
     word : (p : PlugAt) → is_input (Some r) p ≡ true → (p.device < 63) × (p.plug < 31)
@@ -161,14 +178,19 @@ inputs_reset t l r new h net x = record {
     word p is low = rw (none_counted, x.inputs (place p) (place_low p low), place_device p low.1, place_plug p low.1)
         (rw (sym (x.ins p) ∙ is, ← h.plugs.ins p) (input_renewed t l p (is_input l.latest p) h refl))
 
+    seat : (p : PlugAt) → is_input (Some r) p ≡ true → (p.device < 63) × (p.plug < 31) → SeatsFor (seats_at new.input_seats.items p) no_connections
+    seat p is low = rw (x.input_seats (place p) (place_low p low), place_device p low.1, place_plug p low.1, sym (x.ins p) ∙ is)
+        (seated (nat_lt p.plug (slice_index t.ins p.device)) (is_connected (word_at t.inputs.items p)) (seats_at t.input_seats.items p) (l.inputs p)
+        (λ was. let there = h.plugs.ins p ∙ was in (h.inputs.seats p there, input_shown t l p h there)))
+
 -- a test stays with one more that holds
 true_more : (b : Bool) → b ≡ (b && true)
 true_more true = refl
 true_more false = refl
 
-second_reset : (t : Tables) (l : Account) (r : ResetEntry) (new : Tables) → StandsFor t l → IsNetwork r → IsReset t r new
+second_reset : (t : Tables) (l : Account) (r : ResetEntry) (rates : List ℕ) (new : Tables) → StandsFor t l → IsNetwork r → IsRenewed t r.manager r.nodes rates new
     → SecondFor new.reclaiming new.reclaimable.items new.continues.items (after_reset r l)
-second_reset t l r new h net x = record {
+second_reset t l r rates new h net x = record {
   runs = x.reclaiming ∙ started_is t.started t.manager t.nodes l.latest h.latest;
   reclaimable = λ runs ch lt. rw (x.flows ch lt) (subst
       (λ b. flow_of (cond t.reclaiming (reclaimable_at t.reclaimable.items ch) (talker (charge_at t.charges.items ch))) ≡
@@ -183,9 +205,9 @@ second_reset t l r new h net x = record {
         (on_renewed t l p (is_output l.latest p) t.reclaiming h refl refl ∙ true_more (talks l p))
 
 -- the tables after a bus reset
-pub reset_stands : (t : Tables) (l : Account) (r : ResetEntry) (new : Tables) → StandsFor t l → IsNetwork r → IsReset t r new
-    → StandsFor new (after_reset r l)
-reset_stands t l r new h net x = record {
+pub reset_stands : (t : Tables) (l : Account) (r : ResetEntry) (rates : List ℕ) (new : Tables) → StandsFor t l → IsNetwork r → AreRates t.outs new.outs r.nodes r.ids rates
+    → IsRenewed t r.manager r.nodes rates new → StandsFor new (after_reset r l)
+reset_stands t l r rates new h net are x = record {
   sizes = record {
     charges = x.charge_size;
     reclaimable = x.flow_size;
@@ -193,8 +215,8 @@ reset_stands t l r new h net x = record {
     asked = x.asked_size;
     outputs = x.plugs.output_size;
     inputs = x.plugs.input_size;
-    output_seats = x.plugs.output_seats.size;
-    input_seats = x.plugs.input_seats.size;
+    output_seats = x.plugs.output_seat_size;
+    input_seats = x.plugs.input_seat_size;
     continues = x.plugs.continue_size;
   };
   latest = x.latest;
@@ -206,9 +228,9 @@ reset_stands t l r new h net x = record {
     low = x.words.2 ∙ sym (low_starts l.withheld);
     charges = λ ch lt. rw (x.charges ch lt) refl;
   };
-  second = second_reset t l r new h net x;
-  outputs = outputs_reset t l r new h net x.plugs;
-  inputs = inputs_reset t l r new h net x.plugs;
+  second = second_reset t l r rates new h net x;
+  outputs = outputs_reset t l r rates new h net are x.plugs;
+  inputs = inputs_reset t l r rates new h net x.plugs;
   controllers = record { addressed = rw x.addressed h.controllers.addressed; asked = λ c lt. rw (x.asked c lt) refl };
   sound = reset_keeps r l net h.sound;
 }

@@ -1,13 +1,10 @@
 -- The words of plugs after a bus reset.
-use Rattle.fw_base.specs.declared.plug.PlugAt.{PlugAt}
-use Rattle.std.proofs.Common.{◌≡◌, ◌<◌, ◌+◌, ◌*◌, ◌/◌, ◌%◌, ◌^◌, ◌==◌, ◌||◌, ◌≤◌, not, nat_lt, ℕ, List, slice_index, false, ◌∙◌, sym, ap, arith}
-use Rattle.std.proofs.lemmas.Bool.Decides.{nat_tests}
+use Rattle.fw_ledger.proofs.Common.{PlugAt, ◌≡◌, ◌<◌, ◌+◌, ◌*◌, ◌/◌, ◌%◌, ◌^◌, ◌==◌, ◌||◌, ◌≤◌, not, nat_lt, ℕ, List, slice_index, false, ◌∙◌, sym, ap, arith, nat_tests, field, flag, out_word}
+use Rattle.fw_ledger.proofs.Common.{in_word, is_connected, place}
 use Rattle.std.proofs.lemmas.Nat.{mod_low, div-mul-add, mod-mul-add}
-use Rattle.fw_words.specs.Quadlet.{field}
-use Rattle.fw_plug.specs.Words.{OutFields, InFields, FitsRegister, flag, out_word, in_word, is_connected}
-use Rattle.fw_plug.proofs.Words.{fields_of_word}
+use Rattle.fw_plug.specs.Words.{OutFields, InFields, FitsRegister}
+use Rattle.fw_plug.proofs.Words.{fields_of_word, in_fields_of_word}
 use Rattle.fw_plug.specs.Plugs.{disconnected}
-use Rattle.fw_ledger.specs.Stands.{place}
 
 -- the device and the number of a place
 pub place_device : (p : PlugAt) → p.plug < 31 → place p / 31 ≡ p.device
@@ -16,7 +13,7 @@ place_device p lt = div-mul-add p.device 31 p.plug lt
 pub place_plug : (p : PlugAt) → p.plug < 31 → place p % 31 ≡ p.plug
 place_plug p lt = mod-mul-add p.device 31 p.plug lt
 
--- the places of a device behind its plugs have none
+-- the places of a device after its plugs have none
 pub no_plug_at : (counts : List ℕ) (d count j : ℕ) → ((n : ℕ) → n < 31 → nat_lt n count ≡ nat_lt n (slice_index counts d)) → d * 31 + count ≤ j → j < (d + 1) * 31
     → nat_lt (j % 31) (slice_index counts (j / 31)) ≡ false
 no_plug_at counts d count j same low high =
@@ -50,6 +47,9 @@ input_disconnected f most small =
     let e : in_word f ≡ (128 + flag f.broadcast * 64 + f.counter) * 2 ^ 24 + low = omega arith in
     ap (λ n. n * 2 ^ 31 + field (in_word f) 8 31) on ∙ ap (λ w. 2 ^ 31 + field w 8 31) e ∙ ap (λ n. 2 ^ 31 + n) (low_bits (128 + flag f.broadcast * 64 + f.counter) low lt) ∙ omega arith
 
--- a connection stands where one is counted
+-- a connection stands if one is counted
 pub output_connected : (f : OutFields) → f.counter < 64 → FitsRegister f.settings → is_connected (out_word f) ≡ (f.broadcast || not (f.counter == 0))
 output_connected f most r = ap (λ (g : OutFields). g.broadcast || not (g.counter == 0)) (fields_of_word f most r)
+
+pub input_connected : (f : InFields) → f.counter < 64 → f.channel < 64 → is_connected (in_word f) ≡ (f.broadcast || not (f.counter == 0))
+input_connected f most small = ap (λ (g : InFields). g.broadcast || not (g.counter == 0)) (in_fields_of_word f most small)

@@ -1,15 +1,11 @@
 -- The tables after the end of a reclaim second, and after channel 31 is withheld.
-use Rattle.std.proofs.Common.{◌≡◌, ◌+◌, ℕ, Bool, true, false, Option, Some, None, is_some, cond, refl, sym, ap, subst, ◌∙◌}
-use Rattle.std.proofs.lemmas.Bool.{false≢true}
-use Rattle.fw_entry.specs.declared.entry.ResetEntry.{ResetEntry}
-use Rattle.fw_account.specs.Account.{Account, is_free, is_open}
-use Rattle.fw_account.specs.Events.{after_second, after_withholding}
-use Rattle.fw_account.specs.Words.{bits_word}
+use Rattle.fw_ledger.proofs.Common.{◌≡◌, ◌+◌, ℕ, Bool, true, false, Option, Some, None, is_some, cond, refl, sym, ap, subst, ◌∙◌, false≢true, ResetEntry, Account, is_free, is_open, StandsFor, Follows}
+use Rattle.fw_ledger.proofs.Common.{ShowsReset, Tables, same_open}
+use Rattle.fw_model_account.specs.Events.{after_second, after_withholding}
+use Rattle.fw_model_account.specs.Words.{bits_word}
 use Rattle.fw_ledger.specs.Resets.{first_high}
-use Rattle.fw_ledger.specs.Stands.{StandsFor, Follows, ShowsReset}
-use Rattle.fw_ledger.specs.declared.tables.Tables.{Tables}
-use Rattle.fw_account.proofs.Events.{second_ends, withholding_keeps}
-use Rattle.fw_account.proofs.Open.{same_open, low_starts}
+use Rattle.fw_model_account.proofs.Events.{second_ends, withholding_keeps}
+use Rattle.fw_model_account.proofs.Open.{low_starts}
 use Rattle.fw_ledger.proofs.Orphans.{bits_same}
 
 second_stands : (t : Tables) (l : Account) → StandsFor t l → StandsFor (record t { reclaiming = false }) (after_second l)

@@ -1,19 +1,15 @@
 -- The tables of no entries stand for the account of none.
-use Rattle.std.proofs.Common.{◌≡◌, ◌-◌, ℕ, zero, suc, false, nat_lt, None, List, [], length, get_or, replicate, slice_index, refl, sym, ◌∙◌, ap, arith}
+use Rattle.fw_ledger.proofs.Common.{◌≡◌, ◌-◌, ℕ, zero, suc, false, nat_lt, None, List, [], length, get_or, slice_index, refl, sym, ◌∙◌, ap, arith, false≢true, nat_tests, StandsFor, no_seats, Tables}
+use Rattle.fw_ledger.proofs.Common.{Free, NotAsked}
+use Rattle.std.proofs.Common.{replicate}
 use Rattle.std.proofs.lemmas.List.{length-replicate}
-use Rattle.std.proofs.lemmas.Bool.{false≢true}
-use Rattle.std.proofs.lemmas.Bool.Decides.{nat_tests}
-use Rattle.fw_base.proofs.Tables.{sum_to_zero}
-use Rattle.fw_account.specs.Fold.{no_account}
+use Rattle.fw_terms.proofs.Tables.{sum_to_zero}
+use Rattle.fw_model_account.specs.Fold.{no_account}
 use Rattle.fw_ledger.specs.Resets.{first_high}
-use Rattle.fw_ledger.specs.Stands.{StandsFor, no_seats}
-use Rattle.fw_ledger.specs.declared.tables.Tables.{Tables}
-use Rattle.fw_ledger.specs.declared.tables.Charge.TheVariants.{Free}
 use Rattle.fw_ledger.specs.declared.tables.Reclaimable.TheVariants.{Nothing as NoFlow}
 use Rattle.fw_ledger.specs.declared.tables.Addressed.TheVariants.{Nowhere}
-use Rattle.fw_ledger.specs.declared.tables.Asked.TheVariants.{Nothing as NotAsked}
-use Rattle.fw_account.proofs.Fold.{starts_sound}
-use Rattle.fw_account.proofs.Open.{low_starts}
+use Rattle.fw_model_account.proofs.Fold.{starts_sound}
+use Rattle.fw_model_account.proofs.Open.{low_starts}
 
 -- each place of the copies has the value
 pub copy_at : {A : Type 0} (n i : ℕ) (v : A) → get_or (replicate n v) i v ≡ v

@@ -1,25 +1,18 @@
 -- A swap that is the move that was decoded makes it, and one that is none is refused.
-use Rattle.fw_base.specs.declared.plug.PlugAt.{PlugAt}
-use Rattle.std.proofs.Common.{◌≡◌, ◌≢◌, ◌<◌, ◌+◌, ◌-◌, ◌/◌, ◌%◌, ◌⊎◌, inl, inr, ◌==◌, ◌&&◌, ℕ, Bool, true, false, Option, Some, None, Result, Ok, Err, List, length, get_or, set, cond, refl, sym, ◌∙◌, ap, subst, arith, get_or-set_same, get_or-set_other}
-use Rattle.std.proofs.lemmas.Bool.{cases_eq, false≢true}
-use Rattle.std.proofs.lemmas.Bool.Decides.{nat_tests}
-use Rattle.fw_base.specs.Tables.{update, same_plug}
-use Rattle.fw_base.proofs.Tables.{same_plug-true, same_plug_self}
-use Rattle.fw_account.specs.Account.{Account, Allocation, is_free, is_open, total}
-use Rattle.fw_account.specs.Moves.{Move, after}
-use Rattle.fw_account.specs.Words.{Register, word_of}
-use Rattle.fw_account.specs.Decode.{IsMove, can, allowed, decoded, move_at, register_of_move, same_register}
-use Rattle.fw_account.specs.Sound.{IsSound}
-use Rattle.fw_ledger.specs.Stands.{StandsFor, Follows, ResourcesFor, allocation_of, place}
-use Rattle.fw_ledger.specs.Swaps.{moved_by}
-use Rattle.fw_ledger.specs.Refused.{GoesOn, Takes}
+use Rattle.fw_ledger.proofs.Common.{PlugAt, ◌≡◌, ◌≢◌, ◌<◌, ◌+◌, ◌-◌, ◌/◌, ◌%◌, ◌⊎◌, inl, inr, ◌==◌, ◌&&◌, ℕ, Bool, true, false, Option, Some, None, List, length, get_or, cond, refl, sym, ◌∙◌, ap}
+use Rattle.fw_ledger.proofs.Common.{subst, arith, get_or-set_same, get_or-set_other, cases_eq, false≢true, nat_tests, update, Account, Allocation, is_free, is_open, Move, word_of, IsMove, allowed}
+use Rattle.fw_ledger.proofs.Common.{decoded, move_at, IsSound, StandsFor, Follows, ResourcesFor, allocation_of, place, moved_by, GoesOn, Charge, Free, Tables, same_open}
+use Rattle.std.proofs.Common.{Result, Ok, Err, set}
+use Rattle.fw_terms.specs.Tables.{same_plug}
+use Rattle.fw_terms.proofs.Tables.{same_plug-true, same_plug_self}
+use Rattle.fw_model_account.specs.Account.{total}
+use Rattle.fw_model_account.specs.Moves.{after}
+use Rattle.fw_model_account.specs.Words.{Register}
+use Rattle.fw_model_account.specs.Decode.{can, register_of_move, same_register}
+use Rattle.fw_ledger.specs.Refused.{Takes}
 use Rattle.fw_ledger.specs.declared.refused.Refused.{Refused}
-use Rattle.fw_ledger.specs.declared.tables.Charge.{Charge}
-use Rattle.fw_ledger.specs.declared.tables.Charge.TheVariants.{Free}
-use Rattle.fw_ledger.specs.declared.tables.Tables.{Tables}
-use Rattle.fw_account.proofs.Tests.{can_from}
-use Rattle.fw_account.proofs.Decoded.{allowed_is, same_register_self}
-use Rattle.fw_account.proofs.Open.{same_open}
+use Rattle.fw_model_account.proofs.Tests.{can_from}
+use Rattle.fw_model_account.proofs.Decoded.{allowed_is, same_register_self}
 use Rattle.fw_ledger.proofs.Orphans.{bits_same}
 use Rattle.fw_ledger.proofs.Related.{related_set, update_same, update_other}
 use Rattle.fw_ledger.proofs.ResetWords.{place_device, place_plug}
@@ -92,7 +85,8 @@ goes_stand new None h = absurd h
 goes_stand new (Some m) h = (m, h)
 
 -- or was refused
-pub takes_stand : {A : Type 0} (r : Result A Refused) (says : A → Type 0) (why : Refused → Type 0) (t new : Tables) (l : Account) (o : Option Account) → StandsFor t l → Takes r says t new o why → (m : Account) × StandsFor new m
+pub takes_stand : {A : Type 0} (r : Result A Refused) (says : A → Type 0) (why : Refused → Type 0) (t new : Tables) (l : Account) (o : Option Account) → StandsFor t l → Takes r says t new o why
+    → (m : Account) × StandsFor new m
 takes_stand (Ok a) says why t new l o h taken = goes_stand new o taken.1
 takes_stand (Err f) says why t new l o h taken = (l, subst (λ x. StandsFor x l) (sym taken.1) h)
 

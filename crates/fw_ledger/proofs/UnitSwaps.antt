@@ -1,23 +1,18 @@
 -- Swaps of BANDWIDTH_AVAILABLE.
-use Rattle.std.proofs.Common.{◌≡◌, ◌≢◌, ◌<◌, ◌≤◌, ◌-◌, ◌||◌, not, ℕ, Bool, true, false, nat_lt, Some, length, slice_set, Vec, Global, cond, refl, sym, ◌∙◌, ap, subst, arith, length-set}
-use Rattle.std.proofs.lemmas.Bool.Decides.{nat_tests}
-use Rattle.fw_base.specs.Tables.{find_to}
-use Rattle.fw_base.proofs.Tables.{find_to_is, IsFirst}
-use Rattle.fw_account.specs.Account.{Pending, Account, allocated, is_pending}
-use Rattle.fw_account.specs.Moves.{AllocateUnits, ReleaseUnits, with_allocation}
-use Rattle.fw_account.specs.Words.{BandwidthAvailable, word_of}
-use Rattle.fw_account.specs.Decode.{IsMove, is_flow, decoded, units_move, allowed, move_at}
-use Rattle.fw_account.specs.Sound.{IsSound}
-use Rattle.fw_ledger.specs.Stands.{StandsFor, Follows, allocation_of, charge_at}
-use Rattle.fw_ledger.specs.Swaps.{IsHeld, held_of, moved_by}
+use Rattle.fw_ledger.proofs.Common.{◌≡◌, ◌≢◌, ◌<◌, ◌≤◌, ◌-◌, ◌||◌, not, ℕ, Bool, true, false, nat_lt, Some, length, slice_set, Vec, Global, cond, refl, sym, ◌∙◌, ap, subst, arith, length-set}
+use Rattle.fw_ledger.proofs.Common.{nat_tests, find_to, Account, is_pending, word_of, IsMove, decoded, allowed, move_at, IsSound, StandsFor, Follows, allocation_of, charge_at, moved_by, Charge, Free}
+use Rattle.fw_ledger.proofs.Common.{Connected, Tables, moves_keep}
+use Rattle.fw_terms.proofs.Tables.{find_to_is, IsFirst}
+use Rattle.fw_model_account.specs.Account.{Pending, allocated}
+use Rattle.fw_model_account.specs.Moves.{AllocateUnits, ReleaseUnits, with_allocation}
+use Rattle.fw_model_account.specs.Words.{BandwidthAvailable}
+use Rattle.fw_model_account.specs.Decode.{is_flow, units_move}
+use Rattle.fw_ledger.specs.Swaps.{IsHeld, held_of}
 use Rattle.fw_ledger.specs.declared.held.Held.{Held}
-use Rattle.fw_ledger.specs.declared.tables.Charge.{Charge}
-use Rattle.fw_ledger.specs.declared.tables.Charge.TheVariants.{Free, Pending as PendingCharge, Connected, Orphaned}
-use Rattle.fw_ledger.specs.declared.tables.Tables.{Tables}
-use Rattle.fw_account.proofs.Allocations.{total_changed}
-use Rattle.fw_account.proofs.Decode.{pending_is}
-use Rattle.fw_account.proofs.Moves.{moves_keep}
-use Rattle.fw_account.proofs.Tests.{is_flow-true}
+use Rattle.fw_ledger.specs.declared.tables.Charge.TheVariants.{Pending as PendingCharge, Orphaned}
+use Rattle.fw_model_account.proofs.Allocations.{total_changed}
+use Rattle.fw_model_account.proofs.Decode.{pending_is}
+use Rattle.fw_model_account.proofs.Tests.{is_flow-true}
 use Rattle.fw_ledger.proofs.Swapping.{swap_taken, swap_decoded, charge_set}
 
 -- ---- what a controller holds
@@ -37,7 +32,7 @@ held_is t l c ch h lt found = go (charge_at t.charges.items ch) (h.resources.cha
     go (Connected p u) e f = absurd (grind arith)
     go (Orphaned p u) e f = absurd (grind arith)
 
--- the move that a swap can be, where controller c holds a channel
+-- the move that a swap can be, if controller c holds a channel
 pub units_decoded : (l : Account) (c : ℕ) (x : Held) (arg new : ℕ) → IsSound l → IsHeld c (Some x) l
     → decoded l c BandwidthAvailable arg new ≡ Some (x.plug, units_move arg new x.channel)
 units_decoded l c x arg new s h = rw (pending_is l c x.plug x.channel x.units s h.1, s.for_addressed c x.channel x.plug x.units h.1) refl

@@ -3,20 +3,20 @@ use Rattle.std.specs.Prelude.{◌≡◌, ℕ, Option, Some, None, Result, Ok, Er
 use Rattle.std.specs.Option.{option_map}
 use Rattle.fw_async.specs.declared.packet.Head.{Head}
 use Rattle.fw_words.specs.declared.swap.Swap.{Swap}
-use Rattle.fw_entry.specs.Network.{device_of_id}
-use Rattle.fw_account.specs.Account.{Account, Request}
-use Rattle.fw_account.specs.Decode.{move_at}
-use Rattle.fw_account.specs.Packets.{Reply}
-use Rattle.fw_account.specs.Words.{Register, register_of, word_of}
-use Rattle.fw_faults.specs.Looked.{Response, Looked, Asks, Replies, Shows, Happens, Other, IsAnswer}
-use Rattle.fw_faults.specs.Faults.{HasNoNode, Overlaps, IsOrphan, IsNoMove, IsNoEvent}
+use Rattle.fw_log_entry.specs.Network.{device_of_id}
+use Rattle.fw_model_account.specs.Account.{Account, Request}
+use Rattle.fw_model_account.specs.Decode.{move_at}
+use Rattle.fw_model_account.specs.Packets.{Reply}
+use Rattle.fw_model_account.specs.Words.{Register, register_of, word_of}
+use Rattle.fw_model_audit.specs.Looked.{Response, Looked, Asks, Replies, Shows, Happens, Other, IsAnswer}
+use Rattle.fw_model_audit.specs.Faults.{HasNoNode, Overlaps, IsOrphan, IsNoMove, IsNoEvent}
 use Rattle.fw_ledger.specs.Stands.{StandsFor, AskedFor}
 use Rattle.fw_ledger.specs.declared.answer.Answer.{Answer}
 use Rattle.fw_ledger.specs.declared.refused.Refused.{Refused}
 use Rattle.fw_ledger.specs.declared.refused.Refused.TheVariants.{NoNode, Overlap, Orphan, NoMove, NoEvent}
 use Rattle.fw_ledger.specs.declared.tables.Tables.{Tables}
 
--- the word that the register at the place of a request has, where one of the account stands there
+-- the word that the register at the place of a request has, if one of the account stands there
 abbrev pub word_asked : Account → Request → Option ℕ
 word_asked l q = option_map (word_of l) (register_of l.latest q.target q.address)
 
@@ -24,7 +24,7 @@ word_asked l q = option_map (word_of l) (register_of l.latest q.target q.address
 abbrev pub IsDue : Account → Looked → ℕ → Type 0
 IsDue l x word = (r : Response) (q : Request) → x ≡ Replies r → IsAnswer l r q → word_asked l q ≡ Some word
 
--- The entry is refused for this. One of these holds where there is no next account, and only one.
+-- The entry is refused for this. One of these holds if there is no next account, and only one.
 abbrev pub IsRefusedFor : Account → Looked → Refused → Type 0
 IsRefusedFor l x (NoNode id) = HasNoNode l x id
 IsRefusedFor l x (Overlap id) = Overlaps l x id
@@ -64,7 +64,7 @@ abbrev pub GoesOn : Tables → Option Account → Type 0
 GoesOn new None = ⊥
 GoesOn new (Some m) = StandsFor new m
 
--- The tables after an entry whose next account is this, and what is said of it: where there is none the entry is refused for a
+-- The tables after an entry whose next account is this, and what is said of it: if there is none the entry is refused for a
 -- reason that holds, and they are unchanged.
 abbrev pub Takes : {A : Type 0} → Result A Refused → (A → Type 0) → Tables → Tables → Option Account → (Refused → Type 0) → Type 0
 Takes (Ok a) says old new next why = says a × GoesOn new next

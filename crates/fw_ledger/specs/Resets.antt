@@ -1,18 +1,20 @@
 -- What a bus reset does to the places of the tables.
-use Rattle.fw_entry.specs.declared.nodes.NodeRow.{NodeRow}
+use Rattle.fw_log_entry.specs.declared.nodes.NodeRow.{NodeRow}
 use Rattle.fw_phy.specs.declared.packet.PhyPacket.{PhyPacket}
-use Rattle.std.specs.Prelude.{ℕ, ◌+◌, nat_lt, Bool, false, ◌&&◌, ◌||◌, None, List, slice_index, if◌then◌else◌}
+use Rattle.std.specs.Prelude.{◌≡◌, ◌≤◌, ℕ, ◌+◌, nat_lt, Bool, true, false, not, ◌&&◌, ◌||◌, None, List, slice_index, if◌then◌else◌}
 use Rattle.fw_plug.specs.Words.{is_connected, out_word, in_word}
 use Rattle.fw_plug.specs.Plugs.{disconnected}
-use Rattle.fw_entry.specs.Network.{speed_of, node_of_device}
-use Rattle.fw_account.specs.Account.{is_open}
-use Rattle.fw_account.specs.Words.{bits_word}
+use Rattle.fw_log_entry.specs.Network.{speed_of, node_of_device}
+use Rattle.fw_model_account.specs.Account.{is_open}
+use Rattle.fw_model_account.specs.Words.{bits_word}
 use Rattle.fw_ledger.specs.declared.tables.Charge.{Charge}
 use Rattle.fw_ledger.specs.declared.tables.Charge.TheVariants.{Free, Pending, Connected, Orphaned}
 use Rattle.fw_ledger.specs.declared.tables.Reclaimable.{Reclaimable}
 use Rattle.fw_ledger.specs.declared.tables.Reclaimable.TheVariants.{Nothing, Flow}
+use Rattle.fw_ledger.specs.declared.tables.Seats.{Seats}
+use Rattle.fw_ledger.specs.Stands.{no_seats}
 
--- CHANNELS_AVAILABLE_HI where nothing is allocated
+-- CHANNELS_AVAILABLE_HI if nothing is allocated
 abbrev pub first_high : Bool → ℕ
 first_high withheld = bits_word (λ i. is_open withheld (λ ch. None) (0 + i))
 
@@ -28,15 +30,29 @@ first_input = in_word (record { broadcast = false; counter = 0; channel = 63 })
 abbrev pub rate_of : List NodeRow → List PhyPacket → ℕ → ℕ
 rate_of nodes ids d = speed_of (node_of_device nodes d) ids
 
--- the word of output plug n of device d, where the devices had these numbers of plugs, and have these now; of a plug that is
--- not there now it is not looked at
-abbrev pub renewed_output : List ℕ → List ℕ → List NodeRow → List PhyPacket → ℕ → ℕ → ℕ → ℕ
-renewed_output before now nodes ids d n word =
-    if nat_lt n (slice_index now d) then (if nat_lt n (slice_index before d) then disconnected word else first_output (rate_of nodes ids d)) else word
+-- these are the speeds of the devices that have more output plugs now than before; those of the others do not count
+abbrev pub AreRates : List ℕ → List ℕ → List NodeRow → List PhyPacket → List ℕ → Type 0
+AreRates before now nodes ids rates =
+    (d n : ℕ) → nat_lt n (slice_index now d) ≡ true → nat_lt n (slice_index before d) ≡ false → slice_index rates d ≡ rate_of nodes ids d
+
+-- no device has more plugs now than before
+abbrev pub GainsNone : List ℕ → List ℕ → Type 0
+GainsNone before now = (d : ℕ) → slice_index now d ≤ slice_index before d
+
+-- the word of output plug n of device d, where the devices had these numbers of plugs, and have these now, and have these speeds; of a
+-- plug that is not there now it is not looked at
+abbrev pub renewed_output : List ℕ → List ℕ → List ℕ → ℕ → ℕ → ℕ → ℕ
+renewed_output before now rates d n word =
+    if nat_lt n (slice_index now d) then (if nat_lt n (slice_index before d) then disconnected word else first_output (slice_index rates d)) else word
 
 -- the word of input plug n of device d, likewise
 abbrev pub renewed_input : List ℕ → List ℕ → ℕ → ℕ → ℕ → ℕ
 renewed_input before now d n word = if nat_lt n (slice_index now d) then (if nat_lt n (slice_index before d) then disconnected word else first_input) else word
+
+-- whose the connections of a plug are that had this word, likewise: one whose word shows no connection has none to lose
+abbrev pub renewed_seats : List ℕ → List ℕ → ℕ → ℕ → ℕ → Seats → Seats
+renewed_seats before now d n word seats =
+    if nat_lt n (slice_index now d) then (if nat_lt n (slice_index before d) && not (is_connected word) then seats else no_seats) else seats
 
 -- whether an output plug goes on talking, likewise
 abbrev pub goes_on : List ℕ → List ℕ → Bool → ℕ → ℕ → ℕ → Bool → Bool

@@ -1,18 +1,19 @@
 -- Which account the tables of a ledger stand for.
-use Rattle.fw_base.specs.declared.plug.PlugAt.{PlugAt}
-use Rattle.fw_entry.specs.declared.entry.ResetEntry.{ResetEntry}
-use Rattle.fw_entry.specs.declared.nodes.NodeRow.{NodeRow}
-use Rattle.std.specs.Prelude.{◌≡◌, ◌<◌, ℕ, ◌+◌, ◌-◌, ◌*◌, ◌==◌, nat_lt, nat_le, slice_get, Bool, true, false, Option, Some, None, List, [], length, replicate, slice_index, slice_index_or, if◌then◌else◌, IsTrue}
-use Rattle.fw_entry.specs.Network.{first_id}
+use Rattle.fw_terms.specs.declared.plug.PlugAt.{PlugAt}
+use Rattle.fw_log_entry.specs.declared.entry.ResetEntry.{ResetEntry}
+use Rattle.fw_log_entry.specs.declared.nodes.NodeRow.{NodeRow}
+use Rattle.std.specs.Prelude.{◌≡◌, ◌<◌, ℕ, ◌+◌, ◌-◌, ◌*◌, ◌==◌, nat_lt, nat_le, slice_get, Bool, true}
+use Rattle.std.specs.Prelude.{false, Option, Some, None, List, [], length, replicate, slice_index, slice_index_or, if◌then◌else◌, IsTrue}
+use Rattle.fw_log_entry.specs.Network.{first_id}
 use Rattle.std.specs.Option.{option_map}
 use Rattle.fw_words.specs.Quadlet.{quadlet_at}
 use Rattle.fw_words.specs.declared.swap.TheConstants.{COMPARE_SWAP}
 use Rattle.fw_plug.specs.Words.{Settings, out_word, in_word}
-use Rattle.fw_account.specs.Account.{Pending, Connected, Orphaned, Allocation, Owner, Of, Dead, Connections, Flow, Reads, Locks, Request, Account, total, is_open, is_there, counter}
-use Rattle.fw_account.specs.Network.{is_output, is_input}
-use Rattle.fw_account.specs.Packets.{is_quadlet_swap}
-use Rattle.fw_account.specs.Words.{bits_word}
-use Rattle.fw_account.specs.Sound.{IsSound}
+use Rattle.fw_model_account.specs.Account.{Pending, Connected, Orphaned, Allocation, Owner, Of, Dead, Connections, Flow, Reads, Locks, Request, Account, total, is_open, is_there, counter}
+use Rattle.fw_model_account.specs.Network.{is_output, is_input}
+use Rattle.fw_model_account.specs.Packets.{is_quadlet_swap}
+use Rattle.fw_model_account.specs.Words.{bits_word}
+use Rattle.fw_model_account.specs.Sound.{IsSound}
 use Rattle.fw_ledger.specs.declared.tables.Charge.{Charge}
 use Rattle.fw_ledger.specs.declared.tables.Charge.TheVariants.{Free, Pending as PendingCharge, Connected as ConnectedCharge, Orphaned as OrphanedCharge}
 use Rattle.fw_ledger.specs.declared.tables.Reclaimable.{Reclaimable}
@@ -56,7 +57,8 @@ abbrev pub AskedFor : Asked → Option Request → Type 0
 AskedFor NotAsked o = o ≡ None
 AskedFor (Read target address) o = (o ≡ Some (record { target = target; address = address; operation = Reads }))
 AskedFor (Swap target address swap) o =
-    (bytes : List ℕ) × (o ≡ Some (record { target = target; address = address; operation = Locks COMPARE_SWAP bytes })) × (length bytes ≡ 8) × (swap.argument ≡ quadlet_at bytes 0) × (swap.new ≡ quadlet_at bytes 4)
+    (bytes : List ℕ) × (o ≡ Some (record { target = target; address = address; operation = Locks COMPARE_SWAP bytes })) × (length bytes ≡ 8) × (swap.argument ≡ quadlet_at bytes 0)
+    × (swap.new ≡ quadlet_at bytes 4)
 AskedFor (Lock target address function) o =
     (bytes : List ℕ) × (o ≡ Some (record { target = target; address = address; operation = Locks function bytes })) × (is_quadlet_swap function bytes ≡ false)
 
@@ -176,7 +178,7 @@ pub record HasSizes (t : Tables) : Type 0 where
   pub input_seats : length t.input_seats.items ≡ 1953
   pub continues : length t.continues.items ≡ 1953
 
--- The tables stand for this account, which is sound. What they have at a plug counts only where the latest reset entry has
+-- The tables stand for this account, which is sound. What they have at a plug counts only if the latest reset entry has
 -- the plug.
 pub record StandsFor (t : Tables) (l : Account) : Type 0 where
   pub sizes : HasSizes t
@@ -194,7 +196,7 @@ pub record StandsFor (t : Tables) (l : Account) : Type 0 where
 abbrev pub Stands : Tables → Type 0
 Stands t = (l : Account) × StandsFor t l
 
--- The tables after an entry whose next account is this: where there is none they are unchanged, and the entry is refused.
+-- The tables after an entry whose next account is this: if there is none they are unchanged, and the entry is refused.
 abbrev pub Follows : Bool → Tables → Tables → Option Account → Type 0
 Follows taken old new None = (taken ≡ false) × (new ≡ old)
 Follows taken old new (Some m) = (taken ≡ true) × StandsFor new m

@@ -2,9 +2,9 @@
 use Rattle.std.specs.Prelude.{ℕ, ◌==◌, Bool, false, ◌&&◌, if◌then◌else◌, Option, Some, None, List}
 use Rattle.fw_words.specs.declared.swap.Swap.{Swap as TheSwap}
 use Rattle.fw_words.specs.declared.swap.TheConstants.{COMPARE_SWAP}
-use Rattle.fw_account.specs.Account.{Account}
-use Rattle.fw_account.specs.Decode.{move_at}
-use Rattle.fw_account.specs.Words.{Register}
+use Rattle.fw_model_account.specs.Account.{Account}
+use Rattle.fw_model_account.specs.Decode.{move_at}
+use Rattle.fw_model_account.specs.Words.{Register}
 use Rattle.fw_ledger.specs.Swaps.{account_after, shows_argument}
 use Rattle.fw_ledger.specs.declared.tables.Asked.{Asked}
 use Rattle.fw_ledger.specs.declared.tables.Asked.TheVariants.{Nothing, Read, Swap, Lock}
@@ -16,7 +16,7 @@ is_lock_of (Read target address) source function = false
 is_lock_of (Swap target address swap) source function = (target == source) && (function == COMPARE_SWAP)
 is_lock_of (Lock target address asked) source function = (target == source) && (asked == function)
 
--- the swap that a response to the request makes, where it makes one
+-- the swap that a response to the request makes, if it makes one
 abbrev pub swap_done : Asked → ℕ → List ℕ → Option TheSwap
 swap_done Nothing rcode old = None
 swap_done (Read target address) rcode old = None

@@ -1,15 +1,15 @@
 -- What the tables of a ledger say of a compare_swap.
-use Rattle.fw_base.specs.declared.plug.ConnectionKind.{ConnectionKind}
-use Rattle.fw_base.specs.declared.plug.ConnectionKind.TheVariants.{PointToPoint, Broadcast}
-use Rattle.fw_base.specs.declared.plug.PlugAt.{PlugAt}
+use Rattle.fw_terms.specs.declared.plug.ConnectionKind.{ConnectionKind}
+use Rattle.fw_terms.specs.declared.plug.ConnectionKind.TheVariants.{PointToPoint, Broadcast}
+use Rattle.fw_terms.specs.declared.plug.PlugAt.{PlugAt}
 use Rattle.fw_words.specs.Quadlet.{field, quadlet_at}
 use Rattle.fw_plug.specs.Words.{OutFields, Settings, is_connected}
 use Rattle.fw_plug.specs.Changes.{is_full}
 pub use Rattle.fw_plug.specs.Changes.{connection_value, with_channel}
 use Rattle.std.specs.Prelude.{◌≡◌, ◌<◌, ◌⊎◌, ℕ, ◌==◌, nat_lt, Bool, true, false, not, ◌&&◌, ◌||◌, IsTrue, List, length, slice_index, if◌then◌else◌, Option, Some, None}
-use Rattle.fw_account.specs.Account.{Pending, Allocation, Connections, Account, is_there, is_pending_of, counter, pending_channel}
-use Rattle.fw_account.specs.Moves.{Move, after}
-use Rattle.fw_account.specs.Words.{Register, BandwidthAvailable, ChannelsAvailable, OutputPlug, InputPlug}
+use Rattle.fw_model_account.specs.Account.{Pending, Allocation, Connections, Account, is_there, is_pending_of, counter, pending_channel}
+use Rattle.fw_model_account.specs.Moves.{Move, after}
+use Rattle.fw_model_account.specs.Words.{Register, BandwidthAvailable, ChannelsAvailable, OutputPlug, InputPlug}
 use Rattle.fw_ledger.specs.declared.register.Register.{Register as RegisterName}
 use Rattle.fw_ledger.specs.declared.register.Register.TheVariants.{Bandwidth, HighChannels, LowChannels, Output, Input}
 use Rattle.fw_ledger.specs.declared.held.Held.{Held}
@@ -25,7 +25,7 @@ register_named LowChannels = ChannelsAvailable 32
 register_named (Output p) = OutputPlug p
 register_named (Input p) = InputPlug p
 
--- the account after the move that a swap was found to be, where it is one
+-- the account after the move that a swap was found to be, if it is one
 abbrev pub moved_by : ℕ → Option (PlugAt × Move) → Account → Option Account
 moved_by c None l = None
 moved_by c (Some m) l = Some (after c m.0 m.1 l)

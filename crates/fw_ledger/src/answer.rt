@@ -2,9 +2,9 @@
 
 ghost use Rattle.std.specs.Prelude.{◌≡◌, ◌<◌, IfSome, Some};
 ghost use Rattle.std.specs.Option.{option_map};
-ghost use Rattle.fw_account.specs.Account.{Account, Request};
-ghost use Rattle.fw_account.specs.Packets.{ended};
-ghost use Rattle.fw_account.specs.Words.{register_of, word_of};
+ghost use Rattle.fw_model_account.specs.Account.{Account, Request};
+ghost use Rattle.fw_model_account.specs.Packets.{ended};
+ghost use Rattle.fw_model_account.specs.Words.{register_of, word_of};
 ghost use Rattle.fw_ledger.specs.Stands.{Stands, StandsFor, AskedFor};
 ghost use Rattle.fw_ledger.specs.Swaps.{IsThere, register_named};
 
@@ -18,11 +18,11 @@ pub struct Answer {
     pub requester: u16,
     /// The request.
     pub asked: Asked,
-    /// The response code: 0 where the response is complete.
+    /// The response code: 0 if the response is complete.
     pub rcode: u8,
-    /// The quadlet that it shows. None where the old value of a lock is not of four bytes.
+    /// The quadlet that it shows. None if the old value of a lock is not of four bytes.
     pub shown: Option<u32>,
-    /// The word that the register of the account at the request's address has before the response. None where no register of
+    /// The word that the register of the account at the request's address has before the response. None if no register of
     /// the account stands there.
     pub due: Option<u32>,
 }

@@ -1,16 +1,16 @@
 //! Swaps of CHANNELS_AVAILABLE.
 
 ghost use Rattle.std.specs.Prelude.{◌≡◌, ◌<◌, ◌+◌, ◌-◌, ◌^◌, ◌==◌, IfSome, Some};
-ghost use Rattle.fw_account.specs.Account.{Account, is_withheld};
-ghost use Rattle.fw_account.specs.Moves.{AllocateChannel, ReleaseChannel};
-ghost use Rattle.fw_account.specs.Words.{ChannelsAvailable};
-ghost use Rattle.fw_account.specs.Decode.{can, changed_bit, at_addressed, held_for, allowed, move_at};
+ghost use Rattle.fw_model_account.specs.Account.{Account, is_withheld};
+ghost use Rattle.fw_model_account.specs.Moves.{AllocateChannel, ReleaseChannel};
+ghost use Rattle.fw_model_account.specs.Words.{ChannelsAvailable};
+ghost use Rattle.fw_model_account.specs.Decode.{can, changed_bit, at_addressed, held_for, allowed, move_at};
 ghost use Rattle.fw_ledger.specs.Stands.{Stands, StandsFor, Follows};
 ghost use Rattle.fw_ledger.specs.Swaps.{IsHalf, half_of, with_half, moved_by};
 
 use crate::held::{charge_at, holds_no_units, is_free};
 use crate::tables::{Addressed, Charge, Tables};
-use fw_base::PlugAt;
+use fw_terms::PlugAt;
 use fw_words::Quadlet;
 
 /// The channel that a bus may withhold.
@@ -129,7 +129,7 @@ impl Tables {
         true
     }
 
-    /// Controller `c` swaps the half of CHANNELS_AVAILABLE that begins with this channel. It is refused where that is no
+    /// Controller `c` swaps the half of CHANNELS_AVAILABLE that begins with this channel. It is refused if that is no
     /// move.
     pub fn swap_channels(&mut self, c: u8, base: u8, argument: u32, new: u32) -> bool
         requires stands { Stands self.old }

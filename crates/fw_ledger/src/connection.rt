@@ -2,18 +2,18 @@
 
 ghost use Rattle.std.specs.Prelude.{◌≡◌, ◌<◌, length, slice_index};
 ghost use Rattle.fw_plug.specs.Words.{out_fields, out_word};
-ghost use Rattle.fw_account.specs.Account.{Connections};
-ghost use Rattle.fw_account.specs.Moves.{add_connection, drop_connection};
-ghost use Rattle.fw_account.specs.Decode.{is_more, kind_of, is_owner, has_connection_of};
+ghost use Rattle.fw_model_account.specs.Account.{Connections};
+ghost use Rattle.fw_model_account.specs.Moves.{add_connection, drop_connection};
+ghost use Rattle.fw_model_account.specs.Decode.{is_more, kind_of, is_owner, has_connection_of};
 ghost use Rattle.fw_ledger.specs.Stands.{SeatsFor, owner_of, place, seats_at};
 ghost use Rattle.fw_ledger.specs.Swaps.{connected_once, shows_room};
 
 use crate::place::place;
 use crate::tables::{Broadcaster, Seats};
-use fw_base::{ConnectionKind, PlugAt};
 use fw_plug::{OutWord, is_full, one_more, unconnected_output};
+use fw_terms::{ConnectionKind, PlugAt};
 
-/// A connection is made, and none broken, where a plug's word becomes the other.
+/// A connection is made, and none broken, if a plug's word becomes the other.
 pub fn is_more(word: u32, new: u32) -> bool
     ensures { result ≡ is_more (out_fields word).broadcast (out_fields word).counter (out_fields new).broadcast (out_fields new).counter }
 {

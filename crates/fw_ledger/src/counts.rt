@@ -1,17 +1,15 @@
 //! How many plugs each device has, by a reset entry, and what else is set at a bus reset.
 
-ghost use Rattle.std.specs.Prelude.{◌≡◌, ◌<◌, ◌≤◌, ℕ, length, max, nat_lt, slice_index, slice_set, if◌then◌else◌};
+ghost use Rattle.std.specs.Prelude.{◌≡◌, ◌<◌, ◌≤◌, ℕ, length, max, nat_lt, slice_index, slice_set, if◌then◌else◌, IsFalse};
 ghost use Rattle.std.specs.List.{list_any, All};
-ghost use Rattle.fw_base.specs.declared.plug.PlugAt.{PlugAt};
-ghost use Rattle.fw_entry.specs.Log.{RowFits};
-ghost use Rattle.fw_account.specs.Network.{is_output_of, is_input_of};
-ghost use Rattle.fw_ledger.specs.Resets.{talker};
-ghost use Rattle.fw_ledger.specs.Renewed.{AreEmpty};
+ghost use Rattle.fw_terms.specs.declared.plug.PlugAt.{PlugAt};
+ghost use Rattle.fw_log_entry.specs.Log.{RowFits};
+ghost use Rattle.fw_model_account.specs.Network.{is_output_of, is_input_of};
+ghost use Rattle.fw_ledger.specs.Resets.{GainsNone, talker};
 ghost use Rattle.fw_ledger.specs.Stands.{charge_at, reclaimable_at, asked_at};
 
-use crate::place::plugs_of;
-use crate::tables::{Asked, Charge, Reclaimable, Seats, empty};
-use fw_entry::{NodeList, NodeRow};
+use crate::tables::{Asked, Charge, Reclaimable};
+use fw_log_entry::{NodeList, NodeRow};
 
 // The device has so many plugs at least.
 fn raise(counts: &mut [u8; 63], device: u8, count: u8)
@@ -32,6 +30,18 @@ pub fn outs_of(nodes: &[NodeRow]) -> [u8; 63]
         raise(&mut counts, row.device, row.outs);
     }
     counts
+}
+
+/// Whether some device has more plugs now than before.
+pub fn gains_plugs(before: &[u8; 63], now: &[u8; 63]) -> bool
+    ensures { IsFalse result → GainsNone before.now now.now }
+{
+    for device in 0..63 {
+        if before[device] < now[device] {
+            return true;
+        }
+    }
+    false
 }
 
 /// The number of input plugs of each device.
@@ -58,7 +68,7 @@ pub fn same_nodes(nodes: &[NodeRow]) -> NodeList
     same
 }
 
-/// The flows that may be allocated again after a bus reset: where no reclaim second runs, those that talk.
+/// The flows that may be allocated again after a bus reset: if no reclaim second runs, those that talk.
 pub fn renew_flows(flows: &mut [Reclaimable], charges: &[Charge], runs: bool)
     requires flows { length flows.old ≡ 64 }
     requires charges { length charges.now ≡ 64 }
@@ -77,19 +87,6 @@ fn talker(charge: Charge) -> Reclaimable
     match charge {
         Charge::Connected { plug, units } => Reclaimable::Flow { plug, units },
         _ => Reclaimable::Nothing,
-    }
-}
-
-/// No plug that the devices have is connected.
-pub fn disconnect(plugs: &mut [Seats], now: &[u8; 63])
-    requires { length plugs.old ≡ 1953 }
-    ensures { AreEmpty now.now plugs.new }
-{
-    for device in 0..63 {
-        let first = device * 31;
-        for k in first..first + plugs_of(now, device) {
-            plugs[k] = empty();
-        }
     }
 }
 

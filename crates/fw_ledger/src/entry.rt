@@ -1,10 +1,10 @@
 //! Entries.
 
-ghost use Rattle.fw_entry.specs.Log.{Fits};
-ghost use Rattle.fw_account.specs.Account.{Account};
-ghost use Rattle.fw_account.specs.Fold.{after_event, next_account};
-ghost use Rattle.fw_account.specs.Packets.{after_packet};
-ghost use Rattle.fw_faults.specs.Looked.{Happens, looked, looked_packet};
+ghost use Rattle.fw_log_entry.specs.Log.{Fits};
+ghost use Rattle.fw_model_account.specs.Account.{Account};
+ghost use Rattle.fw_model_account.specs.Fold.{after_event, next_account};
+ghost use Rattle.fw_model_account.specs.Packets.{after_packet};
+ghost use Rattle.fw_model_audit.specs.Looked.{Happens, looked, looked_packet};
 ghost use Rattle.fw_ledger.specs.Stands.{Stands, StandsFor, Follows};
 ghost use Rattle.fw_ledger.specs.Refused.{Takes, IsRefusedFor, ShowsAnswer};
 
@@ -12,8 +12,8 @@ use crate::answer::Answer;
 use crate::refused::Refused;
 use crate::tables::Tables;
 use fw_async::Packet;
-use fw_entry::codes::event::{DIED, SECOND_OVER, WITHHELD};
-use fw_entry::{Entry, EventEntry};
+use fw_log_entry::codes::event::{DIED, SECOND_OVER, WITHHELD};
+use fw_log_entry::{Entry, EventEntry};
 
 impl Tables {
     // An event happens, unless there can be none.
@@ -70,7 +70,7 @@ impl Tables {
         }
     }
 
-    /// An entry. It is refused where the account has no next one. A response that ends a request is answered.
+    /// An entry. It is refused if the account has no next one. A response that ends a request is answered.
     pub fn take_entry(&mut self, e: &Entry) -> Result<Option<Answer>, Refused>
         requires stands { Stands self.old }
         requires fits { Fits e.now }

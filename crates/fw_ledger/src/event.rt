@@ -1,8 +1,8 @@
 //! The end of a reclaim second, the death of a controller, and a channel that is withheld.
 
 ghost use Rattle.std.specs.Prelude.{◌≡◌, ◌<◌, Some, None, is_some, map, if◌then◌else◌};
-ghost use Rattle.fw_account.specs.Account.{Account};
-ghost use Rattle.fw_account.specs.Events.{after_second, after_death, after_withholding};
+ghost use Rattle.fw_model_account.specs.Account.{Account};
+ghost use Rattle.fw_model_account.specs.Events.{after_second, after_death, after_withholding};
 ghost use Rattle.fw_ledger.specs.Stands.{Stands, StandsFor, Follows};
 ghost use Rattle.fw_ledger.specs.Deaths.{orphaned_charge, orphaned_seats};
 
@@ -55,7 +55,7 @@ fn orphan_plugs(plugs: &mut [Seats], c: u8)
 }
 
 impl Tables {
-    /// The reclaim second is over. It is refused where none runs.
+    /// The reclaim second is over. It is refused if none runs.
     pub fn take_second(&mut self) -> bool
         requires stands { Stands self.old }
         ensures { (l : Account) → StandsFor self.old l → Follows result self.old self.new (if l.reclaiming then Some (after_second l) else None) }
@@ -67,7 +67,7 @@ impl Tables {
         true
     }
 
-    /// Channel 31 is withheld from now on. It is refused behind a reset entry.
+    /// Channel 31 is withheld from now on. It is refused after a reset entry.
     pub fn take_withholding(&mut self) -> bool
         requires stands { Stands self.old }
         ensures { (l : Account) → StandsFor self.old l → Follows result self.old self.new (if is_some l.latest then None else Some (after_withholding l)) }

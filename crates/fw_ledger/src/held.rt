@@ -1,15 +1,15 @@
 //! The channel and the units that a controller holds, and the flows that may be allocated again.
 
 ghost use Rattle.std.specs.Prelude.{◌≡◌, ◌<◌, ◌||◌, not, length};
-ghost use Rattle.fw_base.specs.Tables.{same_plug};
-ghost use Rattle.fw_account.specs.Account.{Account, is_free};
-ghost use Rattle.fw_account.specs.Decode.{is_flow, is_flow_of, is_held};
+ghost use Rattle.fw_terms.specs.Tables.{same_plug};
+ghost use Rattle.fw_model_account.specs.Account.{Account, is_free};
+ghost use Rattle.fw_model_account.specs.Decode.{is_flow, is_flow_of, is_held};
 ghost use Rattle.fw_ledger.specs.Stands.{Stands, StandsFor, allocation_of, flow_of, charge_at, reclaimable_at};
 ghost use Rattle.fw_ledger.specs.Swaps.{IsHeld, held_of, holds_no_units};
 
 use crate::place::pending_channel;
 use crate::tables::{Charge, Reclaimable, Tables};
-use fw_base::PlugAt;
+use fw_terms::PlugAt;
 
 /// What a controller has allocated and not connected: a channel, the output plug that it is for, and the units with it.
 #[derive(Clone, Copy)]
@@ -121,7 +121,7 @@ impl Tables {
         held_of(channel, charge_at(&self.charges, channel))
     }
 
-    /// The channel may be allocated for the plug: while a reclaim second runs, only where the plug's flow talked on it.
+    /// The channel may be allocated for the plug: while a reclaim second runs, only if the plug's flow talked on it.
     pub fn may_reclaim_channel(&self, channel: usize, p: PlugAt) -> bool
         requires stands { Stands self.now }
         requires within { channel < 64 }
@@ -130,7 +130,7 @@ impl Tables {
         !self.reclaiming || is_flow_of(reclaimable_at(&self.reclaimable, channel), p)
     }
 
-    /// The units may be allocated for the plug: while a reclaim second runs, only where its flow talked with them.
+    /// The units may be allocated for the plug: while a reclaim second runs, only if its flow talked with them.
     pub fn may_reclaim_units(&self, channel: usize, p: PlugAt, u: u32) -> bool
         requires stands { Stands self.now }
         requires within { channel < 64 }

@@ -3,10 +3,10 @@
 ghost use Rattle.std.specs.Prelude.{◌≡◌, ◌<◌, nat_lt, slice_index, Some, IsTrue};
 ghost use Rattle.std.specs.Vec.{with_item};
 ghost use Rattle.fw_plug.specs.Words.{in_fields};
-ghost use Rattle.fw_account.specs.Account.{Account};
-ghost use Rattle.fw_account.specs.Moves.{ConnectInput, DisconnectInput};
-ghost use Rattle.fw_account.specs.Words.{InputPlug};
-ghost use Rattle.fw_account.specs.Decode.{allowed, move_at};
+ghost use Rattle.fw_model_account.specs.Account.{Account};
+ghost use Rattle.fw_model_account.specs.Moves.{ConnectInput, DisconnectInput};
+ghost use Rattle.fw_model_account.specs.Words.{InputPlug};
+ghost use Rattle.fw_model_account.specs.Decode.{allowed, move_at};
 ghost use Rattle.fw_ledger.specs.Stands.{Stands, StandsFor, Follows, place, word_at};
 ghost use Rattle.fw_ledger.specs.Swaps.{moved_by, keeps_channel};
 
@@ -16,10 +16,10 @@ use crate::connection::{
 };
 use crate::place::{place, word_at};
 use crate::tables::{Seats, Tables};
-use fw_base::{ConnectionKind, PlugAt};
 use fw_plug::{InWord, connection_value, with_channel};
+use fw_terms::{ConnectionKind, PlugAt};
 
-// A plug with this word may be connected on the channel: where it is connected, it stays.
+// A plug with this word may be connected on the channel: if it is connected, it stays.
 fn keeps_channel(word: u32, channel: u8) -> bool
     ensures { result ≡ keeps_channel word channel }
 {
@@ -74,7 +74,7 @@ impl Tables {
         true
     }
 
-    /// Controller `c` swaps the register of an input plug. It is refused where that is no move.
+    /// Controller `c` swaps the register of an input plug. It is refused if that is no move.
     pub fn swap_input(&mut self, c: u8, p: PlugAt, argument: u32, new: u32) -> bool
         requires stands { Stands self.old }
         requires controller { c < 63 }

@@ -1,14 +1,16 @@
-ghost use Rattle.std.specs.Prelude.{◌≡◌, ◌+◌, ◌-◌, ◌*◌, ◌/◌, ◌%◌, ◌^◌, ◌<◌, ℕ, IfOk, IfErr, IfSome, IsOkAnd, Some, None, is_some, if◌then◌else◌, ⊤};
+ghost use Rattle.std.specs.Prelude.{◌≡◌, ◌+◌, ◌-◌, ◌*◌, ◌/◌, ◌%◌, ◌^◌, ◌<◌, ℕ, IfOk, IfErr, IfSome, IsOkAnd, Some, None, is_some, if◌then◌else◌, ⊤, IsTrue, IsFalse};
 ghost use Rattle.std.specs.Option.{option_map};
-ghost use Rattle.fw_entry.specs.Log.{Fits};
-ghost use Rattle.fw_entry.specs.Network.{device_of_id};
-ghost use Rattle.fw_account.specs.Account.{Account, Operation, is_open};
-ghost use Rattle.fw_account.specs.Decode.{move_at};
-ghost use Rattle.fw_account.specs.Fold.{no_account, next_account};
-ghost use Rattle.fw_account.specs.Network.{is_output, is_input};
-ghost use Rattle.fw_account.specs.Packets.{asked_by, ended};
-ghost use Rattle.fw_account.specs.Words.{BandwidthAvailable, ChannelsAvailable, OutputPlug, InputPlug, word_of, register_of, id_in};
-ghost use Rattle.fw_faults.specs.Looked.{Asks, looked};
+ghost use Rattle.fw_log_entry.specs.Log.{Fits, ResetFits};
+ghost use Rattle.fw_log_entry.specs.declared.entry.ResetEntry.{ResetEntry as AReset};
+ghost use Rattle.fw_log_entry.specs.Network.{device_of_id};
+ghost use Rattle.fw_model_account.specs.Account.{Account, Operation, is_open};
+ghost use Rattle.fw_model_account.specs.Decode.{move_at};
+ghost use Rattle.fw_model_account.specs.Events.{after_reset};
+ghost use Rattle.fw_model_account.specs.Fold.{no_account, next_account};
+ghost use Rattle.fw_model_account.specs.Network.{is_output, is_input};
+ghost use Rattle.fw_model_account.specs.Packets.{asked_by, ended};
+ghost use Rattle.fw_model_account.specs.Words.{BandwidthAvailable, ChannelsAvailable, OutputPlug, InputPlug, word_of, register_of, id_in};
+ghost use Rattle.fw_model_audit.specs.Looked.{Asks, looked};
 ghost use Rattle.fw_ledger.specs.Stands.{Stands, StandsFor, AskedFor, Follows};
 ghost use Rattle.fw_ledger.specs.Swaps.{IsThere, register_named, moved_by};
 ghost use Rattle.fw_ledger.specs.Refused.{GoesOn, IsRefusedFor, ShowsAnswer, Takes};
@@ -18,9 +20,9 @@ use crate::refused::Refused;
 use crate::register::Register;
 use crate::renew::id_of_device;
 use crate::tables::{Asked, Tables};
-use fw_base::PlugAt;
-use fw_entry::{Entry, Timed};
+use fw_log_entry::{Entry, NodeRow, Timed};
 use fw_plug::{InWord, OutWord};
+use fw_terms::PlugAt;
 use fw_words::Swap;
 use std::alloc::{AllocError, Global};
 use std::marker::Model;
@@ -54,7 +56,7 @@ impl Ledger {
     }
 
     /// Takes an entry, and answers with the response that it is, if it is one of a procedure. It is refused, and the ledger
-    /// unchanged, exactly where the account has no next one, and for the reason that holds. No memory is taken.
+    /// unchanged, exactly if the account has no next one, and for the reason that holds. No memory is taken.
     pub fn take_entry(&mut self, e: &Entry) -> Result<Option<Answer>, Refused>
         requires fits { Fits e.now }
         ensures taken { (l : Account) → StandsFor self.old l → IfOk result (λ a. GoesOn self.new (next_account l e.now) × ShowsAnswer l (looked e.now) a) }
@@ -72,8 +74,20 @@ impl Ledger {
         Ok(self.take_entry(&t.what).is_ok())
     }
 
+    /// Takes a bus reset of which the nodes and the resource manager are known, and not the self-ID packets, as `take_entry` takes its
+    /// entry. It is not taken, and nothing is changed, if a device has more output plugs than before it: a new plug begins with the
+    /// speed of its device. No memory is taken.
+    pub fn take_bus(&mut self, manager: Option<u8>, nodes: &[NodeRow]) -> bool
+        requires fits { (r : AReset) × ResetFits r × (r.manager ≡ manager) × (r.nodes ≡ nodes.now) }
+        ensures taken { IsTrue result → (l : Account) (r : AReset) → StandsFor self.old l → ResetFits r → r.manager ≡ manager → r.nodes ≡ nodes.now
+            → StandsFor self.new (after_reset r l) }
+        ensures kept { IsFalse result → self.new ≡ self.old }
+    {
+        self.tables.take_bus(manager, nodes)
+    }
+
     /// A request of the node with the ID `source`, for what `asked` says at an address of another: as `take_entry` takes the packet that
-    /// asks it, with the label of procedures. Where it is refused the ledger is unchanged. No memory is taken.
+    /// asks it, with the label of procedures. If it is refused the ledger is unchanged. No memory is taken.
     pub fn take_request(
         &mut self,
         source: u16,
@@ -96,7 +110,7 @@ impl Ledger {
         self.tables.end(device);
     }
 
-    /// The controller of this device swaps a register of the account. It is refused, and the ledger unchanged, where that is no move.
+    /// The controller of this device swaps a register of the account. It is refused, and the ledger unchanged, if that is no move.
     pub fn swap(&mut self, device: u8, register: Register, s: Swap) -> bool
         requires device { device < 63 }
         requires there { IsThere register self.old }
@@ -105,7 +119,7 @@ impl Ledger {
         self.tables.swap(device, register, s)
     }
 
-    /// The tables, to be looked at: what they have at a plug counts only where the latest reset entry has the plug, and what may be
+    /// The tables, to be looked at: what they have at a plug counts only if the latest reset entry has the plug, and what may be
     /// allocated again only while a reclaim second runs.
     pub fn tables(&self) -> &Tables
         ensures same { result.now ≡ self.now }
@@ -121,7 +135,7 @@ impl Ledger {
         self.tables.left
     }
 
-    /// The channels that are open: CHANNELS_AVAILABLE_HI in the upper 32 bits, LO in the lower. Bit 63 - c is 1 exactly where
+    /// The channels that are open: CHANNELS_AVAILABLE_HI in the upper 32 bits, LO in the lower. Bit 63 - c is 1 exactly if
     /// channel c is free and the bus does not withhold it.
     pub fn free_channels(&self) -> u64
         ensures words { (l : Account) → StandsFor self.now l → result ≡ word_of l (ChannelsAvailable 0) * 2 ^ 32 + word_of l (ChannelsAvailable 32) }
@@ -130,14 +144,14 @@ impl Ledger {
         (u64::from(self.tables.high) << 32) + u64::from(self.tables.low)
     }
 
-    /// The word of an output plug's register. None exactly where the latest reset entry has no such plug.
+    /// The word of an output plug's register. None exactly if the latest reset entry has no such plug.
     pub fn out_word(&self, p: PlugAt) -> Option<OutWord>
         ensures { (l : Account) → StandsFor self.now l → result ≡ (if is_output l.latest p then Some (record { 0 = word_of l (OutputPlug p) }) else None) }
     {
         Some(OutWord(self.tables.out_word(p)?))
     }
 
-    /// The word of an input plug's register. None exactly where the latest reset entry has no such plug.
+    /// The word of an input plug's register. None exactly if the latest reset entry has no such plug.
     pub fn in_word(&self, p: PlugAt) -> Option<InWord>
         ensures { (l : Account) → StandsFor self.now l → result ≡ (if is_input l.latest p then Some (record { 0 = word_of l (InputPlug p) }) else None) }
     {
@@ -158,7 +172,7 @@ impl Ledger {
         self.tables.reclaiming
     }
 
-    /// The device that has a node ID. None exactly where the latest reset entry has no such node.
+    /// The device that has a node ID. None exactly if the latest reset entry has no such node.
     pub fn device(&self, id: u16) -> Option<u8>
         ensures device { (l : Account) → StandsFor self.now l → result ≡ device_of_id l.latest id }
         ensures within { IfSome result (λ d. d < 63) }
@@ -166,7 +180,7 @@ impl Ledger {
         self.tables.device(id)
     }
 
-    /// The node ID of a device. None exactly where it is no node of the latest reset entry.
+    /// The node ID of a device. None exactly if it is no node of the latest reset entry.
     pub fn id(&self, device: u8) -> Option<u16>
         ensures { (l : Account) → StandsFor self.now l → result ≡ id_in l.latest device }
     {
@@ -181,7 +195,7 @@ impl Ledger {
         self.tables.outstanding(device)
     }
 
-    /// The word of the register of the account that stands at an address of a node. None exactly where none does.
+    /// The word of the register of the account that stands at an address of a node. None exactly if none does.
     pub fn word(&self, id: u16, address: u64) -> Option<u32>
         ensures { (l : Account) → StandsFor self.now l → result ≡ option_map (word_of l) (register_of l.latest id address) }
     {

@@ -3,10 +3,10 @@
 ghost use Rattle.std.specs.Prelude.{◌≡◌, ◌<◌, ◌&&◌, not, nat_lt, slice_index, Some, IsTrue, IsFalse};
 ghost use Rattle.std.specs.Vec.{with_item};
 ghost use Rattle.fw_plug.specs.Words.{out_fields, is_connected};
-ghost use Rattle.fw_account.specs.Account.{Account, has_pending};
-ghost use Rattle.fw_account.specs.Moves.{ConnectFirst, ConnectOverlaid, DisconnectOutput};
-ghost use Rattle.fw_account.specs.Words.{OutputPlug};
-ghost use Rattle.fw_account.specs.Decode.{is_plug, allowed, move_at};
+ghost use Rattle.fw_model_account.specs.Account.{Account, has_pending};
+ghost use Rattle.fw_model_account.specs.Moves.{ConnectFirst, ConnectOverlaid, DisconnectOutput};
+ghost use Rattle.fw_model_account.specs.Words.{OutputPlug};
+ghost use Rattle.fw_model_account.specs.Decode.{is_plug, allowed, move_at};
 ghost use Rattle.fw_ledger.specs.Stands.{Stands, StandsFor, Follows, plug_of, place, word_at};
 ghost use Rattle.fw_ledger.specs.Swaps.{moved_by};
 
@@ -17,8 +17,8 @@ use crate::connection::{
 use crate::held::{charge_at, is_held, is_same};
 use crate::place::{place, word_at};
 use crate::tables::{Addressed, Charge, Seats, Tables};
-use fw_base::{ConnectionKind, PlugAt};
 use fw_plug::{OutWord, connection_value, units};
+use fw_terms::{ConnectionKind, PlugAt};
 
 impl Tables {
     // Another word and other connections at an output plug.
@@ -82,7 +82,7 @@ impl Tables {
         !self.holds(c) && is_plug(self.latest_addressed(c), p)
     }
 
-    // Controller `c` breaks a connection. Where it is the last, it gets the plug's channel and units back.
+    // Controller `c` breaks a connection. If it is the last, it gets the plug's channel and units back.
     fn disconnect_output(&mut self, c: u8, p: PlugAt, kind: ConnectionKind, new: u32) -> bool
         requires stands { Stands self.old }
         requires controller { c < 63 }
@@ -110,7 +110,7 @@ impl Tables {
         true
     }
 
-    /// Controller `c` swaps the register of an output plug. It is refused where that is no move.
+    /// Controller `c` swaps the register of an output plug. It is refused if that is no move.
     pub fn swap_output(&mut self, c: u8, p: PlugAt, argument: u32, new: u32) -> bool
         requires stands { Stands self.old }
         requires controller { c < 63 }

@@ -1,10 +1,10 @@
 //! Packets of procedures: requests, and the responses to reads.
 
 ghost use Rattle.std.specs.Prelude.{◌≡◌, ◌<◌, Some};
-ghost use Rattle.fw_entry.specs.Network.{device_of_id};
-ghost use Rattle.fw_account.specs.Account.{Account, Reads, Locks};
-ghost use Rattle.fw_account.specs.Packets.{Read, after_request, after_reply, replied_to};
-ghost use Rattle.fw_faults.specs.Looked.{Asks, Replies, labelled};
+ghost use Rattle.fw_log_entry.specs.Network.{device_of_id};
+ghost use Rattle.fw_model_account.specs.Account.{Account, Reads, Locks};
+ghost use Rattle.fw_model_account.specs.Packets.{Read, after_request, after_reply, replied_to};
+ghost use Rattle.fw_model_audit.specs.Looked.{Asks, Replies, labelled};
 ghost use Rattle.fw_ledger.specs.Stands.{Stands, StandsFor, AskedFor, is_read_of};
 ghost use Rattle.fw_ledger.specs.Refused.{Takes, IsRefusedFor, IsAnswered, ShowsAnswer, response_in};
 
@@ -12,7 +12,7 @@ use crate::answer::Answer;
 use crate::refused::Refused;
 use crate::tables::{Asked, Tables};
 use fw_async::Head;
-use fw_base::Label;
+use fw_terms::Label;
 use fw_words::Swap;
 
 // What a lock request asks for.

@@ -1,15 +1,15 @@
 //! Where the tables have a plug, a controller's channel, a node.
 
 ghost use Rattle.std.specs.Prelude.{◌≡◌, ◌<◌, ◌≤◌, ◌+◌, ◌-◌, ℕ, nat_lt, length, slice_index, IfSome, Some, None};
-ghost use Rattle.fw_base.specs.Tables.{find_to};
-ghost use Rattle.fw_account.specs.Account.{is_pending};
-ghost use Rattle.fw_account.specs.Words.{plug_number};
+ghost use Rattle.fw_terms.specs.Tables.{find_to};
+ghost use Rattle.fw_model_account.specs.Account.{is_pending};
+ghost use Rattle.fw_model_account.specs.Words.{plug_number};
 ghost use Rattle.fw_ledger.specs.Stands.{allocation_of, charge_at, place, word_at, row_at};
 
 use crate::tables::Charge;
 use fw_async::local_number;
-use fw_base::PlugAt;
-use fw_entry::NodeRow;
+use fw_log_entry::NodeRow;
+use fw_terms::PlugAt;
 
 /// The place of a plug.
 pub fn place(p: PlugAt) -> usize
@@ -54,7 +54,7 @@ pub fn row_at(nodes: &[NodeRow], id: u16) -> Option<NodeRow>
     nodes.get(usize::from(number)).copied()
 }
 
-/// The number of the plug whose register stands at an offset, where the first of the 31 stands at another.
+/// The number of the plug whose register stands at an offset, if the first of the 31 stands at another.
 pub fn plug_number(first: u64, offset: u64) -> Option<u8>
     requires { first < 4096 }
     ensures { result ≡ plug_number first offset }

@@ -1,16 +1,16 @@
 //! What the tables tell of controllers.
 
 ghost use Rattle.std.specs.Prelude.{◌≡◌, ◌<◌, IfSome, Some, None, is_some, length, if◌then◌else◌};
-ghost use Rattle.fw_entry.specs.Network.{device_of_id};
-ghost use Rattle.fw_account.specs.Account.{Account, has_pending};
-ghost use Rattle.fw_account.specs.Network.{is_output, is_input};
-ghost use Rattle.fw_account.specs.Words.{OutputPlug, InputPlug, word_of};
+ghost use Rattle.fw_log_entry.specs.Network.{device_of_id};
+ghost use Rattle.fw_model_account.specs.Account.{Account, has_pending};
+ghost use Rattle.fw_model_account.specs.Network.{is_output, is_input};
+ghost use Rattle.fw_model_account.specs.Words.{OutputPlug, InputPlug, word_of};
 ghost use Rattle.fw_ledger.specs.Stands.{Stands, StandsFor, AskedFor, plug_of, is_asked, addressed_at, asked_at, device_at};
 
 use crate::place::{has_plug, pending_channel, row_at, word_at};
 use crate::tables::{Addressed, Asked, Tables};
-use fw_base::PlugAt;
-use fw_entry::NodeRow;
+use fw_log_entry::NodeRow;
+use fw_terms::PlugAt;
 
 // The device that has a node ID.
 fn device_at(nodes: &[NodeRow], id: u16) -> Option<u8>
@@ -90,7 +90,7 @@ impl Tables {
         is_asked(self.outstanding(c))
     }
 
-    /// The word of an output plug's register, where the latest reset entry has the plug.
+    /// The word of an output plug's register, if the latest reset entry has the plug.
     pub fn out_word(&self, p: PlugAt) -> Option<u32>
         requires stands { Stands self.now }
         ensures { (l : Account) → StandsFor self.now l → result ≡ (if is_output l.latest p then Some (word_of l (OutputPlug p)) else None) }
@@ -101,7 +101,7 @@ impl Tables {
         Some(word_at(&self.outputs, p))
     }
 
-    /// The word of an input plug's register, where the latest reset entry has the plug.
+    /// The word of an input plug's register, if the latest reset entry has the plug.
     pub fn in_word(&self, p: PlugAt) -> Option<u32>
         requires stands { Stands self.now }
         ensures { (l : Account) → StandsFor self.now l → result ≡ (if is_input l.latest p then Some (word_of l (InputPlug p)) else None) }

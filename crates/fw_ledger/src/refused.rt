@@ -12,6 +12,6 @@ pub enum Refused {
     /// A complete compare_swap at a register of the account shows its argument as the old value, and is no move. `due` is the
     /// word of the register.
     NoMove { swap: Swap, due: u32 },
-    /// A reclaim second is over where none runs, or channel 31 is withheld after a reset entry: the code of the event.
+    /// A reclaim second is over if none runs, or channel 31 is withheld after a reset entry: the code of the event.
     NoEvent(u8),
 }

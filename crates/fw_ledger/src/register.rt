@@ -2,20 +2,20 @@
 
 ghost use Rattle.std.specs.Prelude.{◌≡◌, IfSome, if◌then◌else◌, None};
 ghost use Rattle.std.specs.Option.{option_map};
-ghost use Rattle.fw_account.specs.Account.{Account};
-ghost use Rattle.fw_account.specs.Words.{is_node, manager_register, plug_number, first_output, first_input, output_register, input_register, plug_register, register_of, word_of};
+ghost use Rattle.fw_model_account.specs.Account.{Account};
+ghost use Rattle.fw_model_account.specs.Words.{is_node, manager_register, plug_number, first_output, first_input, output_register, input_register, plug_register, register_of, word_of};
 ghost use Rattle.fw_ledger.specs.Stands.{Stands, StandsFor};
 ghost use Rattle.fw_ledger.specs.Swaps.{IsThere, register_named};
 
 use crate::place::{plug_number, row_at, word_at};
 use crate::tables::Tables;
 use fw_async::local_number;
-use fw_base::PlugAt;
 use fw_csr::REGISTER_SPACE;
 use fw_csr::low_offset::{
     BANDWIDTH_AVAILABLE, CHANNELS_AVAILABLE_HI, CHANNELS_AVAILABLE_LO, IPCR, OPCR,
 };
-use fw_entry::NodeRow;
+use fw_log_entry::NodeRow;
+use fw_terms::PlugAt;
 
 /// A register of the account.
 #[derive(Clone, Copy)]
@@ -95,7 +95,7 @@ fn is_node(node: u8, manager: Option<u8>) -> bool
     }
 }
 
-// The register at an offset of a node, where it is the resource manager.
+// The register at an offset of a node, if it is the resource manager.
 fn managed(node: u8, manager: Option<u8>, offset: u64) -> Option<Register>
     ensures { option_map register_named result ≡ (if is_node node manager then manager_register offset else None) }
 {
@@ -122,7 +122,7 @@ impl Tables {
         }
     }
 
-    /// The register of the account that a node ID and an address name. None where another register stands there, or
+    /// The register of the account that a node ID and an address name. None if another register stands there, or
     /// none.
     pub fn register_at(&self, id: u16, address: u64) -> Option<Register>
         requires stands { Stands self.now }

@@ -1,14 +1,16 @@
 //! What a bus reset leaves of the registers of plugs.
 
-ghost use Rattle.std.specs.Prelude.{◌≡◌, ◌<◌, ◌≤◌, ◌/◌, ◌%◌, ℕ, length, slice_index, slice_index_or, false};
-ghost use Rattle.fw_entry.specs.Network.{speed_of, node_of_device};
-ghost use Rattle.fw_account.specs.Words.{id_below};
-ghost use Rattle.fw_ledger.specs.Resets.{renewed_output, renewed_input, goes_on};
+ghost use Rattle.std.specs.Prelude.{◌≡◌, ◌<◌, ◌≤◌, ◌/◌, ◌%◌, ℕ, length, slice_index, slice_index_or, false, not, ◌&&◌, ◌||◌, if◌then◌else◌, IsTrue};
+ghost use Rattle.fw_log_entry.specs.Network.{speed_of, node_of_device};
+ghost use Rattle.fw_plug.specs.Plugs.{disconnected};
+ghost use Rattle.fw_model_account.specs.Words.{id_below};
+ghost use Rattle.fw_ledger.specs.Resets.{AreRates, rate_of, first_output, first_input, renewed_output, renewed_input, renewed_seats, goes_on};
+ghost use Rattle.fw_ledger.specs.Stands.{no_seats};
 
-use crate::place::{has_plug, plugs_of};
+use crate::place::plugs_of;
+use crate::tables::{Seats, empty};
 use fw_async::node_id;
-use fw_base::PlugAt;
-use fw_entry::NodeRow;
+use fw_log_entry::NodeRow;
 use fw_phy::PhyPacket;
 use fw_plug::{FIRST_CHANNEL, OutWord, disconnected, unconnected_input, unconnected_output};
 
@@ -38,7 +40,7 @@ fn node_of_device(nodes: &[NodeRow], device: u8) -> usize
     nodes.len()
 }
 
-/// The node ID of a device, where it is a node.
+/// The node ID of a device, if it is a node.
 pub fn id_of_device(nodes: &[NodeRow], device: u8) -> Option<u16>
     requires { length nodes.now ≤ 63 }
     ensures { result ≡ id_below (length nodes.now) (node_of_device nodes.now device) }
@@ -51,121 +53,127 @@ pub fn id_of_device(nodes: &[NodeRow], device: u8) -> Option<u16>
     }
 }
 
-// The plug that has a place.
-fn plug_at(place: usize) -> PlugAt
-    requires { place < 1953 }
-    ensures device { result.device ≡ place / 31 }
-    ensures plug { result.plug ≡ place % 31 }
+// The speed of a device that gains plugs.
+fn rate_of(nodes: &[NodeRow], ids: &[PhyPacket], device: u8, gains: bool) -> u8
+    requires { (n : ℕ) → speed_of n ids.now < 4 }
+    ensures rate { IsTrue gains → result ≡ rate_of nodes.now ids.now device }
+    ensures small { result < 4 }
 {
-    PlugAt {
-        device: (place / 31) as u8,
-        plug: (place % 31) as u8,
+    if gains {
+        speed_of(node_of_device(nodes, device), ids)
+    } else {
+        0
     }
+}
+
+/// The speeds of the devices that have more plugs now than before, by their self-ID packets. Those of the others do not count.
+pub fn rates_of(before: &[u8; 63], now: &[u8; 63], nodes: &[NodeRow], ids: &[PhyPacket]) -> [u8; 63]
+    requires { (n : ℕ) → speed_of n ids.now < 4 }
+    ensures rates { AreRates before.now now.now nodes.now ids.now result }
+    ensures small { (d : ℕ) → slice_index result d < 4 }
+{
+    let mut rates = [0; 63];
+    for device in 0..63 {
+        let gains = before[device] < now[device];
+        rates[device] = rate_of(nodes, ids, device as u8, gains);
+    }
+    rates
 }
 
 // The word of an output plug after a bus reset.
-fn renewed_output(
-    before: &[u8; 63],
-    now: &[u8; 63],
-    nodes: &[NodeRow],
-    ids: &[PhyPacket],
-    p: PlugAt,
-    word: u32,
-) -> u32
-    requires { (n : ℕ) → speed_of n ids.now < 4 }
-    ensures { result ≡ renewed_output before.now now.now nodes.now ids.now p.device p.plug word }
+fn output_word(was_there: bool, word: u32, rate: u8) -> u32
+    requires { rate < 4 }
+    ensures { result ≡ (if was_there then disconnected word else first_output rate) }
 {
-    if !has_plug(now, p) {
-        return word;
-    }
-    if has_plug(before, p) {
+    if was_there {
         disconnected(word)
     } else {
-        unconnected_output(
-            FIRST_CHANNEL,
-            speed_of(node_of_device(nodes, p.device), ids),
-            0,
-        )
-    }
-}
-
-/// The words of all output plugs after a bus reset.
-pub fn renew_outputs(
-    words: &mut [u32],
-    before: &[u8; 63],
-    now: &[u8; 63],
-    nodes: &[NodeRow],
-    ids: &[PhyPacket],
-)
-    requires size { length words.old ≡ 1953 }
-    requires rates { (n : ℕ) → speed_of n ids.now < 4 }
-    ensures size { length words.new ≡ 1953 }
-    ensures words { (k : ℕ) → k < 1953 → slice_index words.new k ≡ renewed_output before.now now.now nodes.now ids.now (k / 31) (k % 31) (slice_index words.old k) }
-{
-    for device in 0..63 {
-        let first = device * 31;
-        for k in first..first + plugs_of(now, device) {
-            words[k] = renewed_output(before, now, nodes, ids, plug_at(k), words[k]);
-        }
+        unconnected_output(FIRST_CHANNEL, rate, 0)
     }
 }
 
 // The word of an input plug after a bus reset.
-fn renewed_input(before: &[u8; 63], now: &[u8; 63], p: PlugAt, word: u32) -> u32
-    ensures { result ≡ renewed_input before.now now.now p.device p.plug word }
+fn input_word(was_there: bool, word: u32) -> u32
+    ensures { result ≡ (if was_there then disconnected word else first_input) }
 {
-    if !has_plug(now, p) {
-        return word;
-    }
-    if has_plug(before, p) {
+    if was_there {
         disconnected(word)
     } else {
         unconnected_input(FIRST_CHANNEL)
     }
 }
 
-/// The words of all input plugs after a bus reset.
-pub fn renew_inputs(words: &mut [u32], before: &[u8; 63], now: &[u8; 63])
-    requires size { length words.old ≡ 1953 }
-    ensures size { length words.new ≡ 1953 }
-    ensures words { (k : ℕ) → k < 1953 → slice_index words.new k ≡ renewed_input before.now now.now (k / 31) (k % 31) (slice_index words.old k) }
+// Whether an output plug goes on talking after a bus reset.
+fn goes_on(was_there: bool, connected: bool, runs: bool, continues: bool) -> bool
+    ensures { result ≡ (was_there && (connected || (runs && continues))) }
+{
+    was_there && (connected || (runs && continues))
+}
+
+// Whose the connections of a plug are after a bus reset. A plug that was there and had none is left as it is, as most are.
+fn clear(seats: &mut Seats, was_there: bool, connected: bool)
+    ensures { seats.new ≡ (if was_there && not connected then seats.old else no_seats) }
+{
+    if was_there && !connected {
+        return;
+    }
+    *seats = empty();
+}
+
+/// The words of all output plugs after a bus reset, whose their connections are, and which go on talking.
+pub fn renew_outputs(
+    words: &mut [u32],
+    seats: &mut [Seats],
+    continues: &mut [bool],
+    before: &[u8; 63],
+    now: &[u8; 63],
+    runs: bool,
+    rates: &[u8; 63],
+)
+    requires words { length words.old ≡ 1953 }
+    requires seats { length seats.old ≡ 1953 }
+    requires continues { length continues.old ≡ 1953 }
+    requires rates { (d : ℕ) → slice_index rates.now d < 4 }
+    ensures word_size { length words.new ≡ 1953 }
+    ensures seat_size { length seats.new ≡ 1953 }
+    ensures continue_size { length continues.new ≡ 1953 }
+    ensures words { (k : ℕ) → k < 1953 → slice_index words.new k ≡ renewed_output before.now now.now rates.now (k / 31) (k % 31) (slice_index words.old k) }
+    ensures seats { (k : ℕ) → k < 1953 → slice_index_or seats.new k no_seats
+        ≡ renewed_seats before.now now.now (k / 31) (k % 31) (slice_index words.old k) (slice_index_or seats.old k no_seats) }
+    ensures continues { (k : ℕ) → k < 1953 → slice_index_or continues.new k false
+        ≡ goes_on before.now now.now runs (k / 31) (k % 31) (slice_index words.old k) (slice_index_or continues.old k false) }
 {
     for device in 0..63 {
         let first = device * 31;
         for k in first..first + plugs_of(now, device) {
-            words[k] = renewed_input(before, now, plug_at(k), words[k]);
+            let word = words[k];
+            let was_there = k - first < usize::from(before[device]);
+            let connected = OutWord(word).is_connected();
+            words[k] = output_word(was_there, word, rates[device]);
+            continues[k] = goes_on(was_there, connected, runs, continues[k]);
+            clear(&mut seats[k], was_there, connected);
         }
     }
 }
 
-// Whether an output plug goes on talking after a bus reset.
-fn goes_on(
-    before: &[u8; 63],
-    now: &[u8; 63],
-    runs: bool,
-    p: PlugAt,
-    word: u32,
-    continues: bool,
-) -> bool
-    ensures { result ≡ goes_on before.now now.now runs p.device p.plug word continues }
-{
-    if !has_plug(now, p) {
-        return continues;
-    }
-    has_plug(before, p) && (OutWord(word).is_connected() || (runs && continues))
-}
-
-/// Which output plugs go on talking after a bus reset.
-pub fn go_on(continues: &mut [bool], words: &[u32], before: &[u8; 63], now: &[u8; 63], runs: bool)
-    requires size { length continues.old ≡ 1953 }
-    requires words { length words.now ≡ 1953 }
-    ensures size { length continues.new ≡ 1953 }
-    ensures continues { (k : ℕ) → k < 1953 → slice_index_or continues.new k false ≡ goes_on before.now now.now runs (k / 31) (k % 31) (slice_index words.now k) (slice_index_or continues.old k false) }
+/// The words of all input plugs after a bus reset, and whose their connections are.
+pub fn renew_inputs(words: &mut [u32], seats: &mut [Seats], before: &[u8; 63], now: &[u8; 63])
+    requires words { length words.old ≡ 1953 }
+    requires seats { length seats.old ≡ 1953 }
+    ensures word_size { length words.new ≡ 1953 }
+    ensures seat_size { length seats.new ≡ 1953 }
+    ensures words { (k : ℕ) → k < 1953 → slice_index words.new k ≡ renewed_input before.now now.now (k / 31) (k % 31) (slice_index words.old k) }
+    ensures seats { (k : ℕ) → k < 1953 → slice_index_or seats.new k no_seats
+        ≡ renewed_seats before.now now.now (k / 31) (k % 31) (slice_index words.old k) (slice_index_or seats.old k no_seats) }
 {
     for device in 0..63 {
         let first = device * 31;
         for k in first..first + plugs_of(now, device) {
-            continues[k] = goes_on(before, now, runs, plug_at(k), words[k], continues[k]);
+            let word = words[k];
+            let was_there = k - first < usize::from(before[device]);
+            let connected = OutWord(word).is_connected();
+            words[k] = input_word(was_there, word);
+            clear(&mut seats[k], was_there, connected);
         }
     }
 }

@@ -1,11 +1,11 @@
 //! Requests.
 
 ghost use Rattle.std.specs.Prelude.{◌≡◌, ◌<◌, Some, ⊤};
-ghost use Rattle.fw_entry.specs.Network.{device_of_id};
-ghost use Rattle.fw_account.specs.Account.{Account, Operation};
-ghost use Rattle.fw_account.specs.Packets.{asked_by, addressed_after};
-ghost use Rattle.fw_account.specs.Words.{output_of, output_addressed};
-ghost use Rattle.fw_faults.specs.Looked.{Asks};
+ghost use Rattle.fw_log_entry.specs.Network.{device_of_id};
+ghost use Rattle.fw_model_account.specs.Account.{Account, Operation};
+ghost use Rattle.fw_model_account.specs.Packets.{asked_by, addressed_after};
+ghost use Rattle.fw_model_account.specs.Words.{output_of, output_addressed};
+ghost use Rattle.fw_model_audit.specs.Looked.{Asks};
 ghost use Rattle.fw_ledger.specs.Stands.{Stands, StandsFor, AskedFor, plug_of};
 ghost use Rattle.fw_ledger.specs.Refused.{Takes, IsRefusedFor};
 
@@ -13,12 +13,12 @@ use crate::output::is_plug;
 use crate::place::{plug_number, row_at};
 use crate::refused::Refused;
 use crate::tables::{Addressed, Asked, Tables};
-use fw_base::PlugAt;
 use fw_csr::REGISTER_SPACE;
 use fw_csr::low_offset::OPCR;
-use fw_entry::NodeRow;
+use fw_log_entry::NodeRow;
+use fw_terms::PlugAt;
 
-/// The output plug whose register stands at an address of this node, also where the node has no such plug.
+/// The output plug whose register stands at an address of this node, also if the node has no such plug.
 fn output_of(row: Option<NodeRow>, offset: u64) -> Option<PlugAt>
     ensures { result ≡ output_of row offset }
 {
@@ -65,7 +65,7 @@ impl Tables {
         Addressed::Plug(plug)
     }
 
-    /// A request of the node with the ID `source`, for what `asked` says. It is refused where the ID is no node's, and
+    /// A request of the node with the ID `source`, for what `asked` says. It is refused if the ID is no node's, and
     /// beside an outstanding request of that node.
     pub fn take_request(
         &mut self,

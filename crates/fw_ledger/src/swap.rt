@@ -2,11 +2,11 @@
 
 ghost use Rattle.std.specs.Prelude.{◌≡◌, ◌<◌, IfSome, Some, ⊤};
 ghost use Rattle.std.specs.Option.{option_map};
-ghost use Rattle.fw_entry.specs.Network.{device_of_id};
-ghost use Rattle.fw_account.specs.Account.{Account};
-ghost use Rattle.fw_account.specs.Decode.{move_at};
-ghost use Rattle.fw_account.specs.Packets.{Locked, replied_to, after_reply};
-ghost use Rattle.fw_faults.specs.Looked.{Replies, labelled, quadlet_in};
+ghost use Rattle.fw_log_entry.specs.Network.{device_of_id};
+ghost use Rattle.fw_model_account.specs.Account.{Account};
+ghost use Rattle.fw_model_account.specs.Decode.{move_at};
+ghost use Rattle.fw_model_account.specs.Packets.{Locked, replied_to, after_reply};
+ghost use Rattle.fw_model_audit.specs.Looked.{Replies, labelled, quadlet_in};
 ghost use Rattle.fw_ledger.specs.Stands.{Stands, StandsFor, Follows};
 ghost use Rattle.fw_ledger.specs.Swaps.{IsThere, register_named, moved_by, shows_argument};
 ghost use Rattle.fw_ledger.specs.Swapped.{is_lock_of, swap_done, account_swapped};
@@ -17,7 +17,7 @@ use crate::refused::Refused;
 use crate::register::Register;
 use crate::tables::{Asked, Tables};
 use fw_async::Head;
-use fw_base::Label;
+use fw_terms::Label;
 use fw_words::{COMPARE_SWAP, Swap, quadlet_at};
 
 // The response is complete and shows the argument as the old value.
@@ -53,7 +53,7 @@ fn is_lock_of(asked: Asked, source: u16, function: u8) -> bool
     }
 }
 
-// The swap that a response to the request makes, where it makes one.
+// The swap that a response to the request makes, if it makes one.
 fn swap_done(asked: Asked, rcode: u8, old: &[u8]) -> Option<Swap>
     ensures { result ≡ swap_done asked rcode old.now }
 {
@@ -64,7 +64,7 @@ fn swap_done(asked: Asked, rcode: u8, old: &[u8]) -> Option<Swap>
 }
 
 impl Tables {
-    /// Controller `c` swaps the register. It is refused where that is no move.
+    /// Controller `c` swaps the register. It is refused if that is no move.
     pub fn swap(&mut self, c: u8, register: Register, s: Swap) -> bool
         requires stands { Stands self.old }
         requires controller { c < 63 }
@@ -80,7 +80,7 @@ impl Tables {
         }
     }
 
-    // Controller `c` swaps the register, if it is one of the account. It is refused where that is no move.
+    // Controller `c` swaps the register, if it is one of the account. It is refused if that is no move.
     fn swap_at(&mut self, c: u8, register: Option<Register>, swap: Swap) -> Result<(), Refused>
         requires stands { Stands self.old }
         requires controller { c < 63 }

@@ -1,12 +1,12 @@
 //! The tables that stand for the account.
 
 ghost use Rattle.std.specs.Prelude.{◌≡◌, IfOk};
-ghost use Rattle.fw_account.specs.Fold.{no_account};
+ghost use Rattle.fw_model_account.specs.Fold.{no_account};
 ghost use Rattle.fw_ledger.specs.Resets.{first_high};
 ghost use Rattle.fw_ledger.specs.Stands.{StandsFor, no_seats};
 
-use fw_base::PlugAt;
-use fw_entry::NodeList;
+use fw_log_entry::NodeList;
+use fw_terms::PlugAt;
 use fw_words::Swap;
 use std::alloc::{AllocError, Global};
 
@@ -136,7 +136,7 @@ pub fn empty() -> Seats
     }
 }
 
-/// CHANNELS_AVAILABLE_HI where nothing is allocated: the lowest bit, that of channel 31, is 0 where the bus withholds it.
+/// CHANNELS_AVAILABLE_HI if nothing is allocated: the lowest bit, that of channel 31, is 0 if the bus withholds it.
 pub fn first_high(withheld: bool) -> u32
     ensures { result ≡ first_high withheld }
 {

@@ -1,10 +1,10 @@
 //! Swaps of BANDWIDTH_AVAILABLE.
 
 ghost use Rattle.std.specs.Prelude.{◌<◌, ◌≤◌, ◌-◌, Some};
-ghost use Rattle.fw_account.specs.Account.{Account};
-ghost use Rattle.fw_account.specs.Moves.{AllocateUnits, ReleaseUnits};
-ghost use Rattle.fw_account.specs.Words.{BandwidthAvailable};
-ghost use Rattle.fw_account.specs.Decode.{allowed, move_at};
+ghost use Rattle.fw_model_account.specs.Account.{Account};
+ghost use Rattle.fw_model_account.specs.Moves.{AllocateUnits, ReleaseUnits};
+ghost use Rattle.fw_model_account.specs.Words.{BandwidthAvailable};
+ghost use Rattle.fw_model_account.specs.Decode.{allowed, move_at};
 ghost use Rattle.fw_ledger.specs.Stands.{Stands, StandsFor, Follows};
 ghost use Rattle.fw_ledger.specs.Swaps.{IsHeld, moved_by};
 
@@ -53,7 +53,7 @@ impl Tables {
         true
     }
 
-    /// Controller `c` swaps BANDWIDTH_AVAILABLE. It is refused where that is no move.
+    /// Controller `c` swaps BANDWIDTH_AVAILABLE. It is refused if that is no move.
     pub fn swap_units(&mut self, c: u8, argument: u32, new: u32) -> bool
         requires stands { Stands self.old }
         requires controller { c < 63 }

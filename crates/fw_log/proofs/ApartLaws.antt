@@ -1,10 +1,10 @@
 -- The devices of a reset's nodes, noted in a table as they are met.
-use Rattle.std.proofs.Common.{◌≡◌, inl, inr, ℕ, ◌+◌, ◌<◌, List, get_or, length, Bool, true, false, arith, ap, sym, ◌∙◌}
+use Rattle.fw_log.proofs.Common.{◌≡◌, inl, inr, ℕ, ◌+◌, ◌<◌, List, get_or, length, Bool, true, false, arith, ap, sym, ◌∙◌, cases_lt}
 use Rattle.std.proofs.Math.ListN.{set, replicate, length-set, length-replicate}
-use Rattle.std.proofs.lemmas.Bool.{cases_lt, cases_eq, false≢true}
+use Rattle.std.proofs.lemmas.Bool.{cases_eq, false≢true}
 use Rattle.std.proofs.lemmas.List.{get_or-set_same, get_or-set_other, get_or-map, get_or-replicate}
-use Rattle.fw_entry.specs.Log.{devices, AreApart}
-use Rattle.fw_entry.specs.declared.nodes.NodeRow.{NodeRow}
+use Rattle.fw_log_entry.specs.Log.{devices, AreApart}
+use Rattle.fw_log_entry.specs.declared.nodes.NodeRow.{NodeRow}
 
 -- the row in the place of one that is not there
 abbrev pub no_row : NodeRow

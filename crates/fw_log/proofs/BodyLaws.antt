@@ -1,6 +1,6 @@
 -- Bodies that are packets.
-use Rattle.std.proofs.Common.{◌≡◌, ℕ, ◌<◌, ◌≤◌, ◌+◌, List, length, take, Some, Result, Ok, Err, arith, ap, sym, subst}
-use Rattle.std.proofs.lemmas.List.{take_all}
+use Rattle.fw_log.proofs.Common.{◌≡◌, ℕ, ◌<◌, ◌≤◌, ◌+◌, List, length, take, Some, Result, Ok, Err, arith, ap, sym, subst, take_all, IsBody, BodyRefused, Entry, Reset, Event, Outcome, Shown, End}
+use Rattle.fw_log.proofs.Common.{BodyFault, Fields}
 use Rattle.fw_async.specs.Reading as Packets
 use Rattle.fw_async.specs.Reader.{Spells}
 use Rattle.fw_async.specs.declared.packet.Packet.{Packet}
@@ -8,11 +8,9 @@ use Rattle.fw_async.specs.declared.PacketFault.{PacketFault}
 use Rattle.fw_async.specs.declared.reader.Fed.{Fed}
 use Rattle.fw_cip.specs.Iso.{Fits as IsoFits, spelling as iso_spelling}
 use Rattle.fw_cip.specs.declared.packet.IsoPacket.{IsoPacket}
-use Rattle.fw_log.specs.Bodies.{IsBody, PacketRefuses, Refuses, BodyRefused}
-use Rattle.fw_entry.specs.declared.entry.Entry.{Entry}
-use Rattle.fw_entry.specs.declared.entry.Entry.TheVariants.{Reset, Async as AsyncEntry, Iso as IsoEntry, Event, Outcome, Shown, End}
-use Rattle.fw_log.specs.declared.BodyFault.{BodyFault}
-use Rattle.fw_log.specs.declared.BodyFault.TheVariants.{Phy, Packet as PacketFails, Iso as IsoFails, Fields}
+use Rattle.fw_log.specs.Bodies.{PacketRefuses, Refuses}
+use Rattle.fw_log_entry.specs.declared.entry.Entry.TheVariants.{Async as AsyncEntry, Iso as IsoEntry}
+use Rattle.fw_log.specs.declared.BodyFault.TheVariants.{Phy, Packet as PacketFails, Iso as IsoFails}
 
 pub packet_in : {A : Type 0} (bytes : List ℕ) (e : Entry) → IsBody 2 bytes e → ((p : Packet) → Spells p bytes → A) → A
 packet_in bytes (Reset r) b f = cc b.kind

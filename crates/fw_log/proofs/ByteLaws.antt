@@ -1,11 +1,10 @@
 -- Quadlets and parts of bytes.
-use Rattle.std.proofs.Common.{◌≡◌, ℕ, ◌+◌, ◌≤◌, List, ◌++◌, length, take, drop, Option, Some, None, arith, refl, ap, sym, ◌∙◌}
+use Rattle.fw_log.proofs.Common.{◌≡◌, ℕ, ◌+◌, ◌≤◌, List, ◌++◌, length, take, drop, Option, Some, None, arith, refl, ap, sym, ◌∙◌, take-append-drop, take-append-le, drop-drop, to_be_bytes, w32}
+use Rattle.fw_log.proofs.Common.{quadlet_at, AreBytes}
 use Rattle.std.proofs.lemmas.Grind.{common_steps}
-use Rattle.std.proofs.lemmas.List.{take-append-drop, take-append-le, drop-append-le, drop-drop, length-drop}
+use Rattle.std.proofs.lemmas.List.{drop-append-le, length-drop}
 use Rattle.std.proofs.lemmas.Nat.{be_bytes_4}
-use Rattle.std.specs.Int.{to_be_bytes, from_be_bytes, w32}
-use Rattle.fw_words.specs.Quadlet.{quadlet_at}
-use Rattle.fw_async.specs.Async.{AreBytes}
+use Rattle.std.specs.Int.{from_be_bytes}
 
 pub none_by : {A : Type 0} (o : Option A) → ((x : A) → o ≡ Some x → ⊥) → o ≡ None
 none_by None h = refl
@@ -14,7 +13,7 @@ none_by (Some x) h = absurd (h x refl)
 pub are_bytes_part : (xs : List ℕ) (n k : ℕ) → AreBytes xs → AreBytes (take n (drop k xs))
 are_bytes_part xs n k h i = grind (arith, common_steps, h (k + i))
 
--- the bytes from a quadlet on: the quadlet, and the bytes behind it
+-- the bytes from a quadlet on: the quadlet, and the bytes after it
 pub peel : (bytes : List ℕ) (at : ℕ) → AreBytes bytes → at + 4 ≤ length bytes → drop at bytes ≡ to_be_bytes w32 (quadlet_at bytes at) ++ drop (at + 4) bytes
 peel bytes at fit enough =
     let size : length (take 4 (drop at bytes)) ≡ 4 = grind (arith, common_steps) in

@@ -1,28 +1,20 @@
 -- A whole entry whose head has no fault.
-use Rattle.std.proofs.Common.{◌≡◌, ℕ, ◌+◌, ◌*◌, ◌/◌, ◌%◌, ◌^◌, ◌≤◌, ◌<◌, List, [], ◌∷◌, ◌++◌, ◌==◌, ◌||◌, ◌&&◌, inl, inr, length, take, drop, get_or, nat_lt, nat_le, Bool, true, false, Option, Some, None, arith, refl, ap, sym, subst, ◌∙◌, if◌then◌else◌, length-drop, append_assoc}
-use Rattle.std.proofs.lemmas.Bool.Decides.{nat_tests}
+use Rattle.fw_log.proofs.Common.{◌≡◌, ℕ, ◌+◌, ◌*◌, ◌/◌, ◌^◌, ◌≤◌, ◌<◌, List, [], ◌∷◌, ◌++◌, ◌==◌, ◌||◌, ◌&&◌, inl, inr, length, take, drop, get_or, nat_lt, nat_le, Bool, true, false, Option, Some}
+use Rattle.fw_log.proofs.Common.{None, arith, refl, ap, sym, subst, ◌∙◌, if◌then◌else◌, length-drop, append_assoc, nat_tests, take-append-drop, drop-drop, to_be_bytes, w32, quadlet_at, AreBytes}
+use Rattle.fw_log.proofs.Common.{is_some, version_of, head_size, epoch_after, header_bytes, body, kind_of, Version, One, Two, Entry, Reset, Async, Iso, Event, Outcome, Shown, End, tested}
+use Rattle.fw_log.proofs.Common.{header_fault, entry_fault, epoch_fault, cycle_fault, head_fault, fault_at, skip, version_in, version_at, need, entry_need, length_of, cycle_at, cycle_of, is_kind}
+use Rattle.fw_log.proofs.Common.{is_length, is_epoch, HasEpoch, IsComplete, Spells, WrongBody, Position, IsBody, BodyRefused, LogFault, AfterEnd, BadEpoch, Timed, BodyFault, Fields}
+use Rattle.std.proofs.Common.{◌%◌}
 use Rattle.std.proofs.lemmas.Grind.{common_steps}
-use Rattle.std.proofs.lemmas.List.{get_or-drop, take-append-drop, drop-drop}
+use Rattle.std.proofs.lemmas.List.{get_or-drop}
 use Rattle.std.proofs.lemmas.Nat.{be_bytes_8}
-use Rattle.std.specs.Int.{to_be_bytes, w16, w32, w64}
-use Rattle.fw_words.specs.Quadlet.{quadlet_at}
-use Rattle.fw_async.specs.Async.{AreBytes}
+use Rattle.std.specs.Int.{w16, w64}
 use Rattle.fw_log.proofs.ByteLaws.{are_bytes_part, peel}
-use Rattle.std.specs.Option.{is_some}
-use Rattle.fw_entry.specs.Log.{number_of, version_of, head_size, epoch_bytes, epoch_after, header_bytes, entry_head, entry_bytes, body, kind_of}
-use Rattle.fw_entry.specs.declared.version.Version.{Version}
-use Rattle.fw_entry.specs.declared.version.Version.TheVariants.{One, Two}
-use Rattle.fw_entry.specs.declared.entry.Entry.{Entry}
-use Rattle.fw_entry.specs.declared.entry.Entry.TheVariants.{Reset, Async, Iso, Event, Outcome, Shown, End}
-use Rattle.fw_log.specs.Reading.{tested, header_fault, entry_fault, epoch_fault, cycle_fault, head_fault, fault_at, skip, version_in, version_at, header_at, need, entry_need, length_of, cycle_at, cycle_of, is_kind, is_length, is_epoch, has_epoch, is_written, is_own_epoch, HasEpoch, EpochFits, EntryRefused, HeadFits, IsComplete, Spells, WrongBody}
-use Rattle.fw_log.specs.Stands.{Position}
-use Rattle.fw_log.specs.Bodies.{IsBody, BodyRefused}
-use Rattle.fw_log.specs.declared.LogFault.{LogFault}
+use Rattle.fw_log_entry.specs.Log.{number_of, epoch_bytes, entry_head, entry_bytes}
+use Rattle.fw_log.specs.Reading.{header_at}
+use Rattle.fw_log.specs.Reading.{has_epoch, is_written, is_own_epoch, EpochFits, EntryRefused, HeadFits}
 use Rattle.fw_log.proofs.StayLaws.{need_least, need_head}
-use Rattle.fw_log.specs.declared.LogWhy.TheVariants.{AfterEnd, BadHeader, BadKind, BadLength, TimeBack, BadBody, BadEpoch}
-use Rattle.fw_entry.specs.declared.entry.Timed.{Timed}
-use Rattle.fw_log.specs.declared.BodyFault.{BodyFault}
-use Rattle.fw_log.specs.declared.BodyFault.TheVariants.{Fields}
+use Rattle.fw_log.specs.declared.LogWhy.TheVariants.{BadHeader, BadKind, BadLength, TimeBack, BadBody}
 
 record Passed (ok : Bool) (x : Option LogFault) : Type 0 where
   pub test : ok ≡ true
@@ -89,8 +81,10 @@ header_back bytes x fit enough h =
     let i = is_header bytes x enough h in
     let n : ℕ = number_of (version_in bytes) in
     let last : drop 12 bytes ≡ to_be_bytes w32 0 ++ drop 16 bytes = peel bytes 12 fit (omega arith) ∙ ap (λ q. to_be_bytes w32 q ++ drop 16 bytes) i.d in
-    let third : drop 8 bytes ≡ to_be_bytes w32 0 ++ (to_be_bytes w32 0 ++ drop 16 bytes) = peel bytes 8 fit (omega arith) ∙ ap (λ q. to_be_bytes w32 q ++ drop 12 bytes) i.c ∙ ap (λ t. to_be_bytes w32 0 ++ t) last in
-    let second : drop 4 bytes ≡ to_be_bytes w32 n ++ (to_be_bytes w32 0 ++ (to_be_bytes w32 0 ++ drop 16 bytes)) = peel bytes 4 fit (omega arith) ∙ ap (λ q. to_be_bytes w32 q ++ drop 8 bytes) i.b ∙ ap (λ t. to_be_bytes w32 n ++ t) third in
+    let third : drop 8 bytes ≡ to_be_bytes w32 0 ++ (to_be_bytes w32 0 ++ drop 16 bytes) =
+    peel bytes 8 fit (omega arith) ∙ ap (λ q. to_be_bytes w32 q ++ drop 12 bytes) i.c ∙ ap (λ t. to_be_bytes w32 0 ++ t) last in
+    let second : drop 4 bytes ≡ to_be_bytes w32 n ++ (to_be_bytes w32 0 ++ (to_be_bytes w32 0 ++ drop 16 bytes)) =
+    peel bytes 4 fit (omega arith) ∙ ap (λ q. to_be_bytes w32 q ++ drop 8 bytes) i.b ∙ ap (λ t. to_be_bytes w32 n ++ t) third in
     sym (peel bytes 0 fit (omega arith) ∙ ap (λ q. to_be_bytes w32 q ++ drop 4 bytes) i.a ∙ ap (λ t. to_be_bytes w32 825440564 ++ t) second)
 
 -- the head and the body of an entry are its bytes
@@ -156,7 +150,7 @@ still_open s bytes some h = by s.ended (length bytes) some _ (fault_at s.start A
     by : (b : Bool) (n : ℕ) → 0 < n → (x : Option LogFault) (f : LogFault) → (if b then (if n == 0 then None else Some f) else x) ≡ None → b ≡ false
     by b n some x f h = grind (arith, nat_tests)
 
--- a first entry, and one behind others
+-- a first entry, and one after others
 opened : (s : Position) (bytes : List ℕ) → s.ended ≡ false → head_fault s bytes ≡ None
     → (if s.start == 0 then header_fault bytes (entry_fault (version_in bytes) s.epoch 16 s.last (drop 16 bytes)) else entry_fault s.version s.epoch s.start s.last bytes) ≡ None
 opened s bytes e h = rw e at h

@@ -1,29 +1,22 @@
 -- What a reader makes of a piece is the only thing that it can be.
-use Rattle.std.proofs.Common.{◌≡◌, inl, inr, ℕ, ◌+◌, ◌-◌, ◌≤◌, ◌<◌, List, [], ◌++◌, flat_map, get_or, length, take, drop}
-use Rattle.std.proofs.Common.{Option, Some, None, Result, Ok, Err, IfOk, arith, refl, ap, sym, subst, ◌∙◌, length-append}
-use Rattle.std.proofs.lemmas.Bool.{cases_lt}
-use Rattle.std.proofs.lemmas.List.{append-nil, take_all, take-take, length-take-le, take-append-drop}
+use Rattle.fw_log.proofs.Common.{◌≡◌, inl, inr, ℕ, ◌+◌, ◌-◌, ◌≤◌, ◌<◌, List, [], ◌++◌, flat_map, get_or, length, take, drop, Option, Some, None, Result, Ok, Err, arith, refl, ap, sym, subst, ◌∙◌}
+use Rattle.fw_log.proofs.Common.{length-append, cases_lt, append-nil, take_all, length-take-le, take-append-drop, spelling, IsBody, BodyRefused, epoch_after, head_size, body, Version, IsPending}
+use Rattle.fw_log.proofs.Common.{Spells, Faulty, WrongBody, HasEpoch, need, skip, version_at, fault_at, Position, State, Feeds, EndsEntry, ShowsFault, Entry, Timed, LogFed, BodyFault, Fields}
+use Rattle.fw_log.proofs.Common.{LogFault}
+use Rattle.std.proofs.Common.{IfOk}
+use Rattle.std.proofs.lemmas.List.{take-take}
 use Rattle.fw_async.proofs.NeedLaws.{fault_stays}
 use Rattle.fw_async.proofs.ExactLaws.{clear_from_spells}
 use Rattle.fw_async.specs.Reading as Packets
 use Rattle.fw_async.specs.Reader.{Spells as SpellsPacket}
 use Rattle.fw_async.specs.declared.packet.Packet.{Packet as AsyncPacket}
 use Rattle.fw_async.specs.declared.PacketFault.{PacketFault}
-use Rattle.fw_phy.specs.Phy.{spelling}
 use Rattle.fw_cip.specs.Iso.{iso_fault}
 use Rattle.fw_cip.proofs.SpelledLaws.{spelled_none as iso_clear}
-use Rattle.fw_log.specs.Bodies.{IsBody, BodyRefused, PacketRefuses, refusal}
-use Rattle.fw_entry.specs.Log.{epoch_after, head_size, body}
-use Rattle.fw_entry.specs.declared.version.Version.{Version}
-use Rattle.fw_log.specs.Reading.{IsPending, Spells, Faulty, WrongBody, EntryRefused, HasEpoch, need, skip, version_at, fault_at}
-use Rattle.fw_log.specs.Stands.{Position}
-use Rattle.fw_log.specs.Reader.{State, Feeds, FeedsTo, Counts, body_given, total, EndsEntry, ShowsFault, EndsNothing}
-use Rattle.fw_entry.specs.declared.entry.Entry.{Entry}
-use Rattle.fw_entry.specs.declared.entry.Timed.{Timed}
-use Rattle.fw_log.specs.declared.read.LogFed.{LogFed}
-use Rattle.fw_log.specs.declared.BodyFault.{BodyFault}
-use Rattle.fw_log.specs.declared.BodyFault.TheVariants.{Phy, Packet, Iso, Fields}
-use Rattle.fw_log.specs.declared.LogFault.{LogFault}
+use Rattle.fw_log.specs.Bodies.{PacketRefuses, refusal}
+use Rattle.fw_log.specs.Reading.{EntryRefused}
+use Rattle.fw_log.specs.Reader.{FeedsTo, Counts, body_given, total, EndsNothing}
+use Rattle.fw_log.specs.declared.BodyFault.TheVariants.{Phy, Packet, Iso}
 use Rattle.fw_log.specs.declared.LogWhy.TheVariants.{BadBody}
 use Rattle.fw_log.proofs.BodyLaws.{packet_in, iso_in}
 use Rattle.fw_log.proofs.IdsLaws.{ids_clear}
@@ -91,7 +84,8 @@ entry_once v epoch e f g (inl a) (inr b) = absurd (not_refused _ _ b.1.entry f b
 entry_once v epoch e f g (inr a) (inl b) = absurd (not_refused _ _ a.1.entry g a.1.body b)
 entry_once v epoch e f g (inr a) (inr b) = a.0 ∙ sym b.0
 
-entry_right : (v : Version) (epoch : ℕ) (e : List ℕ) (what : Entry) (f : BodyFault) → IsBody (get_or e 0 0) (drop (head_size v) e) what → HasEpoch v (epoch_after epoch what) e → EntryRefused v epoch e f → ⊥
+entry_right : (v : Version) (epoch : ℕ) (e : List ℕ) (what : Entry) (f : BodyFault) → IsBody (get_or e 0 0) (drop (head_size v) e) what → HasEpoch v (epoch_after epoch what) e
+    → EntryRefused v epoch e f → ⊥
 entry_right v epoch e what f b own (inl a) = not_refused _ _ what f b a
 entry_right v epoch e what f b own (inr a) =
     let o = a.1 in
@@ -105,7 +99,8 @@ refused_at s bytes f w = let P : Version → Type 0 = λ v. EntryRefused v s.epo
 wrong_once : (s : Position) (bytes : List ℕ) (f g : LogFault) → WrongBody s bytes f → WrongBody s bytes g → f ≡ g
 wrong_once s bytes f g h k =
     let v : h.version ≡ k.version = sym h.here ∙ k.here in
-    h.is ∙ ap (λ w. fault_at (s.start + (skip s.start + head_size h.version)) (BadBody w)) (entry_once (version_at s bytes) s.epoch (drop (skip s.start) bytes) h.why k.why (refused_at s bytes f h) (refused_at s bytes g k))
+    h.is ∙ ap (λ w. fault_at (s.start + (skip s.start + head_size h.version)) (BadBody w))
+    (entry_once (version_at s bytes) s.epoch (drop (skip s.start) bytes) h.why k.why (refused_at s bytes f h) (refused_at s bytes g k))
     ∙ ap (λ w. fault_at (s.start + (skip s.start + head_size w)) (BadBody k.why)) v ∙ sym k.is
 
 faulty_once : (s : Position) (bytes : List ℕ) (f g : LogFault) → Faulty s bytes f → Faulty s bytes g → f ≡ g
@@ -119,8 +114,9 @@ not_faulty s t bytes f h (inl a) = cc (a, spelled_clear s t bytes h)
 not_faulty s t bytes f h (inr b) =
     absurd (entry_right (version_at s bytes) s.epoch (drop (skip s.start) bytes) t.what b.wrong.why (spelled_body s t bytes h) (spelled_epoch s t bytes h) (refused_at s bytes f b.wrong))
 
--- a whole entry has no front that is whole, pending bytes have none, and a fault stays
-complete_once : (s : Position) (old piece : List ℕ) (i k : ℕ) → i ≤ k → k ≤ length piece → length (old ++ take i piece) ≡ need s (old ++ take i piece) → length (old ++ take k piece) ≡ need s (old ++ take k piece) → i ≡ k
+-- a whole entry has no prefix that is whole, pending bytes have none, and a fault stays
+complete_once : (s : Position) (old piece : List ℕ) (i k : ℕ) → i ≤ k → k ≤ length piece → length (old ++ take i piece) ≡ need s (old ++ take i piece)
+    → length (old ++ take k piece) ≡ need s (old ++ take k piece) → i ≡ k
 complete_once s old piece i k le within a b =
     let done : need s (old ++ take k piece) ≡ length (old ++ take i piece) = ap (need s) (further old piece i k le) ∙ need_done s (old ++ take i piece) (take (k - i) (drop i piece)) a in
     let same : length (old ++ take k piece) ≡ length (old ++ take i piece) = b ∙ done in
@@ -133,12 +129,13 @@ never_complete s old piece i k le a pending =
     let P : List ℕ → Type 0 = IsPending s in
     no_complete_front s (old ++ take i piece) (take (k - i) (drop i piece)) (subst P (further old piece i k le) pending) a
 
--- no part is refused in front of pending bytes, nor in front of an entry's
+-- no part is refused before pending bytes, nor before an entry's
 never_faulty : {A : Type 0} (s : Position) (old piece : List ℕ) (i k : ℕ) (f : LogFault) → i ≤ k → Faulty s (old ++ take i piece) f → IsPending s (old ++ take k piece) → A
 never_faulty s old piece i k f le (inl a) pending = cc (stays s old piece i k f le a, pending.no_fault)
 never_faulty s old piece i k f le (inr b) pending = never_complete s old piece i k le b.complete pending
 
-pub entry_faulty : {A : Type 0} (s : Position) (old piece : List ℕ) (i k : ℕ) (f : LogFault) (t : Timed) → i ≤ k → k ≤ length piece → Faulty s (old ++ take i piece) f → Spells s t (old ++ take k piece) → A
+pub entry_faulty : {A : Type 0} (s : Position) (old piece : List ℕ) (i k : ℕ) (f : LogFault) (t : Timed) → i ≤ k → k ≤ length piece → Faulty s (old ++ take i piece) f
+    → Spells s t (old ++ take k piece) → A
 entry_faulty s old piece i k f t le within (inl a) h = cc (stays s old piece i k f le a, spelled_clear s t (old ++ take k piece) h)
 entry_faulty s old piece i k f t le within (inr b) h =
     let e : k ≡ i = sym (complete_once s old piece i k le within b.complete (spelled_complete s t (old ++ take k piece) h)) in
@@ -169,7 +166,7 @@ same_fed n k o p x y a b c =
     ∙ ap (λ (z : Option Timed). let r : Result LogFed LogFault = Ok (record { used = k; entry = z; body = x }) in r) b
     ∙ ap (λ (z : List ℕ). let r : Result LogFed LogFault = Ok (record { used = k; entry = p; body = z }) in r) c
 
--- where a front of the piece ends an entry, that entry is given
+-- if a prefix of the piece ends an entry, that entry is given
 pub gives_entry : (s : Position) (old piece : List ℕ) (r : Result LogFed LogFault) (new : State) → Feeds s old piece r new →
     (k : ℕ) (t : Timed) → EndsEntry s old piece k t → r ≡ Ok (record { used = k; entry = Some t; body = body t.what })
 gives_entry s old piece (Ok fed) new h k t e =
@@ -189,7 +186,7 @@ fault_to s old piece used (Some u) new k f h e =
       | inr more ↦ never_complete s old piece used k more (spelled_complete s u (old ++ take used piece) h.0.spells) e.before
     ]
 
--- where a byte of the piece completes a part that is refused, that refusal is answered
+-- if a byte of the piece completes a part that is refused, that refusal is answered
 pub gives_fault : (s : Position) (old piece : List ℕ) (r : Result LogFed LogFault) (new : State) → Feeds s old piece r new → (k : ℕ) (f : LogFault) → ShowsFault s old piece k f → r ≡ Err f
 gives_fault s old piece (Ok fed) new h k f e = fault_to s old piece fed.used fed.entry new k f h.0 e
 gives_fault s old piece (Err g) new h k f e =
@@ -212,7 +209,7 @@ none_to : (s : Position) (old piece : List ℕ) (used : ℕ) (entry : Option Tim
 none_to s old piece used None new h e = record { count = h.0; none = refl }
 none_to s old piece used (Some t) new h e = absurd (e.no_entry used t h.0.within h.0.spells)
 
--- where no part is refused and no entry ends, all is taken
+-- if no part is refused and no entry ends, all is taken
 pub gives_none : (s : Position) (old piece : List ℕ) (r : Result LogFed LogFault) (new : State) → Feeds s old piece r new →
     EndsNothing s old piece → r ≡ Ok (record { used = length piece; entry = None; body = [] })
 gives_none s old piece (Ok fed) new h e =
@@ -220,7 +217,8 @@ gives_none s old piece (Ok fed) new h e =
     same_fed fed.used (length piece) fed.entry None fed.body [] g.count g.none (h.1 ∙ ap body_given g.none)
 gives_none s old piece (Err f) new h e = absurd (e.no_fault (h.0.0 + 1) f (omega (arith, h.0.1.within)) h.0.1.shown)
 
-counts_to : (old : State) (piece : List ℕ) (used : ℕ) (entry : Option Timed) (new : State) → FeedsTo old.stand old.taken piece used entry new → IsPending old.stand old.taken → (total new ≡ total old + used) × (used ≤ length piece) × (0 < length piece → 0 < used)
+counts_to : (old : State) (piece : List ℕ) (used : ℕ) (entry : Option Timed) (new : State) → FeedsTo old.stand old.taken piece used entry new → IsPending old.stand old.taken
+    → (total new ≡ total old + used) × (used ≤ length piece) × (0 < length piece → 0 < used)
 counts_to old piece used None new h pending =
     (omega (arith, ap (λ (r : State). total r) h.1, length-append old.taken piece, h.0), omega (arith, h.0), λ some. omega (arith, h.0, some))
 counts_to old piece used (Some t) new h pending =

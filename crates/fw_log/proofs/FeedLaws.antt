@@ -1,11 +1,7 @@
 -- One part more of a piece.
-use Rattle.std.proofs.Common.{◌≡◌, ℕ, ◌+◌, ◌-◌, ◌*◌, ◌≤◌, List, ◌++◌, length, take, drop, nat_lt, Option, Some, None, IfNone, arith, ap, sym, ◌∙◌, if◌then◌else◌, append_assoc, take-add}
-use Rattle.std.proofs.lemmas.Bool.Decides.{nat_tests}
-use Rattle.fw_entry.specs.Log.{head_size}
-use Rattle.fw_log.specs.Reading.{IsPending, head_fault, need, length_of, version_at, skip}
-use Rattle.fw_log.specs.Reader.{HoldsPending}
-use Rattle.fw_log.specs.Stands.{Position}
-use Rattle.fw_log.specs.declared.LogFault.{LogFault}
+use Rattle.fw_log.proofs.Common.{◌≡◌, ℕ, ◌+◌, ◌-◌, ◌*◌, ◌≤◌, List, ◌++◌, length, take, drop, nat_lt, Option, Some, None, arith, ap, sym, ◌∙◌, if◌then◌else◌, append_assoc, take-add, nat_tests}
+use Rattle.fw_log.proofs.Common.{head_size, IsPending, head_fault, need, length_of, version_at, skip, HoldsPending, Position, LogFault}
+use Rattle.std.proofs.Common.{IfNone}
 use Rattle.fw_log.proofs.EntryLaws.{size_within}
 use Rattle.fw_log.proofs.StayLaws.{epoch_few, head_stays}
 
@@ -25,7 +21,9 @@ skip_most : (start : ℕ) → skip start ≤ 16
 skip_most start = grind (arith, nat_tests)
 
 pub need_most : (s : Position) (taken : List ℕ) → IsPending s taken → need s taken ≤ 2308
-need_most s taken h = let size = epoch_few (version_at s taken) in most (head_size (version_at s taken)) (skip s.start) (length (drop (skip s.start) taken)) (length_of (drop (skip s.start) taken)) (omega (arith, size)) (skip_most s.start) (size_within s taken h.no_fault)
+need_most s taken h = let size = epoch_few (version_at s taken) in
+    most (head_size (version_at s taken)) (skip s.start) (length (drop (skip s.start) taken)) (length_of (drop (skip s.start) taken)) (omega (arith, size)) (skip_most s.start)
+    (size_within s taken h.no_fault)
 
 -- what lies between two places of a piece
 pub further : (old piece : List ℕ) (i k : ℕ) → i ≤ k → old ++ take k piece ≡ (old ++ take i piece) ++ take (k - i) (drop i piece)

@@ -1,21 +1,15 @@
 -- What is found in bytes at hand.
-use Rattle.std.proofs.Common.{◌≡◌, ◌⊎◌, inl, inr, ℕ, zero, suc, ◌+◌, ◌-◌, ◌*◌, ◌≤◌, ◌<◌, List, [], ◌∷◌, ◌++◌, ◌==◌, get_or, length, take, drop, nat_lt, nat_le, Bool, true, false, Option, Some, None, Result, Ok, Err, arith, refl, ap, sym, subst, ◌∙◌, if◌then◌else◌, length-append, length-drop, length-take, append-nil}
-use Rattle.std.proofs.lemmas.Bool.{cases_lt}
-use Rattle.std.proofs.lemmas.Bool.Decides.{nat_tests}
-use Rattle.std.proofs.lemmas.List.{take-append-drop, take-append-le, drop-append-le, length-take-le, take-take, take_all, drop-drop}
+use Rattle.fw_log.proofs.Common.{◌≡◌, inl, inr, ℕ, ◌+◌, ◌-◌, ◌*◌, ◌≤◌, ◌<◌, List, [], ◌∷◌, ◌++◌, ◌==◌, get_or, length, take, drop, nat_lt, nat_le, Bool, true, false, Option, Some, None, Result, Ok}
+use Rattle.fw_log.proofs.Common.{Err, arith, refl, ap, sym, subst, ◌∙◌, if◌then◌else◌, length-append, length-drop, cases_lt, nat_tests, take-append-drop, take-append-le, length-take-le, take_all}
+use Rattle.fw_log.proofs.Common.{drop-drop, quadlet_at, AreBytes, is_some, version_of, head_size, body, Version, One, Two, tested, fault_at, length_of, cycle_at, cycle_of, is_kind, is_length}
+use Rattle.fw_log.proofs.Common.{is_epoch, epoch_fault, cycle_fault, entry_fault, header_fault, head_fault, skip, version_in, version_at, entry_need, need, IsPending, IsComplete, Spells, Faulty}
+use Rattle.fw_log.proofs.Common.{WrongBody, State, HoldsPending, Joins, ShowsFault, EndsEntry, Position, Timed, LogFault, AfterEnd, BadEpoch}
+use Rattle.std.proofs.Common.{◌⊎◌, zero, suc}
+use Rattle.std.proofs.Common.{length-take, append-nil}
+use Rattle.std.proofs.lemmas.List.{drop-append-le, take-take}
 use Rattle.std.proofs.Math.Seq.{take-append-add}
-use Rattle.fw_words.specs.Quadlet.{quadlet_at}
-use Rattle.fw_async.specs.Async.{AreBytes}
-use Rattle.std.specs.Option.{is_some}
-use Rattle.fw_entry.specs.Log.{version_of, head_size, body}
-use Rattle.fw_entry.specs.declared.version.Version.{Version}
-use Rattle.fw_entry.specs.declared.version.Version.TheVariants.{One, Two}
-use Rattle.fw_log.specs.Reading.{tested, fault_at, length_of, cycle_at, cycle_of, is_kind, is_length, is_epoch, epoch_fault, cycle_fault, entry_fault, header_fault, head_fault, skip, version_in, version_at, entry_need, need, IsPending, IsComplete, Spells, Faulty, WrongBody}
-use Rattle.fw_log.specs.Reader.{State, HoldsPending, Ends, Finds, Joins, FindsIn, ShowsFault, EndsEntry}
-use Rattle.fw_log.specs.Stands.{Position}
-use Rattle.fw_entry.specs.declared.entry.Timed.{Timed}
-use Rattle.fw_log.specs.declared.LogFault.{LogFault}
-use Rattle.fw_log.specs.declared.LogWhy.TheVariants.{AfterEnd, TimeBack, BadEpoch}
+use Rattle.fw_log.specs.Reader.{Ends, Finds, FindsIn}
+use Rattle.fw_log.specs.declared.LogWhy.TheVariants.{TimeBack}
 use Rattle.fw_log.specs.declared.first.Found.{Found}
 use Rattle.fw_log.proofs.ByteLaws.{are_bytes_part, quadlet_at-append}
 use Rattle.fw_log.proofs.EntryLaws.{complete_head}
@@ -23,7 +17,7 @@ use Rattle.fw_log.proofs.SameLaws.{spelled_complete, spelled_body}
 use Rattle.fw_log.proofs.FeedLaws.{further, stays, need_most}
 use Rattle.fw_log.proofs.StayLaws.{head_stays, need_least, need_head, no_complete_front, length_of-append, cycle_of-append, kind_append, length_append, epoch_append, version_in_same, version_same}
 
--- Where an entry's length is known, what follows does not change how many bytes it takes.
+-- If an entry's length is known, what follows does not change how many bytes it takes.
 same_by : (h n m l k : ℕ) → 4 ≤ n → n ≤ m → k ≡ l → (if nat_lt m 4 then h else h + 4 * k) ≡ (if nat_lt n 4 then h else h + 4 * l)
 same_by h n m l k enough le same = grind (arith, nat_tests)
 
@@ -35,14 +29,15 @@ need_same s front more enough =
     let le : length (drop (skip s.start) front) ≤ length (drop (skip s.start) front ++ more) = omega (arith, length-append (drop (skip s.start) front) more) in
     ap (λ w. skip s.start + entry_need w (drop (skip s.start) (front ++ more))) (version_same s front more (omega arith))
     ∙ ap (λ e. skip s.start + entry_need v e) cut
-    ∙ ap (λ n. skip s.start + n) (same_by (head_size v) (length (drop (skip s.start) front)) (length (drop (skip s.start) front ++ more)) (length_of (drop (skip s.start) front)) (length_of (drop (skip s.start) front ++ more)) long le (length_of-append (drop (skip s.start) front) more long))
+    ∙ ap (λ n. skip s.start + n) (same_by (head_size v) (length (drop (skip s.start) front)) (length (drop (skip s.start) front ++ more)) (length_of (drop (skip s.start) front))
+    (length_of (drop (skip s.start) front ++ more)) long le (length_of-append (drop (skip s.start) front) more long))
 
--- What no fault shows in, none shows in a front of.
+-- What no fault shows in, none shows in a prefix of.
 clear_by : (s : Position) (front more : List ℕ) (o : Option LogFault) → head_fault s front ≡ o → head_fault s (front ++ more) ≡ None → head_fault s front ≡ None
 clear_by s front more None e h = e
 clear_by s front more (Some g) e h = cc (head_stays s front more g e, h)
 
--- a front of a whole entry is a part of it
+-- a prefix of a whole entry is a part of it
 front_pending : (s : Position) (front more : List ℕ) → 0 < length more → head_fault s (front ++ more) ≡ None → length (front ++ more) ≡ need s (front ++ more) → IsPending s front
 front_pending s front more some clear complete = record {
   no_fault = clear_by s front more (head_fault s front) refl clear;
@@ -78,7 +73,8 @@ entry_same v epoch place last e more enough =
     (epoch_same v epoch place last e more enough))
 
 header_same : (epoch last : ℕ) (bytes more : List ℕ) → 16 + head_size (version_in bytes) ≤ length bytes
-    → header_fault (bytes ++ more) (entry_fault (version_in (bytes ++ more)) epoch 16 last (drop 16 (bytes ++ more))) ≡ header_fault bytes (entry_fault (version_in bytes) epoch 16 last (drop 16 bytes))
+    → header_fault (bytes ++ more) (entry_fault (version_in (bytes ++ more)) epoch 16 last (drop 16 (bytes ++ more)))
+    ≡ header_fault bytes (entry_fault (version_in bytes) epoch 16 last (drop 16 bytes))
 header_same epoch last bytes more enough =
     let v : Version = version_in bytes in
     let long : 16 ≤ length bytes = omega (arith, enough) in
@@ -86,14 +82,18 @@ header_same epoch last bytes more enough =
     let rest : entry_fault (version_in (bytes ++ more)) epoch 16 last (drop 16 (bytes ++ more)) ≡ entry_fault v epoch 16 last (drop 16 bytes) =
     ap (λ w. entry_fault w epoch 16 last (drop 16 (bytes ++ more))) (version_in_same bytes more (omega (arith, long)))
     ∙ ap (entry_fault v epoch 16 last) (drop-append-le 16 bytes more long) ∙ entry_same v epoch 16 last (drop 16 bytes) more (omega (arith, enough, length-drop 16 bytes)) in
-    tested_same (length bytes) (length (bytes ++ more)) 4 (quadlet_at bytes 0 == 825440564) _ _ _ _ (omega (arith, long)) le (ap (λ q. q == 825440564) (quadlet_at-append bytes more 0 (omega (arith, long))))
-    (tested_same (length bytes) (length (bytes ++ more)) 8 (is_some (version_of (quadlet_at bytes 4))) _ _ _ _ (omega (arith, long)) le (ap (λ q. is_some (version_of q)) (quadlet_at-append bytes more 4 (omega (arith, long))))
+    tested_same (length bytes) (length (bytes ++ more)) 4 (quadlet_at bytes 0 == 825440564) _ _ _ _ (omega (arith, long)) le
+    (ap (λ q. q == 825440564) (quadlet_at-append bytes more 0 (omega (arith, long))))
+    (tested_same (length bytes) (length (bytes ++ more)) 8 (is_some (version_of (quadlet_at bytes 4))) _ _ _ _ (omega (arith, long)) le
+    (ap (λ q. is_some (version_of q)) (quadlet_at-append bytes more 4 (omega (arith, long))))
     (tested_same (length bytes) (length (bytes ++ more)) 12 (quadlet_at bytes 8 == 0) _ _ _ _ (omega (arith, long)) le (ap (λ q. q == 0) (quadlet_at-append bytes more 8 (omega (arith, long))))
     (tested_same (length bytes) (length (bytes ++ more)) 16 (quadlet_at bytes 12 == 0) _ _ _ _ long le (ap (λ q. q == 0) (quadlet_at-append bytes more 12 long)) rest)))
 
 settled_by : (ended first : Bool) (v : Version) (epoch start last : ℕ) (bytes more : List ℕ) → (if first then 16 else 0) + head_size (if first then version_in bytes else v) ≤ length bytes
-    → (if ended then (if length bytes == 0 then None else Some (fault_at start AfterEnd)) else if first then header_fault bytes (entry_fault (version_in bytes) epoch 16 last (drop 16 bytes)) else entry_fault v epoch start last bytes) ≡ None
-    → (if ended then (if length (bytes ++ more) == 0 then None else Some (fault_at start AfterEnd)) else if first then header_fault (bytes ++ more) (entry_fault (version_in (bytes ++ more)) epoch 16 last (drop 16 (bytes ++ more))) else entry_fault v epoch start last (bytes ++ more)) ≡ None
+    → (if ended then (if length bytes == 0 then None else Some (fault_at start AfterEnd)) else if first then header_fault bytes (entry_fault (version_in bytes) epoch 16 last (drop 16 bytes))
+    else entry_fault v epoch start last bytes) ≡ None
+    → (if ended then (if length (bytes ++ more) == 0 then None else Some (fault_at start AfterEnd)) else if first
+    then header_fault (bytes ++ more) (entry_fault (version_in (bytes ++ more)) epoch 16 last (drop 16 (bytes ++ more))) else entry_fault v epoch start last (bytes ++ more)) ≡ None
 settled_by true first v epoch start last bytes more enough h = by (length bytes) (fault_at start AfterEnd) (omega (arith, enough)) h
   where
     by : {A : Type 0} (n : ℕ) (f : LogFault) → 12 ≤ n → (if n == 0 then None else Some f) ≡ None → A
@@ -106,7 +106,8 @@ head_settled s bytes more complete clear =
     let low = need_head s bytes in settled_by s.ended (s.start == 0) s.version s.epoch s.start s.last bytes more (omega (arith, low, complete)) clear
 
 -- A fault of the head comes with one byte of the piece.
-still_pending : (s : Position) (old piece : List ℕ) (n : ℕ) (f : LogFault) → head_fault s (old ++ take n piece) ≡ None → head_fault s (old ++ take (suc n) piece) ≡ Some f → IsPending s (old ++ take n piece)
+still_pending : (s : Position) (old piece : List ℕ) (n : ℕ) (f : LogFault) → head_fault s (old ++ take n piece) ≡ None → head_fault s (old ++ take (suc n) piece) ≡ Some f
+    → IsPending s (old ++ take n piece)
 still_pending s old piece n f clear shown = record {
   no_fault = clear;
   not_complete = elim (cases_lt (length (old ++ take n piece)) (need s (old ++ take n piece))) [
@@ -115,7 +116,8 @@ still_pending s old piece n f clear shown = record {
   ];
 }
 
-shown_by : (s : Position) (old piece : List ℕ) (n : ℕ) (f : LogFault) (o : Option LogFault) → head_fault s (old ++ take n piece) ≡ o → suc n ≤ length piece → head_fault s (old ++ take (suc n) piece) ≡ Some f
+shown_by : (s : Position) (old piece : List ℕ) (n : ℕ) (f : LogFault) (o : Option LogFault) → head_fault s (old ++ take n piece) ≡ o → suc n ≤ length piece
+    → head_fault s (old ++ take (suc n) piece) ≡ Some f
     → (head_fault s (old ++ take n piece) ≡ Some f → (k : ℕ) × ShowsFault s old piece k f) → (k : ℕ) × ShowsFault s old piece k f
 shown_by s old piece n f None e within h earlier =
     let same : suc n ≡ n + 1 = omega arith in
@@ -124,7 +126,8 @@ shown_by s old piece n f (Some g) e within h earlier =
     let same : g ≡ f = cc (stays s old piece n (suc n) g (omega arith) e, h) in
     earlier (e ∙ ap Some same)
 
-pub head_shown : (s : Position) (old piece : List ℕ) (n : ℕ) (f : LogFault) → head_fault s old ≡ None → n ≤ length piece → head_fault s (old ++ take n piece) ≡ Some f → (k : ℕ) × ShowsFault s old piece k f
+pub head_shown : (s : Position) (old piece : List ℕ) (n : ℕ) (f : LogFault) → head_fault s old ≡ None → n ≤ length piece → head_fault s (old ++ take n piece) ≡ Some f → (k : ℕ)
+    × ShowsFault s old piece k f
 head_shown s old piece zero f clear within h = cc (clear, h, ap (head_fault s) (append-nil old))
 head_shown s old piece (suc n) f clear within h = shown_by s old piece n f (head_fault s (old ++ take n piece)) refl within h (λ e. head_shown s old piece n f clear (omega arith) e)
 
@@ -140,7 +143,7 @@ clear_first s = nothing s.ended (s.start == 0) None None None refl refl refl
 pub head_shown_first : (s : Position) (bytes : List ℕ) (f : LogFault) → head_fault s bytes ≡ Some f → (k : ℕ) × ShowsFault s [] bytes k f
 head_shown_first s bytes f h = head_shown s [] bytes (length bytes) f (clear_first s) (omega arith) (ap (head_fault s) (take_all (length bytes) bytes (omega arith)) ∙ h)
 
--- the front that is the first entry
+-- the beginning that is the first entry
 record FirstEntry (s : Position) (bytes : List ℕ) (n : ℕ) : Type 0 where
   pub clear : head_fault s (take n bytes) ≡ None
   pub size : length (take n bytes) ≡ n
@@ -193,7 +196,7 @@ first_wrong s bytes n f h w =
       },
     )
 
--- What was kept, and a front of the piece.
+-- What was kept, and a prefix of the piece.
 joined : (old piece : List ℕ) (m k : ℕ) → length old ≤ k → k ≤ length old + m → take k (old ++ take m piece) ≡ old ++ take (k - length old) piece
 joined old piece m k from to =
     let e : k ≡ length old + (k - length old) = omega arith in
@@ -202,7 +205,7 @@ joined old piece m k from to =
 length_joined : (old piece : List ℕ) (m : ℕ) → m ≤ length piece → length (old ++ take m piece) ≡ length old + m
 length_joined old piece m within = length-append old (take m piece) ∙ ap (λ n. length old + n) (length-take-le m piece within)
 
--- a front of what is pending is not refused and not whole
+-- a prefix of what is pending is not refused and not whole
 not_faulty : {A : Type 0} (s : Position) (front more : List ℕ) (f : LogFault) → Faulty s front f → IsPending s (front ++ more) → A
 not_faulty s front more f (inl a) pending = cc (head_stays s front more f a, pending.no_fault)
 not_faulty s front more f (inr b) pending = no_complete_front s front more pending b.complete
@@ -245,7 +248,8 @@ pub kept_entry : (s : Position) (old piece : List ℕ) (found : Found) → IsPen
 kept_entry s old piece found pending h =
     let size = length_joined old piece h.count h.within in
     let past : length old ≤ found.end = elim (cases_lt found.end (length old)) [
-      | inl less ↦ no_complete_front s (take found.end (old ++ take h.count piece)) (drop found.end old) (in_old s old piece h.count found.end pending (omega arith)) (spelled_complete s found.entry _ h.finds.1)
+      | inl less ↦ no_complete_front s (take found.end (old ++ take h.count piece)) (drop found.end old) (in_old s old piece h.count found.end pending (omega arith))
+          (spelled_complete s found.entry _ h.finds.1)
       | inr more ↦ more
     ] in
     let P : List ℕ → Type 0 = Spells s found.entry in
@@ -303,7 +307,8 @@ pub holds_by : (s : Position) (taken : List ℕ) (f : Option LogFault) → f ≡
 holds_by s taken None e h = h
 holds_by s taken (Some f) e h = cc
 
-pub same_state : (s t : Position) (a b : List ℕ) (f g : Option LogFault) → s ≡ t → a ≡ b → f ≡ g → let x : State = record { stand = s; taken = a; fault = f } in let y : State = record { stand = t; taken = b; fault = g } in x ≡ y
+pub same_state : (s t : Position) (a b : List ℕ) (f g : Option LogFault) → s ≡ t → a ≡ b → f ≡ g → let x : State = record { stand = s; taken = a; fault = f } in
+    let y : State = record { stand = t; taken = b; fault = g } in x ≡ y
 same_state s t a b f g d e h =
     ap (λ (z : Position). let x : State = record { stand = z; taken = a; fault = f } in x) d
     ∙ ap (λ (z : List ℕ). let x : State = record { stand = t; taken = z; fault = f } in x) e

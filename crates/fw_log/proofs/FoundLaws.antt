@@ -1,13 +1,9 @@
 -- A packet that is found at the first look.
-use Rattle.std.proofs.Common.{◌≡◌, ℕ, List, Option, Some, Ok, Result, refl, sym, subst, ◌∙◌}
+use Rattle.fw_log.proofs.Common.{◌≡◌, ℕ, List, Option, Some, Ok, Result, refl, sym, subst, ◌∙◌, Async, IsBody, Joins, Position, LogFault}
 use Rattle.fw_async.specs.Reader.{IsPacket}
 use Rattle.fw_async.specs.declared.packet.Packet.{Packet}
-use Rattle.fw_entry.specs.declared.entry.Entry.TheVariants.{Async}
-use Rattle.fw_log.specs.Bodies.{IsBody}
 use Rattle.fw_log.specs.Passing.{HeadFirst}
-use Rattle.fw_log.specs.Reader.{Finds, FindsIn, Joins}
-use Rattle.fw_log.specs.Stands.{Position}
-use Rattle.fw_log.specs.declared.LogFault.{LogFault}
+use Rattle.fw_log.specs.Reader.{Finds, FindsIn}
 use Rattle.fw_log.specs.declared.first.Found.{Found}
 use Rattle.fw_log.specs.declared.first.PlainHead.{PlainHead}
 use Rattle.fw_log.proofs.FindLaws.{found_in}

@@ -1,23 +1,16 @@
 -- What a reader has read of a log.
-use Rattle.std.proofs.Common.{◌≡◌, inl, inr, ℕ, ◌+◌, ◌≤◌, ◌<◌, ◌^◌, List, [], ◌∷◌, ◌++◌, ◌==◌, length, take, drop, Bool, true, false, Option, Some, None, Result, Ok, Err, arith, refl, ap, sym, subst, ◌∙◌, append_assoc, length-append, take-add, if◌then◌else◌}
-use Rattle.std.proofs.lemmas.Bool.{cases_lt}
-use Rattle.std.proofs.lemmas.Bool.Decides.{nat_tests}
-use Rattle.std.proofs.lemmas.List.{append-nil, append_cancel_left, take_at, drop_at, take-append-drop, take-append-le, take-take, length-take-le, nil_from_length}
+use Rattle.fw_log.proofs.Common.{◌≡◌, inl, inr, ℕ, ◌+◌, ◌≤◌, ◌<◌, ◌^◌, List, [], ◌∷◌, ◌++◌, ◌==◌, length, take, drop, Bool, true, false, Option, Some, None, Result, Ok, Err, arith, refl, ap, sym}
+use Rattle.fw_log.proofs.Common.{subst, ◌∙◌, append_assoc, length-append, take-add, if◌then◌else◌, cases_lt, nat_tests, append-nil, take-append-drop, take-append-le, length-take-le, header_bytes}
+use Rattle.fw_log.proofs.Common.{epoch_after, Version, One, Two, IsPending, Spells, Faulty, length_of, header_fault, entry_fault, head_fault, skip, version_in, version_at, fault_at, Position, State}
+use Rattle.fw_log.proofs.Common.{Feeds, EndsEntry, ShowsFault, Entry, Reset, Async, Iso, Event, Outcome, Shown, End, Timed, LogFed, LogFault, AfterEnd}
+use Rattle.std.proofs.lemmas.List.{append_cancel_left, take_at, drop_at, take-take, nil_from_length}
 use Rattle.std.specs.Result.{result_err}
-use Rattle.fw_entry.proofs.LogLaws.{latest_append, entries_push}
-use Rattle.fw_entry.specs.Log.{Fits, header_bytes, epoch_after, latest_epoch, entry_bytes, entries_bytes, is_end, EndsAt, InOrder, HasEnd, TimedFits, LogOpens}
-use Rattle.fw_entry.specs.declared.version.Version.{Version}
-use Rattle.fw_entry.specs.declared.version.Version.TheVariants.{One, Two}
-use Rattle.fw_log.specs.Reading.{IsPending, Spells, EpochFits, Faulty, length_of, header_fault, entry_fault, head_fault, skip, version_in, version_at, header_at, fault_at}
-use Rattle.fw_log.specs.Stands.{Position}
-use Rattle.fw_log.specs.Reader.{State, Feeds, FeedsTo, EndsEntry, ShowsFault, after, with_bytes, finish_of, finish_by}
+use Rattle.fw_log_entry.proofs.LogLaws.{latest_append, entries_push}
+use Rattle.fw_log_entry.specs.Log.{Fits, latest_epoch, entry_bytes, entries_bytes, is_end, EndsAt, InOrder, HasEnd, TimedFits, LogOpens}
+use Rattle.fw_log.specs.Reading.{EpochFits, header_at}
+use Rattle.fw_log.specs.Reader.{FeedsTo, after, with_bytes, finish_of, finish_by}
 use Rattle.fw_log.specs.History.{bytes_of, version_after, last_cycle, ended_by, stand_after, IsLog, HasRead, BeginsNoLog, ReadsTo, ReadsOn, IsNext, GivesNext, Finishes}
-use Rattle.fw_entry.specs.declared.entry.Entry.{Entry}
-use Rattle.fw_entry.specs.declared.entry.Entry.TheVariants.{Reset, Async, Iso, Event, Outcome, Shown, End}
-use Rattle.fw_entry.specs.declared.entry.Timed.{Timed}
-use Rattle.fw_log.specs.declared.read.LogFed.{LogFed}
-use Rattle.fw_log.specs.declared.LogFault.{LogFault}
-use Rattle.fw_log.specs.declared.LogWhy.TheVariants.{AfterEnd, Cut, NoEnd}
+use Rattle.fw_log.specs.declared.LogWhy.TheVariants.{Cut, NoEnd}
 use Rattle.fw_log.proofs.StayLaws.{no_complete_front, need_least, head_stays}
 use Rattle.fw_log.proofs.SameLaws.{same_timed, length-entry, length_back, spelled_complete, header_alone, version_back}
 use Rattle.fw_log.proofs.ExactLaws.{never_complete, entry_faulty}
@@ -102,7 +95,7 @@ one_log v w ts us bytes f g =
     let k = goes_on v 0 0 false ts us [] f.order h.order (λ b. cc b) same in
     (is, sym (k.all ∙ ap (λ x. ts ++ x) (no_entries v (latest_epoch 0 ts) k.rest k.same) ∙ append-nil ts))
 
--- what a log has behind the entries that were read
+-- what a log has after the entries that were read
 pub record Behind (v : Version) (entries all : List Timed) (unit : List ℕ) : Type 0 where
   pub rest : List Timed
   pub all_is : all ≡ entries ++ rest
@@ -177,7 +170,7 @@ fits_by : (v : Version) (epoch : ℕ) → epoch < 2 ^ 32 → EpochFits v epoch
 fits_by One epoch e = tt
 fits_by Two epoch e = e
 
--- the version behind entries of a log, as the bytes tell it
+-- the version after entries of a log, as the bytes tell it
 version_here : (v : Version) (entries : List Timed) (rest : List ℕ) → version_at (stand_after v entries) (header_at v (length (bytes_of v entries)) ++ rest) ≡ v
 version_here v [] rest = version_back v rest
 version_here v (t ∷ ts) rest = by (length (bytes_of v (t ∷ ts))) (version_in (header_at v (length (bytes_of v (t ∷ ts))) ++ rest)) (some_bytes v t ts)
@@ -185,7 +178,7 @@ version_here v (t ∷ ts) rest = by (length (bytes_of v (t ∷ ts))) (version_in
     by : (n : ℕ) (w : Version) → 0 < n → (if n == 0 then w else v) ≡ v
     by n w some = grind (arith, nat_tests)
 
--- the next entry of a log stands behind those that were read
+-- the next entry of a log stands after those that were read
 next_spells : (v : Version) (entries rest : List Timed) (t : Timed) → InOrder 0 entries → InOrder (last_cycle 0 entries) (t ∷ rest) → (ended_by false entries ≡ true → t ∷ rest ≡ [])
     → Spells (stand_after v entries) t (header_at v (length (bytes_of v entries)) ++ entry_bytes v (epoch_after (latest_epoch 0 entries) t.what) t)
 next_spells v entries rest t before order ends = record {
@@ -199,7 +192,8 @@ next_spells v entries rest t before order ends = record {
 }
 
 -- no log goes on from a fault
-dead_front : {A : Type 0} (s : Position) (line : List ℕ) (n m : ℕ) (f : LogFault) (t : Timed) → IsPending s (take n line) → Faulty s (take (n + 1) line) f → m ≤ length line → Spells s t (take m line) → A
+dead_front : {A : Type 0} (s : Position) (line : List ℕ) (n m : ℕ) (f : LogFault) (t : Timed) → IsPending s (take n line) → Faulty s (take (n + 1) line) f → m ≤ length line → Spells s t (take m line)
+    → A
 dead_front s line n m f t pending shown within h =
     elim (cases_lt n m) [
       | inl less ↦ entry_faulty s [] line (n + 1) m f t (omega arith) within shown h
@@ -213,7 +207,8 @@ ended_begun v (t ∷ ts) e = no_header v (length (bytes_of v (t ∷ ts))) (some_
 nothing_shown : (s : Position) → head_fault s [] ≡ None
 nothing_shown s = by s.ended (s.start == 0) s.version
   where
-    by : (b first : Bool) (v : Version) → (if b then (if length {A = ℕ} [] == 0 then None else Some (fault_at s.start AfterEnd)) else if first then header_fault [] (entry_fault (version_in []) s.epoch 16 s.last (drop 16 [])) else entry_fault v s.epoch s.start s.last []) ≡ None
+    by : (b first : Bool) (v : Version) → (if b then (if length {A = ℕ} [] == 0 then None else Some (fault_at s.start AfterEnd)) else if first
+        then header_fault [] (entry_fault (version_in []) s.epoch 16 s.last (drop 16 [])) else entry_fault v s.epoch s.start s.last []) ≡ None
     by true first v = refl
     by false true v = refl
     by false false One = refl
@@ -226,7 +221,7 @@ size_of_header v n = by (n == 0)
     by true = refl
     by false = refl
 
--- behind the last entry of a log nothing is refused
+-- after the last entry of a log nothing is refused
 last_clear : (v : Version) (entries : List Timed) (unit more : List ℕ) (f : LogFault) → Faulty (stand_after v entries) unit f → header_at v (length (bytes_of v entries)) ++ [] ≡ unit ++ more → ⊥
 last_clear v entries unit more f (inr b) same =
     let size = size_of_header v (length (bytes_of v entries)) in
@@ -243,7 +238,8 @@ last_clear v entries unit more f (inl h) same = by (ended_by false entries) refl
         cc (h, ap (head_fault (stand_after v entries)) none, nothing_shown (stand_after v entries))
     by false e = cc (head_stays (stand_after v entries) unit more f h, ap (head_fault (stand_after v entries)) line, header_alone v (stand_after v entries) e)
 
-dead_by : (v : Version) (entries rest : List Timed) (unit more : List ℕ) (n : ℕ) (f : LogFault) → InOrder 0 entries → unit ≡ take (n + 1) (unit ++ more) → IsPending (stand_after v entries) (take n (unit ++ more)) → Faulty (stand_after v entries) unit f
+dead_by : (v : Version) (entries rest : List Timed) (unit more : List ℕ) (n : ℕ) (f : LogFault) → InOrder 0 entries → unit ≡ take (n + 1) (unit ++ more)
+    → IsPending (stand_after v entries) (take n (unit ++ more)) → Faulty (stand_after v entries) unit f
     → InOrder (last_cycle 0 entries) rest → (ended_by false entries ≡ true → rest ≡ []) → header_at v (length (bytes_of v entries)) ++ entries_bytes v (latest_epoch 0 entries) rest ≡ unit ++ more → ⊥
 dead_by v entries [] unit more n f before cut pending shown order ends same = last_clear v entries unit more f shown same
 dead_by v entries (t ∷ rest) unit more n f before cut pending shown order ends same =
@@ -319,7 +315,7 @@ same_stand a b a' b' c c' v v' n n' e f g h k = cc
 pub nothing_pending : (s : Position) → IsPending s []
 nothing_pending s = record { no_fault = nothing_shown s; not_complete = let low = need_least s [] in omega (arith, low) }
 
--- the version behind the entries is that of the next
+-- the version after the entries is that of the next
 record AsVersion (v w : Version) (entries : List Timed) : Type 0 where
   pub bytes : bytes_of v entries ≡ bytes_of w entries
   pub stand : stand_after v entries ≡ stand_after w entries
@@ -333,7 +329,8 @@ as_version v w (t ∷ ts) bytes e =
     by : (n : ℕ) (u : Version) → 0 < n → (if n == 0 then u else v) ≡ v
     by n u some = grind (arith, nat_tests)
 
-entry_more : (entries : List Timed) (bytes piece : List ℕ) (r new : State) (used : ℕ) (t : Timed) → HasRead entries bytes r → EndsEntry r.stand r.taken piece used t → new ≡ after r.stand (r.taken ++ take used piece) t → HasRead (entries ++ t ∷ []) (bytes ++ take used piece) new
+entry_more : (entries : List Timed) (bytes piece : List ℕ) (r new : State) (used : ℕ) (t : Timed) → HasRead entries bytes r → EndsEntry r.stand r.taken piece used t
+    → new ≡ after r.stand (r.taken ++ take used piece) t → HasRead (entries ++ t ∷ []) (bytes ++ take used piece) new
 entry_more entries bytes piece r new used t h e is =
     let w : Version = e.spells.version in
     let unit : List ℕ = r.taken ++ take used piece in
@@ -359,7 +356,8 @@ entry_more entries bytes piece r new used t h e is =
       pending = let P : State → Type 0 = λ n. IsPending n.stand n.taken in subst P (sym is) (nothing_pending (after r.stand (r.taken ++ take used piece) t).stand);
     }
 
-all_read : (entries : List Timed) (bytes piece : List ℕ) (r new : State) → HasRead entries bytes r → new ≡ with_bytes r.stand (r.taken ++ piece) → IsPending r.stand (r.taken ++ piece) → HasRead entries (bytes ++ piece) new
+all_read : (entries : List Timed) (bytes piece : List ℕ) (r new : State) → HasRead entries bytes r → new ≡ with_bytes r.stand (r.taken ++ piece) → IsPending r.stand (r.taken ++ piece)
+    → HasRead entries (bytes ++ piece) new
 all_read entries bytes piece r new h is pending = record {
   version = h.version;
   order = h.order;
@@ -369,12 +367,14 @@ all_read entries bytes piece r new h is pending = record {
   pending = let P : State → Type 0 = λ n. IsPending n.stand n.taken in subst P (sym is) pending;
 }
 
-reads_to : (entries : List Timed) (bytes piece : List ℕ) (r new : State) (used : ℕ) (entry : Option Timed) → HasRead entries bytes r → FeedsTo r.stand r.taken piece used entry new → ReadsTo entries bytes piece used entry new
+reads_to : (entries : List Timed) (bytes piece : List ℕ) (r new : State) (used : ℕ) (entry : Option Timed) → HasRead entries bytes r → FeedsTo r.stand r.taken piece used entry new
+    → ReadsTo entries bytes piece used entry new
 reads_to entries bytes piece r new used None h f = all_read entries bytes piece r new h f.1 f.2
 reads_to entries bytes piece r new used (Some t) h f = entry_more entries bytes piece r new used t h f.0 f.1
 
 -- what a piece makes of what was read
-pub reads_on : (entries : List Timed) (bytes piece : List ℕ) (r new : State) (result : Result LogFed LogFault) → HasRead entries bytes r → Feeds r.stand r.taken piece result new → ReadsOn entries bytes piece result new
+pub reads_on : (entries : List Timed) (bytes piece : List ℕ) (r new : State) (result : Result LogFed LogFault) → HasRead entries bytes r → Feeds r.stand r.taken piece result new
+    → ReadsOn entries bytes piece result new
 reads_on entries bytes piece r new (Ok fed) h f = reads_to entries bytes piece r new fed.used fed.entry h f.0
 reads_on entries bytes piece r new (Err g) h f = (f.0.0, f.0.1.within, dead entries bytes piece r f.0.0 g h f.0.1)
 
@@ -387,16 +387,19 @@ log_begins entries all v bytes more r h o =
 
 split_at : (bytes piece more : List ℕ) (k : ℕ) → bytes ++ (piece ++ more) ≡ (bytes ++ take k piece) ++ (drop k piece ++ more)
 split_at bytes piece more k =
-    ap (λ t. bytes ++ (t ++ more)) (sym (take-append-drop k piece)) ∙ ap (λ t. bytes ++ t) (append_assoc (take k piece) (drop k piece) more) ∙ sym (append_assoc bytes (take k piece) (drop k piece ++ more))
+    ap (λ t. bytes ++ (t ++ more)) (sym (take-append-drop k piece)) ∙ ap (λ t. bytes ++ t) (append_assoc (take k piece) (drop k piece) more)
+    ∙ sym (append_assoc bytes (take k piece) (drop k piece ++ more))
 
-next_to : (entries all : List Timed) (v : Version) (bytes piece more : List ℕ) (used : ℕ) (entry : Option Timed) (new : State) → ReadsTo entries bytes piece used entry new → LogOpens all v (bytes ++ (piece ++ more)) → IsNext all entries entry
+next_to : (entries all : List Timed) (v : Version) (bytes piece more : List ℕ) (used : ℕ) (entry : Option Timed) (new : State) → ReadsTo entries bytes piece used entry new
+    → LogOpens all v (bytes ++ (piece ++ more)) → IsNext all entries entry
 next_to entries all v bytes piece more used None new h o = tt
 next_to entries all v bytes piece more used (Some t) new h o =
     let P : List ℕ → Type 0 = LogOpens all v in
     let b = log_begins (entries ++ t ∷ []) all v (bytes ++ take used piece) (drop used piece ++ more) new h (subst P (split_at bytes piece more used) o) in
     (b.rest, b.all_is)
 
-pub gives_next : (entries all : List Timed) (v : Version) (bytes piece more : List ℕ) (result : Result LogFed LogFault) (new : State) → ReadsOn entries bytes piece result new → LogOpens all v (bytes ++ (piece ++ more)) → GivesNext all entries result
+pub gives_next : (entries all : List Timed) (v : Version) (bytes piece more : List ℕ) (result : Result LogFed LogFault) (new : State) → ReadsOn entries bytes piece result new
+    → LogOpens all v (bytes ++ (piece ++ more)) → GivesNext all entries result
 gives_next entries all v bytes piece more (Ok fed) new h o = next_to entries all v bytes piece more fed.used fed.entry new h o
 gives_next entries all v bytes piece more (Err f) new h o = let P : List ℕ → Type 0 = LogOpens all v in h.2 all v (drop (h.0 + 1) piece ++ more) (subst P (split_at bytes piece more (h.0 + 1)) o)
 
@@ -439,7 +442,8 @@ log_spelled entries bytes r h e =
       };
     }
 
-only_by : (v : Version) (entries rest : List Timed) (taken : List ℕ) → InOrder 0 entries → IsPending (stand_after v entries) taken → InOrder (last_cycle 0 entries) rest → (ended_by false entries ≡ true → rest ≡ [])
+only_by : (v : Version) (entries rest : List Timed) (taken : List ℕ) → InOrder 0 entries → IsPending (stand_after v entries) taken → InOrder (last_cycle 0 entries) rest
+    → (ended_by false entries ≡ true → rest ≡ [])
     → header_at v (length (bytes_of v entries)) ++ entries_bytes v (latest_epoch 0 entries) rest ≡ taken → rest ≡ []
 only_by v entries [] taken before pending order ends same = refl
 only_by v entries (t ∷ rest) taken before pending order ends same =
@@ -501,5 +505,6 @@ finishes entries bytes r (Err f) h e =
       complete = tt;
       only = λ all v o. only_log entries all v bytes r h o;
       spelled = λ s. absurd (ended_none r.stand.ended _ f (ap (λ (s : Position). s.ended) h.stand ∙ has_end false entries s.spells.ends) is);
-      place = place_by r.stand.ended (r.stand.start + length r.taken) (length r.taken) (skip r.stand.start) f is ∙ omega (arith, ap (λ (s : Position). s.start) h.stand, ap length h.same, length-append (bytes_of h.version entries) r.taken);
+      place = place_by r.stand.ended (r.stand.start + length r.taken) (length r.taken) (skip r.stand.start) f is
+          ∙ omega (arith, ap (λ (s : Position). s.start) h.stand, ap length h.same, length-append (bytes_of h.version entries) r.taken);
     }

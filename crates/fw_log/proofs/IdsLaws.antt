@@ -1,19 +1,16 @@
 -- Self-ID packets, eight bytes more at a time.
-use Rattle.std.proofs.Common.{◌≡◌, inl, inr, ℕ, zero, suc, ◌+◌, ◌-◌, ◌*◌, ◌^◌, ◌≤◌, ◌<◌, List, [], ◌∷◌, ◌++◌, ◌==◌, flat_map, length, take, drop, Option, Some, None, arith, refl, ap, sym, subst, ◌∙◌, length-append, length-drop, nat_lt, take-add, if◌then◌else◌}
-use Rattle.std.proofs.lemmas.Bool.{cases_lt}
-use Rattle.std.proofs.lemmas.Bool.Decides.{nat_tests}
+use Rattle.fw_log.proofs.Common.{◌≡◌, inl, inr, ℕ, ◌+◌, ◌-◌, ◌*◌, ◌^◌, ◌≤◌, ◌<◌, List, [], ◌∷◌, ◌++◌, ◌==◌, flat_map, length, take, drop, Option, Some, None, arith, refl, ap, sym, subst, ◌∙◌}
+use Rattle.fw_log.proofs.Common.{length-append, length-drop, nat_lt, take-add, if◌then◌else◌, cases_lt, nat_tests, take_all, take-append-le, length-take-le, drop-drop, append-nil, All, to_be_bytes}
+use Rattle.fw_log.proofs.Common.{w32, quadlet_at, spelling, PhyPacket}
+use Rattle.std.proofs.Common.{zero, suc}
 use Rattle.std.proofs.lemmas.Grind.{flat_map-append}
-use Rattle.std.proofs.lemmas.List.{take_all, take-append-le, length-take, length-take-le, drop-drop, append-nil}
+use Rattle.std.proofs.lemmas.List.{length-take}
 use Rattle.std.proofs.lemmas.List.Elements.{All-push, All-head, All-tail}
-use Rattle.std.specs.List.{All}
-use Rattle.std.specs.Int.{to_be_bytes, w32}
 use Rattle.std.specs.Option.{option_map}
 use Rattle.std.proofs.lemmas.Nat.{from_be_bytes-to_be_bytes_4}
-use Rattle.fw_words.specs.Quadlet.{quadlet_at}
-use Rattle.fw_phy.specs.Phy.{Fits, spelling, quadlet_of, reserved_bit, phy_fault}
+use Rattle.fw_phy.specs.Phy.{Fits, quadlet_of, reserved_bit, phy_fault}
 use Rattle.fw_phy.proofs.TagLaws.{spelled_none}
 use Rattle.fw_phy.proofs.SameLaws.{same_packet, below}
-use Rattle.fw_phy.specs.declared.packet.PhyPacket.{PhyPacket}
 use Rattle.fw_phy.specs.declared.PhyFault.TheVariants.{Short, NotInverse, Reserved}
 use Rattle.fw_phy.specs.declared.PhyFault.{PhyFault}
 use Rattle.fw_log.specs.Bodies.{AreIds, refusal, or_else}
@@ -36,7 +33,8 @@ long xs e = elim (cases_lt (length xs) 8) [ inl less ↦ few less | inr more ↦
 eight : (p : PhyPacket) → length (spelling p) ≡ 8
 eight p = refl
 
-ids_more : (ids : List PhyPacket) (p : PhyPacket) (bytes rest : List ℕ) (at : ℕ) → AreIds ids (take at bytes) → rest ≡ drop at bytes → Fits p → take 8 rest ≡ spelling p → AreIds (ids ++ p ∷ []) (take (at + 8) bytes)
+ids_more : (ids : List PhyPacket) (p : PhyPacket) (bytes rest : List ℕ) (at : ℕ) → AreIds ids (take at bytes) → rest ≡ drop at bytes → Fits p → take 8 rest ≡ spelling p
+    → AreIds (ids ++ p ∷ []) (take (at + 8) bytes)
 ids_more ids p bytes rest at h r fits spelled =
     let one : flat_map spelling (p ∷ []) ≡ spelling p = append-nil (spelling p) in
     record {
@@ -71,7 +69,8 @@ few_kept ids bytes at i = let P : List PhyPacket → Type 0 = λ t. length t ≤
     least : (xs : List PhyPacket) → length (take 252 xs) ≤ 252
     least xs = omega (arith, length-take 252 xs)
 
-pub ids_next : (ids new : List PhyPacket) (bytes rest : List ℕ) (at : ℕ) (p : PhyPacket) → IdsRead ids bytes at → at < length bytes → rest ≡ drop at bytes → phy_fault rest ≡ None → Fits p → take 8 rest ≡ spelling p → new ≡ take 252 (ids ++ p ∷ []) → IdsRead new bytes (at + 8)
+pub ids_next : (ids new : List PhyPacket) (bytes rest : List ℕ) (at : ℕ) (p : PhyPacket) → IdsRead ids bytes at → at < length bytes → rest ≡ drop at bytes → phy_fault rest ≡ None → Fits p
+    → take 8 rest ≡ spelling p → new ≡ take 252 (ids ++ p ∷ []) → IdsRead new bytes (at + 8)
 ids_next ids new bytes rest at p i more r clear fits spelled e =
     let size : 8 ≤ length rest = long rest (ap length spelled ∙ eight p) in
     let here : phy_fault (drop at bytes) ≡ None = ap phy_fault (sym r) ∙ clear in
@@ -83,16 +82,18 @@ ids_next ids new bytes rest at p i more r clear fits spelled e =
       count = omega (arith, i.count);
       kept = e ∙ ap (λ t. take 252 (t ++ p ∷ [])) i.kept ∙ take_twice i.all p;
       within = omega (arith, length-drop at bytes, ap length r);
-      clear = i.clear ∙ step (length bytes - length i.all) (length bytes - length (i.all ++ p ∷ [])) (drop at bytes) None (omega (arith, i.count)) some here ∙ ap (refusal (length bytes - length (i.all ++ p ∷ []))) (drop-drop 8 at bytes);
+      clear = i.clear ∙ step (length bytes - length i.all) (length bytes - length (i.all ++ p ∷ [])) (drop at bytes) None (omega (arith, i.count)) some here
+          ∙ ap (refusal (length bytes - length (i.all ++ p ∷ []))) (drop-drop 8 at bytes);
     }
 
-pub ids_refused : (ids : List PhyPacket) (bytes rest : List ℕ) (at : ℕ) (f : PhyFault) → IdsRead ids bytes at → at < length bytes → rest ≡ drop at bytes → phy_fault rest ≡ Some f → refusal (length bytes) bytes ≡ Some f
+pub ids_refused : (ids : List PhyPacket) (bytes rest : List ℕ) (at : ℕ) (f : PhyFault) → IdsRead ids bytes at → at < length bytes → rest ≡ drop at bytes → phy_fault rest ≡ Some f
+    → refusal (length bytes) bytes ≡ Some f
 ids_refused ids bytes rest at f i more r h =
     let here : phy_fault (drop at bytes) ≡ Some f = ap phy_fault (sym r) ∙ h in
     let some : 0 < length (drop at bytes) = omega (arith, length-drop at bytes) in
     i.clear ∙ step (length bytes - length i.all) (length bytes - length i.all - 1) (drop at bytes) (Some f) (omega (arith, i.count)) some here
 
--- the quadlet at the front, and the one behind it
+-- the quadlet at the beginning, and the one after it
 pub back : (a : ℕ) (rest : List ℕ) → a < 2 ^ 32 → quadlet_at (to_be_bytes w32 a ++ rest) 0 ≡ a
 back a rest h = from_be_bytes-to_be_bytes_4 a h
 
@@ -107,7 +108,8 @@ same_ids (p ∷ ps) [] f g e = cc e
 same_ids (p ∷ ps) (q ∷ qs) f g e =
     let here : Fits p = All-head Fits p ps f in
     let there : Fits q = All-head Fits q qs g in
-    let first : quadlet_of p ≡ quadlet_of q = sym (back (quadlet_of p) (drop 4 (flat_map spelling (p ∷ ps))) (below p here)) ∙ ap (λ t. quadlet_at t 0) e ∙ back (quadlet_of q) (drop 4 (flat_map spelling (q ∷ qs))) (below q there) in
+    let first : quadlet_of p ≡ quadlet_of q = sym (back (quadlet_of p) (drop 4 (flat_map spelling (p ∷ ps))) (below p here)) ∙ ap (λ t. quadlet_at t 0) e
+    ∙ back (quadlet_of q) (drop 4 (flat_map spelling (q ∷ qs))) (below q there) in
     let rest : flat_map spelling ps ≡ flat_map spelling qs = ap (drop 8) e in
     cons_both p q ps qs (same_packet p q here there first) (same_ids ps qs (All-tail Fits p ps f) (All-tail Fits q qs g) rest)
 
@@ -140,7 +142,8 @@ too_many ids bytes at i done many = (
 )
 
 -- bytes that are packets are refused nowhere
-not_refused : (n q r k : ℕ) → 8 ≤ n → q ≡ k → r ≡ 2 ^ 32 - 1 - k → reserved_bit k ≡ None → (if nat_lt n 8 then Some Short else if r == 2 ^ 32 - 1 - q then option_map Reserved (reserved_bit q) else Some NotInverse) ≡ None
+not_refused : (n q r k : ℕ) → 8 ≤ n → q ≡ k → r ≡ 2 ^ 32 - 1 - k → reserved_bit k ≡ None
+    → (if nat_lt n 8 then Some Short else if r == 2 ^ 32 - 1 - q then option_map Reserved (reserved_bit q) else Some NotInverse) ≡ None
 not_refused n q r k enough e f none =
     let o : option_map Reserved (reserved_bit q) ≡ None = ap (λ m. option_map Reserved (reserved_bit m)) e ∙ ap (option_map Reserved) none in
     by n q r (option_map Reserved (reserved_bit q)) enough (f ∙ ap (λ m. 2 ^ 32 - 1 - m) (sym e)) o

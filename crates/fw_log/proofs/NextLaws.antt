@@ -1,10 +1,7 @@
--- The entry that comes next, and the reader behind it.
-use Rattle.std.proofs.Common.{◌≡◌, ℕ, ◌+◌, ◌-◌, List, [], length, false, Option, Some, None, IfSome, refl, subst}
+-- The entry that comes next, and the reader after it.
+use Rattle.fw_log.proofs.Common.{◌≡◌, ℕ, ◌+◌, ◌-◌, List, [], length, false, Option, Some, None, IfSome, refl, subst, State, HoldsPending, Joins, Feeds, Position, LogFault}
 use Rattle.fw_log.specs.Next.{IsNext}
 use Rattle.fw_log.specs.Passing.{BodyFirst}
-use Rattle.fw_log.specs.Reader.{State, HoldsPending, Joins, Feeds}
-use Rattle.fw_log.specs.Stands.{Position}
-use Rattle.fw_log.specs.declared.LogFault.{LogFault}
 use Rattle.fw_log.specs.declared.first.PlainEntry.{PlainEntry}
 use Rattle.fw_log.proofs.PassLaws.{EndsPassed, ends_passed, behind_passed, fed}
 
@@ -28,7 +25,7 @@ holds_at r stand taken fault is holds =
 pub next_ends : (r : State) (piece : List ℕ) (p : PlainEntry) (x : IsNext r piece p) → HoldsPending r.stand r.taken r.fault → EndsPassed r.stand r.taken piece p.passed x.next.entry
 next_ends r piece p x holds = ends_passed r r.stand r.taken r.taken piece x.bytes r.fault p.passed x.next.entry refl holds x.clear refl x.joins x.next.first
 
--- behind it
+-- after it
 pub next_feeds : (r : State) (piece : List ℕ) (p : PlainEntry) (x : IsNext r piece p) (n start : ℕ) (stand : Position) (taken : List ℕ) (fault : Option LogFault)
     → HoldsPending r.stand r.taken r.fault → n ≡ length r.taken → start ≡ r.stand.start
     → stand ≡ record { start = start + p.passed.end; last = p.passed.cycle; ended = false; version = p.passed.version; epoch = p.passed.epoch } → taken ≡ [] → fault ≡ None

@@ -1,36 +1,26 @@
 -- Entries that are passed over.
-use Rattle.std.proofs.Common.{◌≡◌, ℕ, ◌+◌, ◌-◌, ◌*◌, ◌≤◌, ◌<◌, List, [], ◌++◌, inl, inr, get_or, length, take, drop, Bool, true, false, Option, Some, None, Ok, Result}
-use Rattle.std.proofs.Common.{IfSome, IsSome, refl, ap, sym, subst, ◌∙◌, arith}
-use Rattle.std.proofs.lemmas.Bool.Decides.{nat_tests}
-use Rattle.std.specs.Option.{is_some}
-use Rattle.fw_async.specs.Async.{AreBytes}
+use Rattle.fw_log.proofs.Common.{◌≡◌, ℕ, ◌+◌, ◌-◌, ◌*◌, ◌≤◌, ◌<◌, List, [], ◌++◌, inl, inr, get_or, length, take, drop, Bool, true, false, Option, Some, None, Ok, Result, IfSome, refl, ap, sym, subst}
+use Rattle.fw_log.proofs.Common.{◌∙◌, arith, nat_tests, is_some, AreBytes, quads, kind_of, body, epoch_after, head_size, quadlet_at, Version, Entry, Reset, Async, Iso, Event, Outcome, Shown, End}
+use Rattle.fw_log.proofs.Common.{Timed, IsBody, is_length, cycle_of, skip, version_at, HasEpoch, IsComplete, IsPending, State, HoldsPending, EndsEntry, Joins, Feeds, Position, LogFault, LogFed}
+use Rattle.std.proofs.Common.{IsSome}
 use Rattle.fw_async.specs.Reader.{IsPacket}
 use Rattle.fw_cip.specs.Iso.{Fits as IsoFits, spelling as iso_spelling}
 use Rattle.fw_cip.specs.declared.packet.IsoPacket.{IsoPacket}
-use Rattle.fw_entry.specs.Log.{quads, event_quads, outcome_quads, shown_quads, EventFits, OutcomeFits, ShownFits, kind_of, body, epoch_after, head_size, is_end}
-use Rattle.fw_words.specs.Quadlet.{quadlet_at}
-use Rattle.fw_entry.specs.declared.version.Version.{Version}
-use Rattle.fw_entry.specs.declared.entry.Entry.{Entry}
-use Rattle.fw_entry.specs.declared.entry.Entry.TheVariants.{Reset, Async, Iso, Event, Outcome, Shown, End}
-use Rattle.fw_entry.specs.declared.entry.EventEntry.{EventEntry}
-use Rattle.fw_entry.specs.declared.entry.OutcomeEntry.{OutcomeEntry}
-use Rattle.fw_entry.specs.declared.entry.ShownEntry.{ShownEntry}
-use Rattle.fw_entry.specs.declared.entry.Timed.{Timed}
-use Rattle.fw_log.specs.Bodies.{IsBody}
+use Rattle.fw_log_entry.specs.Log.{event_quads, outcome_quads, shown_quads, EventFits, OutcomeFits, ShownFits, is_end}
+use Rattle.fw_log_entry.specs.declared.entry.EventEntry.{EventEntry}
+use Rattle.fw_log_entry.specs.declared.entry.OutcomeEntry.{OutcomeEntry}
+use Rattle.fw_log_entry.specs.declared.entry.ShownEntry.{ShownEntry}
 use Rattle.fw_log.specs.Plain.{IsReset}
 use Rattle.fw_log.specs.Passing.{IsPassed, IsPlain, IsPlainBody, IsPlainEpoch, IsFirst, HeadFirst, PassesFirst, BodyFirst, CountsUp, PassesOn, PassesBody}
-use Rattle.fw_log.specs.Reading.{is_length, cycle_of, skip, version_at, is_own_epoch, HeadFits, HasEpoch, IsComplete, IsPending}
-use Rattle.fw_log.specs.Reader.{State, HoldsPending, EndsEntry, Ends, Joins, Feeds, after}
+use Rattle.fw_log.specs.Reading.{is_own_epoch, HeadFits}
+use Rattle.fw_log.specs.Reader.{Ends, after}
 use Rattle.fw_log.specs.History.{HasRead}
-use Rattle.fw_log.specs.Stands.{Position}
-use Rattle.fw_log.specs.declared.LogFault.{LogFault}
 use Rattle.fw_log.specs.declared.first.Found.{Found}
 use Rattle.fw_log.specs.declared.first.Passed.{Passed}
 use Rattle.fw_log.specs.declared.first.PlainEntry.{PlainEntry}
 use Rattle.fw_log.specs.declared.first.PlainHead.{PlainHead}
 use Rattle.fw_log.specs.declared.plain.PlainBody.{PlainBody}
 use Rattle.fw_log.specs.declared.plain.PlainBody.TheVariants as PlainBodies
-use Rattle.fw_log.specs.declared.read.LogFed.{LogFed}
 use Rattle.fw_log.proofs.ByteLaws.{are_bytes_part}
 use Rattle.fw_log.proofs.EntryLaws.{complete_ok, own_epoch, kind_of_complete, size_of_complete}
 use Rattle.fw_log.proofs.IdsLaws.{back}
@@ -61,7 +51,7 @@ pub plain_shown : (k : ℕ) (bytes : List ℕ) (r : Option ShownEntry)
 plain_shown k bytes None e h some = cc some
 plain_shown k bytes (Some o) e h some = record { entry = Shown o; is = record { fits = h.0; kind = sym e; same = h.1 }; passed = tt }
 
--- the epoch behind an entry that is passed over, which its head has
+-- the epoch after an entry that is passed over, which its head has
 record PlainEpoch (v : Version) (epoch : ℕ) (e : List ℕ) (what : Entry) (n : ℕ) : Type 0 where
   pub behind : n ≡ epoch_after epoch what
   pub own : HasEpoch v (epoch_after epoch what) e
@@ -72,7 +62,8 @@ other : (v : Version) (epoch last n : ℕ) (e more : List ℕ) (what : Entry) �
 other v epoch last n e more what h b (inl p) apart own same = absurd (apart (b.kind ∙ p.0))
 other v epoch last n e more what h b (inr p) apart own same = record { behind = p.1 ∙ sym same; own = own_epoch v epoch e what h.latest b.kind own }
 
-plain_epoch : (v : Version) (epoch last n : ℕ) (e more : List ℕ) (what : Entry) → HeadFits v epoch last e → IsBody (get_or e 0 0) more what → IsPlainEpoch v epoch e more n → PlainEpoch v epoch e what n
+plain_epoch : (v : Version) (epoch last n : ℕ) (e more : List ℕ) (what : Entry) → HeadFits v epoch last e → IsBody (get_or e 0 0) more what → IsPlainEpoch v epoch e more n
+    → PlainEpoch v epoch e what n
 plain_epoch v epoch last n e more (Reset r) h b (inl p) =
     let first : quadlet_at more 0 ≡ r.epoch = ap (λ x. quadlet_at x 0) (sym b.same) ∙ back r.epoch [] b.fits.epoch in
     let is : n ≡ r.epoch = sym p.1 ∙ first in
@@ -120,7 +111,7 @@ not_end (Outcome o) h = refl
 not_end (Shown s) h = refl
 not_end End h = absurd h
 
--- the entry that a whole front of bytes is
+-- the entry that a whole prefix of bytes is
 is_first : (v : Version) (s : Position) (bytes e more : List ℕ) (n cycle epoch : ℕ) (what : Entry) → AreBytes bytes → Ends s bytes (Ok (Some n))
     → e ≡ drop (skip s.start) (take n bytes) → more ≡ drop (head_size v) e → IsComplete v s (take n bytes)
     → cycle ≡ cycle_of v e → IsPlainEpoch v s.epoch e more epoch → IsBody (get_or e 0 0) more what → is_end what ≡ false
@@ -212,11 +203,11 @@ ends_passed r stand taken kept piece bytes fault p entry is holds clear same j h
     ends_at r.stand stand r.taken kept piece bytes p entry (subst P is (pending_of stand taken fault clear holds)) (ap (λ (x : State). x.stand) is)
     (same ∙ ap (λ (x : State). x.taken) is) j h
 
--- what the reader gives where the entry is not passed over
+-- what the reader gives if the entry is not passed over
 abbrev pub fed : ℕ → Timed → Result LogFed LogFault
 fed used t = Ok (record { used = used; entry = Some t; body = body t.what })
 
--- the reader stands behind it
+-- the reader stands after it
 pub behind_passed : (r : State) (piece : List ℕ) (p : Passed) (entry : Timed) (e : EndsPassed r.stand r.taken piece p entry) (n start : ℕ) (stand : Position) (taken : List ℕ)
     (fault : Option LogFault) → n ≡ length r.taken → start ≡ r.stand.start
     → stand ≡ record { start = start + p.end; last = p.cycle; ended = false; version = p.version; epoch = p.epoch } → taken ≡ [] → fault ≡ None

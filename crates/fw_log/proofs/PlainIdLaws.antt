@@ -1,15 +1,12 @@
--- The self-ID packet that a quadlet is, where it is the one that comes next.
-use Rattle.std.proofs.Common.{◌≡◌, ℕ, suc, ◌+◌, ◌-◌, ◌*◌, ◌/◌, ◌%◌, ◌^◌, ◌≤◌, ◌<◌, List, [], ◌∷◌, ◌==◌, ◌&&◌, Bool, true, Some, None, Option}
-use Rattle.std.proofs.Common.{arith, refl, ap, sym, subst, ◌∙◌, if◌then◌else◌}
-use Rattle.std.proofs.lemmas.Bool.Decides.{nat_tests}
-use Rattle.fw_words.specs.Quadlet.{field}
-use Rattle.fw_words.specs.Layout.{packed, cut, FitWidths}
+-- The self-ID packet that a quadlet is, if it is the one that comes next.
+use Rattle.fw_log.proofs.Common.{◌≡◌, ℕ, ◌+◌, ◌-◌, ◌*◌, ◌/◌, ◌^◌, ◌≤◌, ◌<◌, List, [], ◌∷◌, ◌==◌, ◌&&◌, Bool, true, Some, None, Option, arith, refl, ap, sym, subst, ◌∙◌, if◌then◌else◌, nat_tests}
+use Rattle.fw_log.proofs.Common.{field, packed, PhyPacket, are_ids}
+use Rattle.std.proofs.Common.{suc, ◌%◌}
+use Rattle.fw_words.specs.Layout.{cut, FitWidths}
 use Rattle.fw_words.proofs.LayoutLaws.{packed-cut, cut-fits}
 use Rattle.fw_phy.specs.Phy.{bit, layout, Fits, quadlet_of}
 use Rattle.fw_phy.specs.SelfIds.{begins_self_id}
-use Rattle.fw_phy.specs.declared.packet.PhyPacket.{PhyPacket}
 use Rattle.fw_phy.specs.declared.packet.PhyPacket.TheVariants.{SelfId, SelfIdMore}
-use Rattle.fw_entry.specs.Log.{are_ids}
 use Rattle.fw_log.specs.Plain.{next_by, GoesOnBy}
 use Rattle.fw_log.specs.declared.plain_reset.Turn.{Turn}
 use Rattle.fw_log.proofs.TestLaws.{equal, equals, differs, positive, both, both_by, either, passed, chosen, other}
@@ -137,7 +134,7 @@ comes q node met small few most h =
     let t = both _ _ s in
     more_comes q node met small few (positive met o) most (equal _ _ t.first) (equal _ _ t.second))
 
--- behind the packet that comes next, one more of its node, or one of the next node
+-- after the packet that comes next, one more of its node, or one of the next node
 pub goes_more : (q node met : ℕ) → q < 2 ^ 32 → node < 64 → met ≤ 3 → begins_self_id q node met ≡ true → field q 31 31 ≡ 1
     → GoesOnBy q (turn node met) (turn node (met + 1))
 goes_more q node met small few most h flag =

@@ -1,21 +1,15 @@
 -- Bytes that are a reset's body at the first look.
-use Rattle.std.proofs.Common.{◌≡◌, ℕ, ◌+◌, ◌-◌, ◌*◌, ◌^◌, ◌≤◌, ◌<◌, List, [], ◌∷◌, ◌++◌, ◌==◌, ◌||◌, ◌&&◌, nat_le, nat_lt, flat_map, map}
-use Rattle.std.proofs.Common.{length, take, drop, take-add, Bool, true, false, Option, Some, None, IfSome, arith, refl, ap, sym, ◌∙◌}
-use Rattle.std.proofs.Common.{if◌then◌else◌, append_assoc, length-append}
-use Rattle.std.proofs.lemmas.Bool.Decides.{nat_tests}
+use Rattle.fw_log.proofs.Common.{◌≡◌, ℕ, ◌+◌, ◌-◌, ◌*◌, ◌^◌, ◌≤◌, ◌<◌, List, [], ◌∷◌, ◌++◌, ◌==◌, ◌||◌, ◌&&◌, nat_le, nat_lt, flat_map, length, take, drop, take-add, Bool, true, false, Option, Some}
+use Rattle.fw_log.proofs.Common.{None, IfSome, arith, refl, ap, sym, ◌∙◌, if◌then◌else◌, append_assoc, length-append, nat_tests, append-nil, take-append-drop, All, to_be_bytes, w32, field, quadlet_at}
+use Rattle.fw_log.proofs.Common.{spelling, PhyPacket, AreBytes, quads, node_quad, are_ids}
+use Rattle.std.proofs.Common.{map}
 use Rattle.std.proofs.lemmas.Grind.{common_steps, flat_map-append}
-use Rattle.std.proofs.lemmas.List.{append-nil, take-append-drop}
 use Rattle.std.proofs.lemmas.List.Elements.{All-push}
 use Rattle.std.proofs.lemmas.Nat.{be_bytes_4}
-use Rattle.std.specs.List.{All}
-use Rattle.std.specs.Int.{to_be_bytes, w32}
-use Rattle.fw_words.specs.Quadlet.{field, quadlet_at}
-use Rattle.fw_phy.specs.Phy.{Fits, spelling, twice}
-use Rattle.fw_phy.specs.declared.packet.PhyPacket.{PhyPacket}
-use Rattle.fw_async.specs.Async.{AreBytes}
-use Rattle.fw_entry.specs.Log.{quads, node_quad, manager_byte, are_ids, RowFits, AreApart}
-use Rattle.fw_entry.specs.declared.nodes.NodeRow.{NodeRow}
-use Rattle.fw_entry.specs.declared.entry.ResetEntry.{ResetEntry}
+use Rattle.fw_phy.specs.Phy.{Fits, twice}
+use Rattle.fw_log_entry.specs.Log.{manager_byte, RowFits, AreApart}
+use Rattle.fw_log_entry.specs.declared.nodes.NodeRow.{NodeRow}
+use Rattle.fw_log_entry.specs.declared.entry.ResetEntry.{ResetEntry}
 use Rattle.fw_log.specs.Bodies.{count_of, has_nodes}
 use Rattle.fw_log.specs.Plain.{next_by, GoesOnBy, AreIdsOf, are_of_nodes, IsReset}
 use Rattle.fw_log.specs.declared.plain_reset.Turn.{Turn}

@@ -1,29 +1,23 @@
 -- The body of a reset, and the reset that it is.
-use Rattle.std.proofs.Common.{◌≡◌, ℕ, ◌+◌, ◌-◌, ◌*◌, ◌^◌, ◌≤◌, ◌<◌, List, [], ◌∷◌, ◌++◌, get_or, map, flat_map, length, take, drop, Bool, true, false, nat_le, ◌&&◌, Option, Some, None, Err, IfSome, arith, refl, ap, sym, subst, ◌∙◌, length-append, take-add}
-use Rattle.std.proofs.lemmas.Bool.Decides.{nat_tests}
+use Rattle.fw_log.proofs.Common.{◌≡◌, ℕ, ◌+◌, ◌-◌, ◌*◌, ◌^◌, ◌≤◌, ◌<◌, List, [], ◌∷◌, ◌++◌, get_or, flat_map, length, take, drop, Bool, true, false, nat_le, ◌&&◌, Option, Some, None, Err, IfSome}
+use Rattle.fw_log.proofs.Common.{arith, refl, ap, sym, subst, ◌∙◌, length-append, take-add, nat_tests, take_rest, drop-drop, take-append-drop, All, to_be_bytes, w32, field, quadlet_at, packed}
+use Rattle.fw_log.proofs.Common.{spelling, PhyPacket, quads, node_quad, are_ids, body, IsBody, BodyRefused, Entry, Reset, Async, Iso, Event, Outcome, Shown, End, BodyFault, Fields}
+use Rattle.std.proofs.Common.{map}
 use Rattle.std.proofs.lemmas.Grind.{flat_map-append}
-use Rattle.std.proofs.lemmas.List.{length-map, take_at, drop_at, drop_more, take_rest, drop-drop, map-append, take-append-drop}
+use Rattle.std.proofs.lemmas.List.{length-map, take_at, drop_at, drop_more, map-append}
 use Rattle.std.proofs.lemmas.List.Elements.{All-push, All-head, All-tail, All-weaker}
-use Rattle.std.specs.List.{All}
-use Rattle.std.specs.Int.{to_be_bytes, w32}
-use Rattle.fw_words.specs.Quadlet.{field, quadlet_at}
-use Rattle.fw_words.specs.Layout.{packed}
-use Rattle.fw_phy.specs.Phy.{spelling}
-use Rattle.fw_phy.specs.declared.packet.PhyPacket.{PhyPacket}
 use Rattle.fw_phy.specs.declared.PhyFault.{PhyFault}
-use Rattle.fw_entry.specs.Log.{quads, node_quad, manager_byte, are_ids, ResetFits, RowFits, body}
-use Rattle.fw_log.specs.Bodies.{IsBody, Refuses, BodyRefused, PhyRefuses, IdsJudges, refusal, count_of, ids_at, has_nodes}
-use Rattle.fw_entry.specs.declared.entry.Entry.{Entry}
-use Rattle.fw_entry.specs.declared.entry.Entry.TheVariants.{Reset, Async, Iso, Event, Outcome, Shown, End}
-use Rattle.fw_log.specs.declared.BodyFault.{BodyFault}
-use Rattle.fw_log.specs.declared.BodyFault.TheVariants.{Phy, Packet, Iso as IsoFails, Fields}
+use Rattle.fw_log_entry.specs.Log.{manager_byte, ResetFits, RowFits}
+use Rattle.fw_log.specs.Bodies.{Refuses, PhyRefuses, IdsJudges, refusal, count_of, ids_at, has_nodes}
+use Rattle.fw_log.specs.declared.BodyFault.TheVariants.{Phy, Packet, Iso as IsoFails}
 use Rattle.fw_log.specs.Resets.{RowShape, ResetShape}
-use Rattle.fw_entry.specs.declared.nodes.NodeRow.{NodeRow}
-use Rattle.fw_entry.specs.declared.entry.ResetEntry.{ResetEntry}
+use Rattle.fw_log_entry.specs.declared.nodes.NodeRow.{NodeRow}
+use Rattle.fw_log_entry.specs.declared.entry.ResetEntry.{ResetEntry}
 use Rattle.fw_log.proofs.IdsLaws.{back, same_ids, ids_clear}
 
 -- one node more
-pub nodes_more : (nodes new : List NodeRow) (r : NodeRow) (q i : ℕ) (bytes : List ℕ) → quads (map node_quad nodes) ≡ take (4 * i) bytes → new ≡ nodes ++ r ∷ [] → node_quad r ≡ q → to_be_bytes w32 q ≡ take 4 (drop (4 * i) bytes)
+pub nodes_more : (nodes new : List NodeRow) (r : NodeRow) (q i : ℕ) (bytes : List ℕ) → quads (map node_quad nodes) ≡ take (4 * i) bytes → new ≡ nodes ++ r ∷ [] → node_quad r ≡ q
+    → to_be_bytes w32 q ≡ take 4 (drop (4 * i) bytes)
     → quads (map node_quad new) ≡ take (4 * (i + 1)) bytes
 nodes_more nodes new r q i bytes h e f four =
     let one : quads (map node_quad (r ∷ [])) ≡ to_be_bytes w32 q = ap (to_be_bytes w32) f in
@@ -73,7 +67,8 @@ same_rows (p ∷ ps) [] f g e = cc e
 same_rows (p ∷ ps) (q ∷ qs) f g e =
     let here = All-head RowShape p ps f in
     let there = All-head RowShape q qs g in
-    let first : node_quad p ≡ node_quad q = sym (back (node_quad p) (quads (map node_quad ps)) (row_below p here)) ∙ ap (λ t. quadlet_at t 0) e ∙ back (node_quad q) (quads (map node_quad qs)) (row_below q there) in
+    let first : node_quad p ≡ node_quad q = sym (back (node_quad p) (quads (map node_quad ps)) (row_below p here)) ∙ ap (λ t. quadlet_at t 0) e
+    ∙ back (node_quad q) (quads (map node_quad qs)) (row_below q there) in
     both p q ps qs (same_row p q here there first) (same_rows ps qs (All-tail RowShape p ps f) (All-tail RowShape q qs g) (ap (drop 4) e))
 
 -- a reset is its body
@@ -110,14 +105,19 @@ behind r = quads (map node_quad r.nodes) ++ flat_map spelling r.ids
 pub same_reset : (r s : ResetEntry) → ResetShape r → ResetShape s → body (Reset r) ≡ body (Reset s) → r ≡ s
 same_reset r s f g e =
     let epoch : r.epoch ≡ s.epoch = sym (back r.epoch (drop 4 (body (Reset r))) f.epoch) ∙ ap (λ t. quadlet_at t 0) e ∙ back s.epoch (drop 4 (body (Reset s))) g.epoch in
-    let second : second_of r ≡ second_of s = sym (back (second_of r) (drop 8 (body (Reset r))) (second_below r f)) ∙ ap (λ t. quadlet_at (drop 4 t) 0) e ∙ back (second_of s) (drop 8 (body (Reset s))) (second_below s g) in
+    let second : second_of r ≡ second_of s = sym (back (second_of r) (drop 8 (body (Reset r))) (second_below r f)) ∙ ap (λ t. quadlet_at (drop 4 t) 0) e
+    ∙ back (second_of s) (drop 8 (body (Reset s))) (second_below s g) in
     let h = four_fields r.root (manager_byte r.manager) r.initiator (length r.nodes) s.root (manager_byte s.manager) s.initiator (length s.nodes)
     f.root (manager_below r.manager f.manager) f.initiator (omega (arith, f.few)) g.root (manager_below s.manager g.manager) g.initiator (omega (arith, g.few)) second in
     let rest : quads (map node_quad r.nodes) ++ flat_map spelling r.ids ≡ quads (map node_quad s.nodes) ++ flat_map spelling s.ids = ap (drop 8) e in
     let m : length (quads (map node_quad r.nodes)) ≡ 4 * length r.nodes = length-quads (map node_quad r.nodes) ∙ ap (λ n. 4 * n) (length-map r.nodes node_quad) in
     let n : length (quads (map node_quad s.nodes)) ≡ 4 * length r.nodes = length-quads (map node_quad s.nodes) ∙ ap (λ n. 4 * n) (length-map s.nodes node_quad ∙ sym h.3) in
-    let rows : quads (map node_quad r.nodes) ≡ quads (map node_quad s.nodes) = sym (take_at (quads (map node_quad r.nodes)) (flat_map spelling r.ids) (4 * length r.nodes) m) ∙ ap (take (4 * length r.nodes)) rest ∙ take_at (quads (map node_quad s.nodes)) (flat_map spelling s.ids) (4 * length r.nodes) n in
-    let ids : flat_map spelling r.ids ≡ flat_map spelling s.ids = sym (drop_at (quads (map node_quad r.nodes)) (flat_map spelling r.ids) (4 * length r.nodes) m) ∙ ap (drop (4 * length r.nodes)) rest ∙ drop_at (quads (map node_quad s.nodes)) (flat_map spelling s.ids) (4 * length r.nodes) n in
+    let rows : quads (map node_quad r.nodes) ≡ quads (map node_quad s.nodes) =
+    sym (take_at (quads (map node_quad r.nodes)) (flat_map spelling r.ids) (4 * length r.nodes) m) ∙ ap (take (4 * length r.nodes)) rest
+    ∙ take_at (quads (map node_quad s.nodes)) (flat_map spelling s.ids) (4 * length r.nodes) n in
+    let ids : flat_map spelling r.ids ≡ flat_map spelling s.ids =
+    sym (drop_at (quads (map node_quad r.nodes)) (flat_map spelling r.ids) (4 * length r.nodes) m) ∙ ap (drop (4 * length r.nodes)) rest
+    ∙ drop_at (quads (map node_quad s.nodes)) (flat_map spelling s.ids) (4 * length r.nodes) n in
     let a : r.root ≡ s.root = h.0 in
     let b : r.manager ≡ s.manager = same_manager r.manager s.manager f.manager g.manager h.1 in
     let c : r.initiator ≡ s.initiator = h.2 in
@@ -161,13 +161,16 @@ low_field a b c d p q r s = omega arith
 pub body_has : (r : ResetEntry) (bytes : List ℕ) → ResetShape r → body (Reset r) ≡ bytes → BodyHas r bytes
 body_has r bytes f e =
     let second : quadlet_at bytes 4 ≡ second_of r = ap (λ t. quadlet_at (drop 4 t) 0) (sym e) ∙ back (second_of r) (drop 8 (body (Reset r))) (second_below r f) in
-    let count : count_of bytes ≡ length r.nodes = ap (λ q. field q 24 31) second ∙ low_field r.root (manager_byte r.manager) r.initiator (length r.nodes) f.root (manager_below r.manager f.manager) f.initiator (omega (arith, f.few)) in
+    let count : count_of bytes ≡ length r.nodes = ap (λ q. field q 24 31) second
+    ∙ low_field r.root (manager_byte r.manager) r.initiator (length r.nodes) f.root (manager_below r.manager f.manager) f.initiator (omega (arith, f.few)) in
     let m : length (quads (map node_quad r.nodes)) ≡ 4 * length r.nodes = length-quads (map node_quad r.nodes) ∙ ap (λ n. 4 * n) (length-map r.nodes node_quad) in
-    let size : length bytes ≡ 8 + (4 * length r.nodes + length (flat_map spelling r.ids)) = ap length (sym e) ∙ omega (arith, m, length-append (quads (map node_quad r.nodes)) (flat_map spelling r.ids)) in
+    let size : length bytes ≡ 8 + (4 * length r.nodes + length (flat_map spelling r.ids)) =
+    ap length (sym e) ∙ omega (arith, m, length-append (quads (map node_quad r.nodes)) (flat_map spelling r.ids)) in
     record {
       count = count;
       nodes = nodes_there (count_of bytes) (length bytes) (length r.nodes) count f.some f.few (omega arith);
-      ids = ap (λ n. drop (8 + 4 * n) bytes) count ∙ ap (drop (8 + 4 * length r.nodes)) (sym e) ∙ sym (drop-drop (4 * length r.nodes) 8 (body (Reset r))) ∙ drop_at (quads (map node_quad r.nodes)) (flat_map spelling r.ids) (4 * length r.nodes) m;
+      ids = ap (λ n. drop (8 + 4 * n) bytes) count ∙ ap (drop (8 + 4 * length r.nodes)) (sym e) ∙ sym (drop-drop (4 * length r.nodes) 8 (body (Reset r)))
+          ∙ drop_at (quads (map node_quad r.nodes)) (flat_map spelling r.ids) (4 * length r.nodes) m;
     }
 
 -- the fields that stand in the bytes
@@ -180,7 +183,8 @@ body_back r bytes q n first second e rows ids =
     let tail : drop 8 bytes ≡ quads (map node_quad r.nodes) ++ flat_map spelling r.ids =
     sym (take-append-drop (4 * n) (drop 8 bytes)) ∙ ap (λ t. take (4 * n) (drop 8 bytes) ++ t) (drop-drop (4 * n) 8 bytes ∙ sym ids) ∙ ap (λ t. t ++ flat_map spelling r.ids) (sym rows) in
     let mid : drop 4 bytes ≡ to_be_bytes w32 (second_of r) ++ (quads (map node_quad r.nodes) ++ flat_map spelling r.ids) =
-    sym (take-append-drop 4 (drop 4 bytes)) ∙ ap (λ t. take 4 (drop 4 bytes) ++ t) (drop-drop 4 4 bytes ∙ tail) ∙ ap (λ t. t ++ (quads (map node_quad r.nodes) ++ flat_map spelling r.ids)) (sym second ∙ ap (to_be_bytes w32) (sym e)) in
+    sym (take-append-drop 4 (drop 4 bytes)) ∙ ap (λ t. take 4 (drop 4 bytes) ++ t) (drop-drop 4 4 bytes ∙ tail)
+    ∙ ap (λ t. t ++ (quads (map node_quad r.nodes) ++ flat_map spelling r.ids)) (sym second ∙ ap (to_be_bytes w32) (sym e)) in
     sym (sym (take-append-drop 4 bytes) ∙ ap (λ t. take 4 bytes ++ t) mid ∙ ap (λ t. t ++ (to_be_bytes w32 (second_of r) ++ (quads (map node_quad r.nodes) ++ flat_map spelling r.ids))) (sym first))
 
 -- a body of kind 1 is a reset's, and only PHY packets are refused in it

@@ -1,30 +1,22 @@
 -- One list of bytes is of one entry.
-use Rattle.std.proofs.Common.{◌≡◌, ℕ, ◌+◌, ◌*◌, ◌/◌, ◌^◌, ◌≤◌, ◌<◌, List, [], ◌∷◌, ◌++◌, ◌==◌, ◌||◌, ◌&&◌, get_or, length, drop, nat_lt, nat_le, Bool, true, false, Option, None, arith, refl, ap, sym, subst, ◌∙◌, if◌then◌else◌, length-append}
-use Rattle.std.proofs.lemmas.Bool.Decides.{nat_tests}
+use Rattle.fw_log.proofs.Common.{◌≡◌, ℕ, ◌+◌, ◌*◌, ◌/◌, ◌^◌, ◌≤◌, ◌<◌, List, [], ◌∷◌, ◌++◌, ◌==◌, ◌||◌, ◌&&◌, get_or, length, drop, nat_lt, nat_le, Bool, true, false, Option, None, arith, refl, ap}
+use Rattle.fw_log.proofs.Common.{sym, subst, ◌∙◌, if◌then◌else◌, length-append, nat_tests, to_be_bytes, w32, packed, quadlet_at, is_some, Version, One, Two, version_of, head_size, epoch_after}
+use Rattle.fw_log.proofs.Common.{header_bytes, quads, kind_of, body, IsBody, tested, fault_at, length_of, cycle_at, cycle_of, is_kind, is_length, is_epoch, epoch_fault, cycle_fault, entry_fault}
+use Rattle.fw_log.proofs.Common.{header_fault, head_fault, skip, version_in, version_at, entry_need, need, HasEpoch, Spells, Position, Entry, Reset, Async, Iso, Event, Outcome, Shown, End, Timed}
+use Rattle.fw_log.proofs.Common.{LogFault, BadEpoch}
 use Rattle.std.proofs.lemmas.List.{append_cancel_left}
 use Rattle.std.proofs.lemmas.Nat.{from_be_bytes-to_be_bytes_8}
-use Rattle.std.specs.Int.{to_be_bytes, w32}
-use Rattle.fw_words.specs.Layout.{packed}
-use Rattle.fw_words.specs.Quadlet.{quadlet_at}
 use Rattle.fw_async.proofs.SameLaws.{same_packet}
 use Rattle.fw_cip.proofs.SameLaws.{same_packet as same_iso}
-use Rattle.std.specs.Option.{is_some}
-use Rattle.fw_entry.specs.declared.version.Version.{Version}
-use Rattle.fw_entry.specs.declared.version.Version.TheVariants.{One, Two}
-use Rattle.fw_entry.specs.Log.{number_of, version_of, head_size, epoch_after, header_bytes, entry_head, quads, event_quads, outcome_quads, shown_quads, EventFits, OutcomeFits, ShownFits, Fits, TimedFits, kind_of, body, entry_bytes}
-use Rattle.fw_entry.specs.Rows.{event_form, has_tape, may_have}
-use Rattle.fw_entry.proofs.RowLaws.{event_code, outcome_code, no_tape, small_system}
-use Rattle.fw_log.specs.Bodies.{IsBody}
-use Rattle.fw_log.specs.Reading.{tested, fault_at, length_of, cycle_at, cycle_of, is_kind, is_length, is_epoch, epoch_fault, cycle_fault, entry_fault, header_fault, head_fault, skip, version_in, version_at, header_at, entry_need, need, HasEpoch, EpochFits, Spells}
-use Rattle.fw_log.specs.Stands.{Position}
-use Rattle.fw_entry.specs.declared.entry.Entry.{Entry}
-use Rattle.fw_entry.specs.declared.entry.Entry.TheVariants.{Reset, Async, Iso, Event, Outcome, Shown, End}
-use Rattle.fw_entry.specs.declared.entry.EventEntry.{EventEntry}
-use Rattle.fw_entry.specs.declared.entry.OutcomeEntry.{OutcomeEntry}
-use Rattle.fw_entry.specs.declared.entry.ShownEntry.{ShownEntry}
-use Rattle.fw_entry.specs.declared.entry.Timed.{Timed}
-use Rattle.fw_log.specs.declared.LogFault.{LogFault}
-use Rattle.fw_log.specs.declared.LogWhy.TheVariants.{BadHeader, BadEpoch, TimeBack}
+use Rattle.fw_log_entry.specs.Log.{number_of, entry_head, event_quads, outcome_quads}
+use Rattle.fw_log_entry.specs.Log.{shown_quads, EventFits, OutcomeFits, ShownFits, Fits, TimedFits, entry_bytes}
+use Rattle.fw_log_entry.specs.Rows.{event_form, has_tape, may_have}
+use Rattle.fw_log_entry.proofs.RowLaws.{event_code, outcome_code, no_tape, small_system}
+use Rattle.fw_log.specs.Reading.{header_at, EpochFits}
+use Rattle.fw_log_entry.specs.declared.entry.EventEntry.{EventEntry}
+use Rattle.fw_log_entry.specs.declared.entry.OutcomeEntry.{OutcomeEntry}
+use Rattle.fw_log_entry.specs.declared.entry.ShownEntry.{ShownEntry}
+use Rattle.fw_log.specs.declared.LogWhy.TheVariants.{BadHeader, TimeBack}
 use Rattle.fw_log.proofs.IdsLaws.{back}
 use Rattle.fw_log.proofs.ResetLaws.{same_reset, shape_of}
 use Rattle.fw_log.proofs.SizeLaws.{has_length}
@@ -46,7 +38,7 @@ first_two a b c d p q r s e = (omega arith, omega arith)
 front : (q r : ℕ) (xs ys : List ℕ) → q < 2 ^ 32 → r < 2 ^ 32 → to_be_bytes w32 q ++ xs ≡ to_be_bytes w32 r ++ ys → q ≡ r
 front q r xs ys a b e = sym (back q xs a) ∙ ap (λ t. quadlet_at t 0) e ∙ back r ys b
 
--- the tape and the system, which are 0 where they do not stand
+-- the tape and the system, which are 0 if they do not stand
 tape_of : (x y : Bool) (a b c d : ℕ) → x ≡ y → a < 2 ^ 16 → b < 2 ^ 16 → c < 2 ^ 16 → d < 2 ^ 16 → (x ≡ false → (a ≡ 0) × (b ≡ 0)) → (y ≡ false → (c ≡ 0) × (d ≡ 0))
     → quads (if x then packed ((16, a) ∷ (16, b) ∷ []) 0 ∷ [] else []) ≡ quads (if y then packed ((16, c) ∷ (16, d) ∷ []) 0 ∷ [] else []) → (a ≡ c) × (b ≡ d)
 tape_of true true a b c d e p q r s none never h = halves a b c d q s (front (packed ((16, a) ∷ (16, b) ∷ []) 0) (packed ((16, c) ∷ (16, d) ∷ []) 0) [] [] (omega arith) (omega arith) h)
@@ -87,7 +79,8 @@ same_outcome : (o p : OutcomeEntry) → OutcomeFits o → OutcomeFits p → quad
 same_outcome o p f g same =
     let a = outcome_code o.code o.value f.shape in
     let b = outcome_code p.code p.value g.shape in
-    let first = front (packed ((8, o.code) ∷ (8, o.device) ∷ (8, o.slot) ∷ (8, 0) ∷ []) 0) (packed ((8, p.code) ∷ (8, p.device) ∷ (8, p.slot) ∷ (8, 0) ∷ []) 0) (quads (o.value ∷ [])) (quads (p.value ∷ [])) (omega (arith, a, f.device, f.slot)) (omega (arith, b, g.device, g.slot)) same in
+    let first = front (packed ((8, o.code) ∷ (8, o.device) ∷ (8, o.slot) ∷ (8, 0) ∷ []) 0) (packed ((8, p.code) ∷ (8, p.device) ∷ (8, p.slot) ∷ (8, 0) ∷ []) 0) (quads (o.value ∷ []))
+    (quads (p.value ∷ [])) (omega (arith, a, f.device, f.slot)) (omega (arith, b, g.device, g.slot)) same in
     let h = three_fields o.code o.device o.slot p.code p.device p.slot a f.device f.slot b g.device g.slot first in
     let code : o.code ≡ p.code = h.0 in
     let device : o.device ≡ p.device = h.1 in
@@ -107,7 +100,8 @@ shown_fields a b c d p q r s e = (omega arith, omega arith)
 
 same_shown : (s t : ShownEntry) → ShownFits s → ShownFits t → quads (shown_quads s) ≡ quads (shown_quads t) → s ≡ t
 same_shown s t f g same =
-    let first = front (packed ((8, s.device) ∷ (8, 0) ∷ (16, s.offset) ∷ []) 0) (packed ((8, t.device) ∷ (8, 0) ∷ (16, t.offset) ∷ []) 0) (quads (s.word ∷ [])) (quads (t.word ∷ [])) (omega (arith, f.device, f.offset)) (omega (arith, g.device, g.offset)) same in
+    let first = front (packed ((8, s.device) ∷ (8, 0) ∷ (16, s.offset) ∷ []) 0) (packed ((8, t.device) ∷ (8, 0) ∷ (16, t.offset) ∷ []) 0) (quads (s.word ∷ [])) (quads (t.word ∷ []))
+    (omega (arith, f.device, f.offset)) (omega (arith, g.device, g.offset)) same in
     let h = shown_fields s.device s.offset t.device t.offset f.device (omega (arith, f.offset)) g.device (omega (arith, g.offset)) first in
     let device : s.device ≡ t.device = h.0 in
     let offset : s.offset ≡ t.offset = h.1 in
@@ -243,7 +237,8 @@ version_back Two rest = by (nat_le 8 (length (header_bytes Two ++ rest))) (long 
 header_clear : (v : Version) (rest : List ℕ) (x : Option LogFault) → x ≡ None → header_fault (header_bytes v ++ rest) x ≡ None
 header_clear v rest x none =
     passes (length (header_bytes v ++ rest)) 4 (quadlet_at (header_bytes v ++ rest) 0 == 825440564) (fault_at 0 BadHeader) _ refl
-    (passes (length (header_bytes v ++ rest)) 8 (is_some (version_of (quadlet_at (header_bytes v ++ rest) 4))) (fault_at 4 BadHeader) _ (ap (λ n. is_some (version_of n)) (number_back v rest) ∙ named v)
+    (passes (length (header_bytes v ++ rest)) 8 (is_some (version_of (quadlet_at (header_bytes v ++ rest) 4))) (fault_at 4 BadHeader) _
+    (ap (λ n. is_some (version_of n)) (number_back v rest) ∙ named v)
     (passes (length (header_bytes v ++ rest)) 12 (quadlet_at (header_bytes v ++ rest) 8 == 0) (fault_at 8 BadHeader) _ refl
     (passes (length (header_bytes v ++ rest)) 16 (quadlet_at (header_bytes v ++ rest) 12 == 0) (fault_at 12 BadHeader) x refl none)))
 
@@ -251,7 +246,8 @@ header_clear v rest x none =
 pub header_alone : (v : Version) (s : Position) → s.ended ≡ false → head_fault s (header_at v s.start) ≡ None
 header_alone v s e = rw e (by (s.start == 0))
   where
-    by : (first : Bool) → (if first then header_fault (if first then header_bytes v else []) (entry_fault (version_in (if first then header_bytes v else [])) s.epoch 16 s.last (drop 16 (if first then header_bytes v else [])))
+    by : (first : Bool) → (if first then header_fault (if first then header_bytes v else [])
+        (entry_fault (version_in (if first then header_bytes v else [])) s.epoch 16 s.last (drop 16 (if first then header_bytes v else [])))
         else entry_fault s.version s.epoch s.start s.last (if first then header_bytes v else [])) ≡ None
     by true = header_clear v [] (entry_fault (version_in (header_bytes v)) s.epoch 16 s.last []) (nothing (version_in (header_bytes v)))
       where
@@ -264,7 +260,7 @@ header_alone v s e = rw e (by (s.start == 0))
         nothing One = refl
         nothing Two = refl
 
--- the bytes of an entry, behind the header where it is the first, show no fault and are as many as it needs
+-- the bytes of an entry, after the header if it is the first, show no fault and are as many as it needs
 clear_by : (first : Bool) (v w : Version) (epoch start last : ℕ) (bytes : List ℕ) (t : Timed) → TimedFits t → last ≤ t.cycle → EpochFits v (epoch_after epoch t.what)
     → (if first then version_in bytes else w) ≡ v → (if first then header_bytes v else []) ++ entry_bytes v (epoch_after epoch t.what) t ≡ bytes
     → (if first then header_fault bytes (entry_fault (version_in bytes) epoch 16 last (drop 16 bytes)) else entry_fault w epoch start last bytes) ≡ None
@@ -280,7 +276,7 @@ clear_by false v w epoch start last bytes t f later fits here e =
 pub spelled_clear : (s : Position) (t : Timed) (bytes : List ℕ) → Spells s t bytes → head_fault s bytes ≡ None
 spelled_clear s t bytes h = rw h.going_on (clear_by (s.start == 0) h.version s.version s.epoch s.start s.last bytes t h.fits h.later h.epoch h.here h.same)
 
--- the entry behind the header
+-- the entry after the header
 tail_by : (first : Bool) (v : Version) (e bytes : List ℕ) → (if first then header_bytes v else []) ++ e ≡ bytes → drop (if first then 16 else 0) bytes ≡ e
 tail_by true v e bytes h = ap (drop 16) (sym h)
 tail_by false v e bytes h = sym h
@@ -313,7 +309,8 @@ same_spelled s t u bytes h g =
     (append_cancel_left (header_at h.version s.start) (entry_bytes h.version (epoch_after s.epoch t.what) t) (entry_bytes h.version (epoch_after s.epoch u.what) u) (h.same ∙ sym other))
 
 -- the body, and the epoch in the head, of an entry that is spelled
-pub spelled_body : (s : Position) (t : Timed) (bytes : List ℕ) → Spells s t bytes → IsBody (get_or (drop (skip s.start) bytes) 0 0) (drop (head_size (version_at s bytes)) (drop (skip s.start) bytes)) t.what
+pub spelled_body : (s : Position) (t : Timed) (bytes : List ℕ) → Spells s t bytes
+    → IsBody (get_or (drop (skip s.start) bytes) 0 0) (drop (head_size (version_at s bytes)) (drop (skip s.start) bytes)) t.what
 spelled_body s t bytes h =
     let epoch : ℕ = epoch_after s.epoch t.what in
     let P : List ℕ → Type 0 = λ e. IsBody (get_or e 0 0) (drop (head_size h.version) e) t.what in

@@ -1,10 +1,10 @@
 -- How long the bodies of entries are.
-use Rattle.std.proofs.Common.{◌≡◌, ℕ, ◌+◌, ◌*◌, ◌/◌, ◌≤◌, List, [], ◌∷◌, flat_map, length, replicate, Bool, true, false, IsTrue, Option, Some, None, IfSome, ◌∙◌, arith, refl, if◌then◌else◌, length-append}
-use Rattle.std.proofs.lemmas.Bool.Decides.{nat_tests}
+use Rattle.fw_log.proofs.Common.{◌≡◌, ℕ, ◌+◌, ◌*◌, ◌/◌, ◌≤◌, List, [], ◌∷◌, flat_map, length, Bool, true, false, Option, Some, None, IfSome, ◌∙◌, arith, refl, if◌then◌else◌, length-append, nat_tests}
+use Rattle.fw_log.proofs.Common.{packed, PhyPacket, quads, node_quad, are_ids, kind_of, body, is_length, Entry, Reset, Event, Outcome, Shown, End}
+use Rattle.std.proofs.Common.{replicate}
+use Rattle.std.proofs.Common.{IsTrue}
 use Rattle.std.proofs.lemmas.List.{length-map, length-replicate}
-use Rattle.fw_words.specs.Layout.{packed}
 use Rattle.fw_phy.specs.Phy.{spelling as phy_spelling}
-use Rattle.fw_phy.specs.declared.packet.PhyPacket.{PhyPacket}
 use Rattle.fw_async.specs.Async.{Parts, bytes_of, padded, padding, spelling, parts}
 use Rattle.fw_async.specs.Async as Async
 use Rattle.fw_async.proofs.NeedLaws.{need_least, need_most}
@@ -14,13 +14,11 @@ use Rattle.fw_cip.specs.Iso.{block_bytes, IsBlock}
 use Rattle.fw_cip.specs.Iso as Iso
 use Rattle.fw_cip.specs.declared.packet.IsoPacket.{IsoPacket}
 use Rattle.fw_cip.proofs.SpelledLaws.{spelled_size}
-use Rattle.fw_entry.specs.Log.{quads, node_quad, reset_quads, are_ids, ResetFits, Fits, kind_of, body}
-use Rattle.fw_entry.specs.Rows.{event_form, has_tape}
-use Rattle.fw_log.specs.Reading.{is_length}
-use Rattle.fw_entry.specs.declared.entry.Entry.{Entry}
-use Rattle.fw_entry.specs.declared.entry.Entry.TheVariants.{Reset, Async as AsyncEntry, Iso as IsoEntry, Event, Outcome, Shown, End}
-use Rattle.fw_entry.specs.declared.entry.ResetEntry.{ResetEntry}
-use Rattle.fw_entry.specs.declared.entry.EventEntry.{EventEntry}
+use Rattle.fw_log_entry.specs.Log.{reset_quads, ResetFits, Fits}
+use Rattle.fw_log_entry.specs.Rows.{event_form, has_tape}
+use Rattle.fw_log_entry.specs.declared.entry.Entry.TheVariants.{Async as AsyncEntry, Iso as IsoEntry}
+use Rattle.fw_log_entry.specs.declared.entry.ResetEntry.{ResetEntry}
+use Rattle.fw_log_entry.specs.declared.entry.EventEntry.{EventEntry}
 use Rattle.fw_log.proofs.ResetLaws.{length-quads}
 
 -- a body is whole quadlets, as many as its kind may have

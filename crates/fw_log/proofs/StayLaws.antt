@@ -1,19 +1,12 @@
 -- A fault that is shown stays, and what is whole stays as long as it is, whatever follows.
-use Rattle.std.proofs.Common.{◌≡◌, inl, inr, ℕ, ◌+◌, ◌*◌, ◌≤◌, ◌<◌, List, ◌++◌, ◌==◌, ◌||◌, ◌&&◌, get_or, length, take, drop, nat_lt, nat_le, Bool, true, false, Option, Some, None, arith, refl, ap, ◌∙◌, if◌then◌else◌, length-append, length-drop}
-use Rattle.std.proofs.lemmas.Bool.{cases_lt}
-use Rattle.std.proofs.lemmas.Bool.Decides.{nat_tests}
-use Rattle.std.proofs.lemmas.List.{get_or_append_left, take-append-le, drop-append-le}
+use Rattle.fw_log.proofs.Common.{◌≡◌, inl, inr, ℕ, ◌+◌, ◌*◌, ◌≤◌, ◌<◌, List, ◌++◌, ◌==◌, ◌||◌, ◌&&◌, get_or, length, take, drop, nat_lt, nat_le, Bool, true, false, Option, Some, None, arith, refl, ap}
+use Rattle.fw_log.proofs.Common.{◌∙◌, if◌then◌else◌, length-append, length-drop, cases_lt, nat_tests, take-append-le, quadlet_at, is_some, version_of, head_size, Version, One, Two, tested, fault_at}
+use Rattle.fw_log.proofs.Common.{length_of, cycle_at, cycle_of, is_kind, is_length, is_epoch, epoch_fault, cycle_fault, entry_fault, header_fault, head_fault, skip, version_in, version_at, entry_need}
+use Rattle.fw_log.proofs.Common.{need, IsPending, Position, LogFault, AfterEnd, BadEpoch}
+use Rattle.std.proofs.lemmas.List.{get_or_append_left, drop-append-le}
 use Rattle.std.specs.Int.{from_be_bytes, w64}
-use Rattle.fw_words.specs.Quadlet.{quadlet_at}
 use Rattle.fw_log.proofs.ByteLaws.{quadlet_at-append}
-use Rattle.std.specs.Option.{is_some}
-use Rattle.fw_entry.specs.Log.{version_of, epoch_size, head_size}
-use Rattle.fw_entry.specs.declared.version.Version.{Version}
-use Rattle.fw_entry.specs.declared.version.Version.TheVariants.{One, Two}
-use Rattle.fw_log.specs.Reading.{tested, fault_at, length_of, cycle_at, cycle_of, is_kind, is_length, is_epoch, epoch_fault, cycle_fault, entry_fault, header_fault, head_fault, skip, version_in, version_at, entry_need, need, IsPending}
-use Rattle.fw_log.specs.Stands.{Position}
-use Rattle.fw_log.specs.declared.LogFault.{LogFault}
-use Rattle.fw_log.specs.declared.LogWhy.TheVariants.{AfterEnd, BadEpoch}
+use Rattle.fw_log_entry.specs.Log.{epoch_size}
 
 -- a part that was judged is judged alike, whatever follows
 level_by : (n m k : ℕ) (ok : Bool) (f g : LogFault) (x y : Option LogFault) → n ≤ m → k ≤ n → (x ≡ Some g → y ≡ Some g) → tested n k ok f x ≡ Some g → tested m k ok f y ≡ Some g
@@ -22,14 +15,15 @@ level_by n m k ok f g x y le enough more h = grind (arith, nat_tests, more)
 early : (n k : ℕ) (ok : Bool) (f : LogFault) (x : Option LogFault) → n < k → tested n k ok f x ≡ None
 early n k ok f x short = grind (arith, nat_tests)
 
-level : (n m k : ℕ) (ok again : Bool) (f g : LogFault) (x y : Option LogFault) → n ≤ m → (k ≤ n → again ≡ ok) → (k ≤ n → x ≡ Some g → y ≡ Some g) → tested n k ok f x ≡ Some g → tested m k again f y ≡ Some g
+level : (n m k : ℕ) (ok again : Bool) (f g : LogFault) (x y : Option LogFault) → n ≤ m → (k ≤ n → again ≡ ok) → (k ≤ n → x ≡ Some g → y ≡ Some g) → tested n k ok f x ≡ Some g
+    → tested m k again f y ≡ Some g
 level n m k ok again f g x y le same more h =
     elim (cases_lt n k) [
       | inl short ↦ cc (early n k ok f x short)
       | inr long ↦ ap (λ b. tested m k b f y) (same long) ∙ level_by n m k ok f g x y le long (more long) h
     ]
 
--- the same, where the part tells the fault
+-- the same, if the part tells the fault
 level_as : (n m k : ℕ) (ok again : Bool) (f told g : LogFault) (x y : Option LogFault) → n ≤ m → (k ≤ n → again ≡ ok) → (k ≤ n → told ≡ f) → (k ≤ n → x ≡ Some g → y ≡ Some g)
     → tested n k ok f x ≡ Some g → tested m k again told y ≡ Some g
 level_as n m k ok again f told g x y le same tells more h =
@@ -110,8 +104,10 @@ header_stays epoch last bytes more g h =
     h
 
 stays_by : (ended first : Bool) (v : Version) (epoch start last : ℕ) (bytes more : List ℕ) (g : LogFault)
-    → (if ended then (if length bytes == 0 then None else Some (fault_at start AfterEnd)) else if first then header_fault bytes (entry_fault (version_in bytes) epoch 16 last (drop 16 bytes)) else entry_fault v epoch start last bytes) ≡ Some g
-    → (if ended then (if length (bytes ++ more) == 0 then None else Some (fault_at start AfterEnd)) else if first then header_fault (bytes ++ more) (entry_fault (version_in (bytes ++ more)) epoch 16 last (drop 16 (bytes ++ more))) else entry_fault v epoch start last (bytes ++ more)) ≡ Some g
+    → (if ended then (if length bytes == 0 then None else Some (fault_at start AfterEnd)) else if first then header_fault bytes (entry_fault (version_in bytes) epoch 16 last (drop 16 bytes))
+    else entry_fault v epoch start last bytes) ≡ Some g
+    → (if ended then (if length (bytes ++ more) == 0 then None else Some (fault_at start AfterEnd)) else if first
+    then header_fault (bytes ++ more) (entry_fault (version_in (bytes ++ more)) epoch 16 last (drop 16 (bytes ++ more))) else entry_fault v epoch start last (bytes ++ more)) ≡ Some g
 stays_by true first v epoch start last bytes more g h = by (length bytes) (length (bytes ++ more)) (fault_at start AfterEnd) (omega (arith, length-append bytes more)) h
   where
     by : (n m : ℕ) (f : LogFault) → n ≤ m → (if n == 0 then None else Some f) ≡ Some g → (if m == 0 then None else Some f) ≡ Some g
@@ -150,7 +146,7 @@ need_done s front more complete =
     ap (λ w. skip s.start + entry_need w (drop (skip s.start) (front ++ more))) (version_same s front more within)
     ∙ ap (λ e. skip s.start + entry_need v e) cut ∙ omega (arith, done, within, length-drop (skip s.start) front)
 
--- bytes that are pending have no front that is whole
+-- bytes that are pending have no prefix that is whole
 pub no_complete_front : {A : Type 0} (s : Position) (front more : List ℕ) → IsPending s (front ++ more) → length front ≡ need s front → A
 no_complete_front s front more pending complete =
     let done = need_done s front more complete in

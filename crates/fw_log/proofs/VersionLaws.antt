@@ -1,21 +1,12 @@
 -- The version that a reader knows is that of the bytes that were fed.
-use Rattle.std.proofs.Common.{◌≡◌, ◌⊎◌, inl, inr, ℕ, ◌+◌, ◌≤◌, ◌<◌, List, [], ◌∷◌, ◌++◌, ◌==◌, ◌&&◌, nat_le, nat_lt, length, take, drop, Bool, true, false, Option, Some, None, Result, Ok, Err, arith, refl, ap, sym, subst, ◌∙◌, append_assoc, length-append, if◌then◌else◌}
+use Rattle.fw_log.proofs.Common.{◌≡◌, inl, inr, ℕ, ◌+◌, ◌≤◌, ◌<◌, List, [], ◌∷◌, ◌++◌, ◌==◌, ◌&&◌, nat_le, nat_lt, length, take, drop, Bool, true, false, Option, Some, None, Result, Ok, Err, arith}
+use Rattle.fw_log.proofs.Common.{refl, ap, sym, subst, ◌∙◌, append_assoc, length-append, if◌then◌else◌, is_some, cases_lt, nat_tests, take-append-drop, take_all, quadlet_at, version_of, header_bytes}
+use Rattle.fw_log.proofs.Common.{Version, One, Two, Timed, LogFed, LogFault, Position, tested, fault_at, Faulty, State, ShowsFault, Feeds}
+use Rattle.std.proofs.Common.{◌⊎◌}
 use Rattle.std.specs.Prelude.{IfErr}
-use Rattle.std.specs.Option.{is_some}
 use Rattle.fw_log.specs.declared.LogWhy.TheVariants.{BadHeader}
-use Rattle.std.proofs.lemmas.Bool.{cases_lt}
-use Rattle.std.proofs.lemmas.Bool.Decides.{nat_tests}
-use Rattle.std.proofs.lemmas.List.{take-append-drop, take_all}
-use Rattle.fw_words.specs.Quadlet.{quadlet_at}
-use Rattle.fw_entry.specs.Log.{version_of, header_bytes, entries_bytes}
-use Rattle.fw_entry.specs.declared.version.Version.{Version}
-use Rattle.fw_entry.specs.declared.version.Version.TheVariants.{One, Two}
-use Rattle.fw_entry.specs.declared.entry.Timed.{Timed}
-use Rattle.fw_log.specs.declared.read.LogFed.{LogFed}
-use Rattle.fw_log.specs.declared.LogFault.{LogFault}
-use Rattle.fw_log.specs.Stands.{Position}
-use Rattle.fw_log.specs.Reading.{tested, fault_at, Faulty}
-use Rattle.fw_log.specs.Reader.{State, ShowsFault, Feeds, Remembers, version_read, known}
+use Rattle.fw_log_entry.specs.Log.{entries_bytes}
+use Rattle.fw_log.specs.Reader.{Remembers, version_read, known}
 use Rattle.fw_log.specs.History.{bytes_of, stand_after, HasRead, Names}
 use Rattle.fw_log.proofs.ByteLaws.{quadlet_at-append}
 use Rattle.fw_log.proofs.StayLaws.{need_least}
@@ -54,24 +45,27 @@ later n x v h = by (n == 0) (positive n h)
     by true e = cc e
     by false e = refl
 
--- behind the first entry it is kept
+-- after the first entry it is kept
 known_later : (v : Version) (t : Timed) (ts : List Timed) (taken : List ℕ) → known (record { stand = stand_after v (t ∷ ts); taken = taken; fault = None }) ≡ Some v
 known_later v t ts taken = later (length (bytes_of v (t ∷ ts))) (version_read taken) v (omega (arith, length-append (header_bytes v) (entries_bytes v 0 (t ∷ ts))))
 
 -- the version of a header, whatever follows
 version_written : (v : Version) (rest : List ℕ) → version_read (header_bytes v ++ rest) ≡ Some v
-version_written One rest = by_tests (nat_le 8 (length (header_bytes One ++ rest))) true (Some One) (enough (length (header_bytes One ++ rest)) (omega (arith, length-append (header_bytes One) rest))) refl
-version_written Two rest = by_tests (nat_le 8 (length (header_bytes Two ++ rest))) true (Some Two) (enough (length (header_bytes Two ++ rest)) (omega (arith, length-append (header_bytes Two) rest))) refl
+version_written One rest = by_tests (nat_le 8 (length (header_bytes One ++ rest))) true (Some One)
+    (enough (length (header_bytes One ++ rest)) (omega (arith, length-append (header_bytes One) rest))) refl
+version_written Two rest = by_tests (nat_le 8 (length (header_bytes Two ++ rest))) true (Some Two)
+    (enough (length (header_bytes Two ++ rest)) (omega (arith, length-append (header_bytes Two) rest))) refl
 
 -- once there are eight bytes, it is the same whatever follows
 version_stays : (bytes more : List ℕ) → 8 ≤ length bytes → version_read (bytes ++ more) ≡ version_read bytes
 version_stays bytes more h =
-    by_first (nat_le 8 (length (bytes ++ more))) (quadlet_at (bytes ++ more) 0 == 825440564) (nat_le 8 (length bytes)) (quadlet_at bytes 0 == 825440564) (version_of (quadlet_at (bytes ++ more) 4)) (version_of (quadlet_at bytes 4))
+    by_first (nat_le 8 (length (bytes ++ more))) (quadlet_at (bytes ++ more) 0 == 825440564) (nat_le 8 (length bytes)) (quadlet_at bytes 0 == 825440564) (version_of (quadlet_at (bytes ++ more) 4))
+    (version_of (quadlet_at bytes 4))
     (enough (length (bytes ++ more)) (omega (arith, h, length-append bytes more)) ∙ sym (enough (length bytes) h))
     (ap (λ (n : ℕ). n == 825440564) (quadlet_at-append bytes more 0 (omega (arith, h))))
     (ap version_of (quadlet_at-append bytes more 4 (omega (arith, h))))
 
--- ---- where no fault was answered
+-- ---- if no fault was answered
 
 known_read : (v : Version) (entries : List Timed) (taken bytes : List ℕ) → bytes_of v entries ++ taken ≡ bytes
     → known (record { stand = stand_after v entries; taken = taken; fault = None }) ≡ version_read bytes

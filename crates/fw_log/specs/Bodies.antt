@@ -9,11 +9,11 @@ use Rattle.fw_async.specs.Reader as Packets
 use Rattle.fw_cip.specs.Iso.{iso_fault}
 use Rattle.fw_async.specs.declared.PacketFault.{PacketFault}
 use Rattle.fw_async.specs.declared.packet.Packet.{Packet as AsyncPacket}
-use Rattle.fw_entry.specs.Log.{Fits, ResetFits, kind_of, body}
-use Rattle.fw_entry.specs.declared.codes.kind.TheConstants as Kinds
-use Rattle.fw_entry.specs.declared.entry.Entry.{Entry}
-use Rattle.fw_entry.specs.declared.entry.Entry.TheVariants.{Reset}
-use Rattle.fw_entry.specs.declared.entry.ResetEntry.{ResetEntry}
+use Rattle.fw_log_entry.specs.Log.{Fits, ResetFits, kind_of, body}
+use Rattle.fw_log_entry.specs.declared.codes.kind.TheConstants as Kinds
+use Rattle.fw_log_entry.specs.declared.entry.Entry.{Entry}
+use Rattle.fw_log_entry.specs.declared.entry.Entry.TheVariants.{Reset}
+use Rattle.fw_log_entry.specs.declared.entry.ResetEntry.{ResetEntry}
 use Rattle.fw_log.specs.declared.BodyFault.{BodyFault}
 use Rattle.fw_log.specs.declared.BodyFault.TheVariants.{Phy, Packet, Iso, Fields}
 
@@ -50,7 +50,7 @@ abbrev pub refusal : ℕ → List ℕ → Option PhyFault
 refusal zero bytes = None
 refusal (suc n) bytes = if length bytes == 0 then None else or_else (phy_fault bytes) (refusal n (drop 8 bytes))
 
--- The reader of PHY packets refuses what stands behind the nodes.
+-- The reader of PHY packets refuses what stands after the nodes.
 pub record PhyRefuses (bytes : List ℕ) (f : PhyFault) : Type 0 where
   pub nodes : IsTrue (has_nodes bytes)
   pub here : refusal (length (drop (ids_at bytes) bytes)) (drop (ids_at bytes) bytes) ≡ Some f
@@ -62,7 +62,7 @@ Refuses kind bytes (Packet f) = (kind ≡ Kinds.ASYNC) × PacketRefuses bytes f
 Refuses kind bytes (Iso f) = (kind ≡ Kinds.ISO) × (iso_fault bytes ≡ Some f)
 Refuses kind bytes Fields = ⊥
 
--- A lower fault where a lower reader refuses, and Fields where none does and the body is of no entry of its kind.
+-- A lower fault if a lower reader refuses, and Fields if none does and the body is of no entry of its kind.
 abbrev pub BodyRefused : ℕ → List ℕ → BodyFault → Type 0
 BodyRefused kind bytes (Phy f) = Refuses kind bytes (Phy f)
 BodyRefused kind bytes (Packet f) = Refuses kind bytes (Packet f)

@@ -1,12 +1,12 @@
 -- Whole logs, and how much of one a reader has read.
 use Rattle.std.specs.Prelude.{◌≡◌, ℕ, ◌+◌, ◌<◌, List, [], ◌∷◌, ◌++◌, length, take, Bool, false, Option, Some, None, Result, Ok, Err, OnOk, IfErr}
-use Rattle.fw_entry.specs.Log.{header_bytes, entries_bytes, latest_epoch, is_end, InOrder, LogOpens, LogSpells}
-use Rattle.fw_entry.specs.declared.version.Version.{Version}
-use Rattle.fw_entry.specs.declared.version.Version.TheVariants.{One}
+use Rattle.fw_log_entry.specs.Log.{header_bytes, entries_bytes, latest_epoch, is_end, InOrder, LogOpens, LogSpells}
+use Rattle.fw_log_entry.specs.declared.version.Version.{Version}
+use Rattle.fw_log_entry.specs.declared.version.Version.TheVariants.{One}
 use Rattle.fw_log.specs.Reading.{IsPending}
 use Rattle.fw_log.specs.Stands.{Position}
 use Rattle.fw_log.specs.Reader.{State, version_read, known}
-use Rattle.fw_entry.specs.declared.entry.Timed.{Timed}
+use Rattle.fw_log_entry.specs.declared.entry.Timed.{Timed}
 use Rattle.fw_log.specs.declared.read.LogFed.{LogFed}
 use Rattle.fw_log.specs.declared.LogFault.{LogFault}
 
@@ -15,17 +15,17 @@ abbrev pub bytes_of : Version → List Timed → List ℕ
 bytes_of v [] = []
 bytes_of v (t ∷ ts) = header_bytes v ++ entries_bytes v 0 (t ∷ ts)
 
--- the version that is known behind entries of a log
+-- the version that is known after entries of a log
 abbrev pub version_after : Version → List Timed → Version
 version_after v [] = One
 version_after v (t ∷ ts) = v
 
--- the cycle of the last entry, or this one where there is none
+-- the cycle of the last entry, or this one if there is none
 abbrev pub last_cycle : ℕ → List Timed → ℕ
 last_cycle c [] = c
 last_cycle c (t ∷ ts) = last_cycle t.cycle ts
 
--- whether the last entry is the end, or this where there is none
+-- whether the last entry is the end, or this if there is none
 abbrev pub ended_by : Bool → List Timed → Bool
 ended_by b [] = b
 ended_by b (t ∷ ts) = ended_by (is_end t.what) ts
@@ -58,7 +58,7 @@ abbrev pub ReadsTo : List Timed → List ℕ → List ℕ → ℕ → Option Tim
 ReadsTo entries bytes piece used None new = HasRead entries (bytes ++ piece) new
 ReadsTo entries bytes piece used (Some t) new = HasRead (entries ++ t ∷ []) (bytes ++ take used piece) new
 
--- A fault comes only where no log goes on.
+-- A fault comes only if no log goes on.
 abbrev pub ReadsOn : List Timed → List ℕ → List ℕ → Result LogFed LogFault → State → Type 0
 ReadsOn entries bytes piece (Ok fed) new = ReadsTo entries bytes piece fed.used fed.entry new
 ReadsOn entries bytes piece (Err f) new = (k : ℕ) × (k < length piece) × BeginsNoLog (bytes ++ take (k + 1) piece)
@@ -83,7 +83,7 @@ pub record IsLog (entries : List Timed) (bytes : List ℕ) : Type 0 where
   pub version : Version
   pub spells : LogSpells entries version bytes
 
--- The input has ended: the entries are those of the log that the bytes are, where they are one, whole or without its end.
+-- The input has ended: the entries are those of the log that the bytes are, if they are one, whole or without its end.
 pub record Finishes (entries : List Timed) (bytes : List ℕ) (result : Result (Unit {0}) LogFault) : Type 0 where
   pub complete : OnOk result (IsLog entries bytes)
   pub only : (all : List Timed) (v : Version) → LogOpens all v bytes → all ≡ entries

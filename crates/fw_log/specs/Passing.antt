@@ -1,12 +1,12 @@
 -- Entries that are passed over.
 use Rattle.std.specs.Prelude.{◌≡◌, true, false, ◌⊎◌, ℕ, ◌+◌, ◌*◌, ◌≤◌, ◌<◌, slice_index, List, [], ◌∷◌, ◌++◌, length, take}
-use Rattle.fw_entry.specs.declared.entry.Entry.{Entry}
-use Rattle.fw_entry.specs.declared.entry.Entry.TheVariants.{Reset, Async, Iso, Event, Outcome, Shown, End}
-use Rattle.fw_entry.specs.declared.entry.Timed.{Timed}
+use Rattle.fw_log_entry.specs.declared.entry.Entry.{Entry}
+use Rattle.fw_log_entry.specs.declared.entry.Entry.TheVariants.{Reset, Async, Iso, Event, Outcome, Shown, End}
+use Rattle.fw_log_entry.specs.declared.entry.Timed.{Timed}
 use Rattle.fw_log.specs.Bodies.{IsBody}
-use Rattle.fw_entry.specs.Log.{epoch_after, is_end, body, ResetFits}
-use Rattle.fw_entry.specs.declared.entry.ResetEntry.{ResetEntry}
-use Rattle.fw_entry.specs.declared.version.Version.{Version}
+use Rattle.fw_log_entry.specs.Log.{epoch_after, is_end, body, ResetFits}
+use Rattle.fw_log_entry.specs.declared.entry.ResetEntry.{ResetEntry}
+use Rattle.fw_log_entry.specs.declared.version.Version.{Version}
 use Rattle.fw_words.specs.Quadlet.{quadlet_at}
 use Rattle.fw_log.specs.Reading.{is_kind, is_length, version_at, HasEpoch, Spells}
 use Rattle.fw_log.specs.Reader.{State, total}
@@ -43,7 +43,7 @@ pub record IsPlain (kind : ℕ) (bytes : List ℕ) : Type 0 where
 abbrev pub IsPlainEpoch : Version → ℕ → List ℕ → List ℕ → ℕ → Type 0
 IsPlainEpoch v epoch e bytes n = ((slice_index e 0 ≡ 1) × (quadlet_at bytes 0 ≡ n) × HasEpoch v n e) ⊎ ((slice_index e 0 ≡ 1 → ⊥) × (n ≡ epoch))
 
--- the bytes begin with this entry, which is not the end, with this end and cycle, of this version and with this epoch behind it
+-- the bytes begin with this entry, which is not the end, with this end and cycle, of this version and with this epoch after it
 pub record IsFirst (s : Position) (bytes : List ℕ) (entry : Timed) (p : Passed) : Type 0 where
   pub goes_on : is_end entry.what ≡ false
   pub cycle : entry.cycle ≡ p.cycle
@@ -52,7 +52,7 @@ pub record IsFirst (s : Position) (bytes : List ℕ) (entry : Timed) (p : Passed
   pub within : p.end ≤ length bytes
   pub spells : Spells s entry (take p.end bytes)
 
--- the bytes begin with the head of an entry, and any entry but the end that has the body behind it is that entry
+-- the bytes begin with the head of an entry, and any entry but the end that has the body after it is that entry
 pub record HeadFirst (s : Position) (bytes : List ℕ) (h : PlainHead) : Type 0 where
   pub kind : is_kind h.kind 0 ≡ true
   pub size : (n : ℕ) × (length h.content ≡ 4 * n) × (is_length h.kind n ≡ true)
@@ -64,7 +64,7 @@ pub record PassesFirst (s : Position) (bytes : List ℕ) (p : Passed) : Type 0 w
   pub passed : IsPassed entry.what
   pub first : IsFirst s bytes entry p
 
--- so many bytes of a piece were taken, and some where there are any
+-- so many bytes of a piece were taken, and some if there are any
 pub record CountsUp (old : State) (piece : List ℕ) (new : State) (used : ℕ) : Type 0 where
   pub total : total new ≡ total old + used
   pub within : used ≤ length piece

@@ -4,13 +4,13 @@ use Rattle.std.specs.Prelude.{List, ◌∷◌, Bool, Option, Some, None, length,
 use Rattle.fw_words.specs.Quadlet.{field}
 use Rattle.fw_phy.specs.Phy.{Fits as PhyFits, quadlet_of}
 use Rattle.fw_phy.specs.declared.packet.PhyPacket.{PhyPacket}
-use Rattle.fw_entry.specs.Log.{are_ids, ResetFits, body}
-use Rattle.fw_entry.specs.declared.entry.Entry.TheVariants.{Reset}
-use Rattle.fw_entry.specs.declared.entry.ResetEntry.{ResetEntry}
+use Rattle.fw_log_entry.specs.Log.{are_ids, ResetFits, body}
+use Rattle.fw_log_entry.specs.declared.entry.Entry.TheVariants.{Reset}
+use Rattle.fw_log_entry.specs.declared.entry.ResetEntry.{ResetEntry}
 use Rattle.fw_log.specs.Bodies.{AreIds}
 use Rattle.fw_log.specs.declared.plain_reset.Turn.{Turn}
 
--- the number of the node's further packet that comes next, behind so many packets
+-- the number of the node's further packet that comes next, after so many packets
 abbrev pub next_by : ℕ → Option ℕ
 next_by zero = None
 next_by (suc n) = Some n

@@ -1,11 +1,11 @@
 -- What a reader of logs keeps, and what it makes of the bytes that come.
 use Rattle.std.specs.Prelude.{◌≡◌, ℕ, ◌+◌, ◌==◌, ◌≤◌, ◌<◌, ◌&&◌, ◌⊎◌, nat_le, List, [], ◌++◌, length, take, Option, Some, None, Result, Ok, Err, if◌then◌else◌}
 use Rattle.fw_words.specs.Quadlet.{quadlet_at}
-use Rattle.fw_entry.specs.declared.codes.TheConstants.{LOG_MAGIC}
-use Rattle.fw_entry.specs.Log.{version_of, is_end, body, epoch_after}
-use Rattle.fw_entry.specs.declared.version.Version.{Version}
+use Rattle.fw_log_entry.specs.declared.codes.TheConstants.{LOG_MAGIC}
+use Rattle.fw_log_entry.specs.Log.{version_of, is_end, body, epoch_after}
+use Rattle.fw_log_entry.specs.declared.version.Version.{Version}
 use Rattle.fw_log.specs.Reading.{IsPending, Spells, Faulty, WrongBody, skip, version_at, fault_at, head_fault, need}
-use Rattle.fw_entry.specs.declared.entry.Timed.{Timed}
+use Rattle.fw_log_entry.specs.declared.entry.Timed.{Timed}
 use Rattle.fw_log.specs.declared.LogFault.{LogFault}
 use Rattle.fw_log.specs.declared.LogWhy.TheVariants.{Cut, NoEnd}
 use Rattle.fw_log.specs.Stands.{Position}
@@ -22,7 +22,7 @@ pub record State : Type 0 where
 abbrev pub total : State → ℕ
 total r = r.stand.start + length r.taken
 
--- the version that the header names, where its first two quadlets were taken and neither is refused
+-- the version that the header names, if its first two quadlets were taken and neither is refused
 abbrev pub version_read : List ℕ → Option Version
 version_read bytes = if nat_le 8 (length bytes) && (quadlet_at bytes 0 == LOG_MAGIC) then version_of (quadlet_at bytes 4) else None
 
@@ -63,13 +63,13 @@ pub record ShowsFault (s : Position) (old piece : List ℕ) (k : ℕ) (f : LogFa
   pub before : IsPending s (old ++ take k piece)
   pub shown : Faulty s (old ++ take (k + 1) piece) f
 
--- where the entry ends that bytes begin with, none where they are a part of it, or a fault before its body
+-- where the entry ends that bytes begin with, none if they are a part of it, or a fault before its body
 abbrev pub Ends : Position → List ℕ → Result (Option ℕ) LogFault → Type 0
 Ends s bytes (Ok None) = IsPending s bytes
 Ends s bytes (Ok (Some n)) = (head_fault s bytes ≡ None) × (n ≡ need s bytes) × (n ≤ length bytes)
 Ends s bytes (Err f) = head_fault s bytes ≡ Some f
 
--- the entry that bytes begin with, none where they are a part of it, or the first fault
+-- the entry that bytes begin with, none if they are a part of it, or the first fault
 abbrev pub Finds : Position → List ℕ → Result (Option Found) LogFault → Type 0
 Finds s bytes (Ok None) = IsPending s bytes
 Finds s bytes (Ok (Some found)) =
@@ -77,14 +77,14 @@ Finds s bytes (Ok (Some found)) =
     × (found.version ≡ version_at s (take found.end bytes))
 Finds s bytes (Err f) = (k : ℕ) × ShowsFault s [] bytes k f
 
--- The bytes are what was kept and a front of the piece, which is all of it, or has room for the longest entry, or has all of this one.
+-- The bytes are what was kept and a prefix of the piece, which is all of it, or has room for the longest entry, or has all of this one.
 pub record Joins (s : Position) (old piece bytes : List ℕ) : Type 0 where
   pub count : ℕ
   pub within : count ≤ length piece
   pub enough : count < length piece → (2308 ≤ length old + count) ⊎ (need s bytes ≤ length bytes)
   pub same : bytes ≡ old ++ take count piece
 
--- It was found in what was kept and a front of the piece, which is all of it, or has room for the longest entry, or has all of this one.
+-- It was found in what was kept and a prefix of the piece, which is all of it, or has room for the longest entry, or has all of this one.
 pub record FindsIn (s : Position) (old piece : List ℕ) (found : Result (Option Found) LogFault) : Type 0 where
   pub count : ℕ
   pub within : count ≤ length piece
@@ -122,7 +122,7 @@ pub record Remembers (s : Position) (old piece : List ℕ) (new : State) : Type 
   pub stand : new.stand ≡ s
   pub kept : Keeps s.start old piece new.taken
 
--- the bytes that were taken are counted, and some are where there are any
+-- the bytes that were taken are counted, and some are if there are any
 abbrev pub Counts : State → List ℕ → Result LogFed LogFault → State → Type 0
 Counts old piece (Ok fed) new = (total new ≡ total old + fed.used) × (fed.used ≤ length piece) × (0 < length piece → 0 < fed.used)
 Counts old piece (Err f) new = Unit {0}

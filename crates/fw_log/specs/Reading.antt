@@ -1,15 +1,16 @@
 -- What the bytes of a log show before an entry is whole: a fault, or how many bytes the entry takes.
-use Rattle.std.specs.Prelude.{◌≡◌, ℕ, ◌+◌, ◌*◌, ◌^◌, ◌≤◌, ◌<◌, ◌==◌, ◌||◌, ◌&&◌, nat_le, nat_lt, List, [], ◌++◌, Bool, true, false, Option, Some, None, length, slice_index, take, drop, if◌then◌else◌, ◌⊎◌}
+use Rattle.std.specs.Prelude.{◌≡◌, ℕ, ◌+◌, ◌*◌, ◌^◌, ◌≤◌, ◌<◌, ◌==◌, ◌||◌, ◌&&◌, nat_le, nat_lt, List, []}
+use Rattle.std.specs.Prelude.{◌++◌, Bool, true, false, Option, Some, None, length, slice_index, take, drop, if◌then◌else◌, ◌⊎◌}
 use Rattle.std.specs.Int.{from_be_bytes, w64}
 use Rattle.fw_words.specs.Quadlet.{quadlet_at}
-use Rattle.fw_entry.specs.declared.codes.TheConstants.{LOG_MAGIC}
-use Rattle.fw_entry.specs.Log.{header_bytes, version_of, head_size, epoch_size, epoch_after, entry_bytes, TimedFits}
-use Rattle.fw_entry.specs.declared.version.Version.{Version}
-use Rattle.fw_entry.specs.declared.version.Version.TheVariants.{One, Two}
-use Rattle.fw_entry.specs.declared.entry.Entry.{Entry}
-use Rattle.fw_entry.specs.declared.entry.Entry.TheVariants.{Reset, Async, Iso, Event, Outcome, Shown, End}
-use Rattle.fw_entry.specs.declared.codes.kind.TheConstants as Kinds
-use Rattle.fw_entry.specs.declared.entry.Timed.{Timed}
+use Rattle.fw_log_entry.specs.declared.codes.TheConstants.{LOG_MAGIC}
+use Rattle.fw_log_entry.specs.Log.{header_bytes, version_of, head_size, epoch_size, epoch_after, entry_bytes, TimedFits}
+use Rattle.fw_log_entry.specs.declared.version.Version.{Version}
+use Rattle.fw_log_entry.specs.declared.version.Version.TheVariants.{One, Two}
+use Rattle.fw_log_entry.specs.declared.entry.Entry.{Entry}
+use Rattle.fw_log_entry.specs.declared.entry.Entry.TheVariants.{Reset, Async, Iso, Event, Outcome, Shown, End}
+use Rattle.fw_log_entry.specs.declared.codes.kind.TheConstants as Kinds
+use Rattle.fw_log_entry.specs.declared.entry.Timed.{Timed}
 use Rattle.fw_log.specs.declared.BodyFault.{BodyFault}
 use Rattle.fw_log.specs.declared.BodyFault.TheVariants.{Fields}
 use Rattle.fw_log.specs.Bodies.{IsBody, BodyRefused}
@@ -39,7 +40,7 @@ cycle_at v = 4 + epoch_size v
 abbrev pub header_size : ℕ
 header_size = 16
 
--- A part is judged when its last byte was taken. Then come the parts behind it.
+-- A part is judged when its last byte was taken. Then come the parts after it.
 abbrev pub tested : ℕ → ℕ → Bool → LogFault → Option LogFault → Option LogFault
 tested n end ok f rest = if nat_lt n end then None else if ok then rest else Some f
 
@@ -51,7 +52,7 @@ length_of e = 256 * slice_index e length_at + slice_index e (length_at + 1)
 abbrev pub cycle_of : Version → List ℕ → ℕ
 cycle_of v e = from_be_bytes w64 (take 8 (drop (cycle_at v) e))
 
--- a kind, and the zero byte behind it
+-- a kind, and the zero byte after it
 abbrev pub is_kind : ℕ → ℕ → Bool
 is_kind kind low = nat_le Kinds.RESET kind && nat_le kind Kinds.END && (low == 0)
 
@@ -98,7 +99,7 @@ header_fault bytes rest =
     (tested (length bytes) 12 (quadlet_at bytes 8 == 0) (fault_at 8 BadHeader)
     (tested (length bytes) 16 (quadlet_at bytes 12 == 0) (fault_at 12 BadHeader) rest)))
 
--- The bytes since the last entry: the first of them stand behind the header.
+-- The bytes since the last entry: the first of them stand after the header.
 abbrev pub skip : ℕ → ℕ
 skip start = if start == 0 then header_size else 0
 
@@ -134,12 +135,12 @@ pub record IsPending (s : Position) (bytes : List ℕ) : Type 0 where
 abbrev pub header_at : Version → ℕ → List ℕ
 header_at v start = if start == 0 then header_bytes v else []
 
--- the epoch fits where the version writes it
+-- the epoch fits if the version writes it
 abbrev pub EpochFits : Version → ℕ → Type 0
 EpochFits One epoch = Unit {0}
 EpochFits Two epoch = epoch < 2 ^ 32
 
--- The bytes are the entry, with the epoch of the latest reset in its head, behind the header where it is the first, and it may
+-- The bytes are the entry, with the epoch of the latest reset in its head, after the header if it is the first, and it may
 -- stand there.
 pub record Spells (s : Position) (t : Timed) (bytes : List ℕ) : Type 0 where
   pub going_on : s.ended ≡ false
@@ -165,7 +166,7 @@ pub record IsComplete (v : Version) (s : Position) (bytes : List ℕ) : Type 0 w
   pub before : header_at v s.start ++ drop (skip s.start) bytes ≡ bytes
   pub size : length (drop (skip s.start) bytes) ≡ head_size v + 4 * length_of (drop (skip s.start) bytes)
 
--- the epoch in an entry's head is this one, where the version has one
+-- the epoch in an entry's head is this one, if the version has one
 abbrev pub HasEpoch : Version → ℕ → List ℕ → Type 0
 HasEpoch One epoch e = Unit {0}
 HasEpoch Two epoch e = quadlet_at e epoch_at ≡ epoch

@@ -3,11 +3,11 @@ use Rattle.std.specs.Prelude.{ℕ, ◌^◌, ◌<◌, ◌≤◌, List, Bool, fals
 use Rattle.std.specs.List.{All}
 use Rattle.fw_phy.specs.Phy.{Fits as PhyFits}
 use Rattle.fw_phy.specs.declared.packet.PhyPacket.{PhyPacket}
-use Rattle.fw_entry.specs.Log.{are_ids}
-use Rattle.fw_entry.specs.declared.nodes.NodeRow.{NodeRow}
-use Rattle.fw_entry.specs.declared.entry.ResetEntry.{ResetEntry}
+use Rattle.fw_log_entry.specs.Log.{are_ids}
+use Rattle.fw_log_entry.specs.declared.nodes.NodeRow.{NodeRow}
+use Rattle.fw_log_entry.specs.declared.entry.ResetEntry.{ResetEntry}
 
--- what the packets behind one make of it
+-- what the packets after one make of it
 abbrev pub goes_on : Option (ℕ × Option ℕ) → List PhyPacket → ℕ → Bool
 goes_on None ps n = false
 goes_on (Some s) ps n = are_ids s.0 s.1 ps n

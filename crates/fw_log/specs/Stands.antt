@@ -1,8 +1,8 @@
 -- Where a reader of logs stands, as its rules speak of it.
 use Rattle.std.specs.Prelude.{ℕ, Bool, true, false}
 use Rattle.std.specs.Int.NonZero.{non_zero_u64_get}
-use Rattle.fw_entry.specs.declared.version.Version.{Version}
-use Rattle.fw_entry.specs.declared.version.Version.TheVariants.{One}
+use Rattle.fw_log_entry.specs.declared.version.Version.{Version}
+use Rattle.fw_log_entry.specs.declared.version.Version.TheVariants.{One}
 use Rattle.fw_log.specs.declared.stand.Stand.{Stand}
 use Rattle.fw_log.specs.declared.stand.Stand.TheVariants.{Header, Entries, Ended}
 

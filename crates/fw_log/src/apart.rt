@@ -1,7 +1,7 @@
 //! Entries that are read out of a loop over packets.
 
 ghost use Rattle.std.specs.Prelude.{ℕ, ◌≡◌, ◌<◌, ◌+◌, ◌^◌, List, length, IfSome, IfNone, IfOk, IfErr, None, Err};
-ghost use Rattle.fw_entry.specs.declared.entry.Timed.{Timed};
+ghost use Rattle.fw_log_entry.specs.declared.entry.Timed.{Timed};
 ghost use Rattle.fw_log.specs.Reading.{IsPending};
 ghost use Rattle.fw_log.specs.Reader.{total, Remembers, Feeds, Counts, body_given};
 ghost use Rattle.fw_log.specs.History.{HasRead, ReadsOn, Names};
@@ -10,7 +10,7 @@ use crate::first::{at_hand, first_entry};
 use crate::{LogFault, LogFed, LogReader, Room};
 
 impl LogReader {
-    // As `feed_fresh`, where no packet of a usual form is looked for.
+    // As `feed_fresh`, if no packet of a usual form is looked for.
     fn feed_any<'a>(&mut self, piece: &'a [u8], room: &'a mut Room) -> Result<LogFed<'a>, LogFault>
         requires fresh { self.old.fault ≡ None }
         requires pending { IsPending self.old.stand self.old.taken }
@@ -23,7 +23,7 @@ impl LogReader {
         self.keep(found, piece)
     }
 
-    /// Takes bytes as `feed` does, in more instructions where a packet comes, and in fewer where another entry does or where the
+    /// Takes bytes as `feed` does, in more instructions if a packet comes, and in fewer if another entry does or where the
     /// piece has only a part of one: for those that take packets by `pass_body`. It is no part of the caller's loop.
     #[inline(never)]
     pub fn feed_apart<'a>(

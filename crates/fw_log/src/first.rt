@@ -3,7 +3,7 @@
 ghost use Rattle.std.specs.Prelude.{◌≡◌, ◌⊎◌, ◌≤◌, ◌<◌, ◌+◌, ◌^◌, length, slice_index, IfSome, Ok, Some};
 ghost use Rattle.fw_log.specs.Stands.{position};
 ghost use Rattle.fw_log.specs.Reading.{fault_at, is_own_epoch, skip, need, IsComplete, IsPending};
-ghost use Rattle.fw_entry.specs.Log.{head_size};
+ghost use Rattle.fw_log_entry.specs.Log.{head_size};
 ghost use Rattle.fw_log.specs.Reader.{EntryJudges, Ends, Finds, Joins};
 ghost use Rattle.fw_log.specs.Passing.{BodyFirst, HeadFirst, IsPlainEpoch, PassesFirst};
 
@@ -14,7 +14,7 @@ use crate::read_head::{head_fault, whole_end};
 use crate::stand::{EPOCH_AT, LENGTH_END, Stand, cycle_of, need, rest, skip, version_at};
 use crate::{BodyFault, Entry, LogFault, LogWhy, ResetEntry, Timed, Version};
 use fw_async::{is_plain_packet, whole_packet};
-use fw_entry::codes::kind;
+use fw_log_entry::codes::kind;
 use fw_words::{Data, quadlet_at};
 
 /// An entry that bytes begin with, where it ends, the bytes of its body, and the version of the log.
@@ -26,7 +26,7 @@ pub struct Found<'a> {
     pub entry: Timed<'a>,
 }
 
-// Where the entry ends that the bytes begin with, none where they are a part of it, or a fault before its body.
+// Where the entry ends that the bytes begin with, none if they are a part of it, or a fault before its body.
 fn end_of(stand: Stand, bytes: &[u8]) -> Result<Option<usize>, LogFault>
     requires { (position stand).start + length bytes.now < 2 ^ 64 }
     ensures { Ends (position stand) bytes.now result }
@@ -93,7 +93,7 @@ fn complete_entry<'a>(
     }
 }
 
-/// The entry that the bytes begin with, none where they are a part of it, or the first fault.
+/// The entry that the bytes begin with, none if they are a part of it, or the first fault.
 pub(crate) fn first_entry<'a>(
     stand: Stand,
     bytes: &'a [u8],
@@ -130,7 +130,7 @@ pub struct Passed {
     pub epoch: u32,
 }
 
-// The epoch of a bus reset, which its body begins with, or that of the latest before another entry; none where it is not the one
+// The epoch of a bus reset, which its body begins with, or that of the latest before another entry; none if it is not the one
 // in the entry's head.
 fn plain_epoch(version: Version, epoch: u32, e: &[u8], body: &[u8]) -> Option<u32>
     requires head { head_size version ≤ length e.now }
@@ -147,7 +147,7 @@ fn plain_epoch(version: Version, epoch: u32, e: &[u8], body: &[u8]) -> Option<u3
     }
 }
 
-/// The head of an entry, all parts of which are right, and the bytes of the body behind it.
+/// The head of an entry, all parts of which are right, and the bytes of the body after it.
 #[derive(Drop)]
 pub struct PlainHead<'a> {
     pub passed: Passed,
@@ -238,7 +238,7 @@ pub(crate) fn plain_entry(stand: Stand, bytes: &[u8]) -> Option<Passed>
     Some(head.passed)
 }
 
-// How many bytes the entry takes, where its length was kept, or else how many there is room for.
+// How many bytes the entry takes, if its length was kept, or else how many there is room for.
 fn whole_size(stand: Stand, taken: &[u8]) -> usize
     requires few { length taken.now ≤ 2308 }
     requires pending { IsPending (position stand) taken.now }
@@ -252,7 +252,7 @@ fn whole_size(stand: Stand, taken: &[u8]) -> usize
     need(stand, taken)
 }
 
-/// The piece, where nothing was kept, or else what was kept and as much of the piece as the entry takes; as there is room for, where
+/// The piece, if nothing was kept, or else what was kept and as much of the piece as the entry takes; as there is room for, if
 /// its length is not known yet.
 pub(crate) fn at_hand<'a>(
     stand: Stand,

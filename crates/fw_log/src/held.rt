@@ -4,7 +4,7 @@ ghost use Rattle.std.specs.Prelude.{◌≡◌, ◌≤◌, ◌+◌, ◌-◌, [], 
 
 use std::marker::Model;
 
-/// How many bytes the header of a log and the longest entry behind it have.
+/// How many bytes the header of a log and the longest entry after it have.
 pub(crate) const ROOM: usize = 2308;
 
 /// At most as many bytes as a header and an entry have. To drop them touches none of them.

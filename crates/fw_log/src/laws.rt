@@ -1,9 +1,9 @@
 //! What follows for every log, each as the contract of a function that does nothing.
 
 ghost use Rattle.std.specs.Prelude.{◌≡◌, ◌++◌, ℕ, List};
-ghost use Rattle.fw_entry.specs.Log.{header_bytes, entries_bytes, LogOpens, LogSpells};
-ghost use Rattle.fw_entry.specs.declared.entry.Timed.{Timed};
-ghost use Rattle.fw_entry.specs.declared.version.Version.{Version};
+ghost use Rattle.fw_log_entry.specs.Log.{header_bytes, entries_bytes, LogOpens, LogSpells};
+ghost use Rattle.fw_log_entry.specs.declared.entry.Timed.{Timed};
+ghost use Rattle.fw_log_entry.specs.declared.version.Version.{Version};
 
 /// Bytes are of one log, in one version. The entries of a log are one in the other version too, and a log that is written in the
 /// other version and back again has its own bytes.

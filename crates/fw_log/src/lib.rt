@@ -1,5 +1,5 @@
-//! A reader of logs: entries from bytes that come in any pieces, exactly where there are some. What it makes of them and how a log is
-//! written stands in fw_entry; those names of it that a user of logs needs are here too.
+//! A reader of logs: entries from bytes that come in any pieces, exactly if there are some. What it makes of them and how a log is
+//! written stands in fw_log_entry; those names of it that a user of logs needs are here too.
 #![tactic(auto)]
 
 mod apart;
@@ -20,7 +20,7 @@ mod version;
 pub use first::{Passed, PlainEntry};
 use fw_async::PacketFault;
 use fw_cip::IsoFault;
-pub use fw_entry::{
+pub use fw_log_entry::{
     Entry, EventEntry, NodeList, NodeRow, OutcomeEntry, ResetEntry, ShownEntry, Timed, Version,
     write_entry, write_header,
 };
@@ -34,7 +34,7 @@ pub use room::Room;
 /// Why the bytes of a body are no body of an entry of the kind that is in its head.
 #[derive(Clone, Copy, PartialEq, Eq)]
 pub enum BodyFault {
-    /// The first eight bytes behind the nodes of a reset entry that are no PHY packet, or four that are left over.
+    /// The first eight bytes after the nodes of a reset entry that are no PHY packet, or four that are left over.
     Phy(PhyFault),
     /// The bytes of an asynchronous entry go on to no packet.
     Packet(PacketFault),
@@ -44,7 +44,7 @@ pub enum BodyFault {
     Fields,
 }
 
-/// Why bytes are no log, in the order of the tests of each part, but for the last, which comes behind `BadLength`.
+/// Why bytes are no log, in the order of the tests of each part, but for the last, which comes after `BadLength`.
 #[derive(Clone, Copy, PartialEq, Eq)]
 pub enum LogWhy {
     /// A byte follows the end entry; the place is that byte's.
@@ -63,7 +63,7 @@ pub enum LogWhy {
     Cut,
     /// The input ended after the header or an entry that is not the end; the place is the input's length.
     NoEnd,
-    /// In version 2 the epoch in the head of an entry that is no bus reset is not that of the latest bus reset, or 0 where there is
+    /// In version 2 the epoch in the head of an entry that is no bus reset is not that of the latest bus reset, or 0 if there is
     /// none: the epoch that stands there; the place is the epoch's. It is tested before the cycle.
     BadEpoch(u32),
 }

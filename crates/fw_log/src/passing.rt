@@ -1,8 +1,8 @@
 //! Entries that are judged, and not given as values.
 
 ghost use Rattle.std.specs.Prelude.{ℕ, ◌≡◌, ◌<◌, ◌+◌, ◌^◌, ◌++◌, List, length, slice_get, take, IfSome, IfNone, None, false};
-ghost use Rattle.fw_entry.specs.declared.entry.Entry.{Entry as AnEntry};
-ghost use Rattle.fw_entry.specs.declared.entry.Timed.{Timed};
+ghost use Rattle.fw_log_entry.specs.declared.entry.Entry.{Entry as AnEntry};
+ghost use Rattle.fw_log_entry.specs.declared.entry.Timed.{Timed};
 ghost use Rattle.fw_log.specs.Stands.{position};
 ghost use Rattle.fw_log.specs.Reader.{total};
 ghost use Rattle.fw_log.specs.History.{HasRead};
@@ -15,7 +15,7 @@ use crate::plain::PlainBody;
 use crate::read::LogReader;
 use crate::stand::Stand;
 use crate::{Room, Version};
-use fw_entry::codes::kind;
+use fw_log_entry::codes::kind;
 use std::num::NonZero;
 
 /// An entry that was given as its body.
@@ -29,7 +29,7 @@ pub struct PassedBody<'a> {
     pub body: PlainBody<'a>,
 }
 
-// Where a reader stands behind an entry that ends at this place and is not the end.
+// Where a reader stands after an entry that ends at this place and is not the end.
 fn going_on(place: u64, last: u64, version: Version, epoch: u32) -> Stand
     requires { 0 < place }
     ensures { position result ≡ record { start = place; last = last; ended = false; version = version; epoch = epoch } }
@@ -46,7 +46,7 @@ fn going_on(place: u64, last: u64, version: Version, epoch: u32) -> Stand
 }
 
 impl LogReader {
-    /// The first byte of what was kept and the piece: behind the header it is the kind of the entry that comes next.
+    /// The first byte of what was kept and the piece: after the header it is the kind of the entry that comes next.
     pub fn next_kind(&self, piece: &[u8]) -> Option<u8>
         ensures { result ≡ slice_get (self.now.taken ++ piece.now) 0 }
     {
@@ -56,9 +56,9 @@ impl LogReader {
         bytes.first().copied()
     }
 
-    /// Takes bytes up to the end of one entry, as `feed` does, and answers how many, where the entry is right at the first look
+    /// Takes bytes up to the end of one entry, as `feed` does, and answers how many, if the entry is right at the first look
     /// and is neither an isochronous packet nor the end. It is judged and not given: a report of the streams has no use for it.
-    /// Where it takes none, `feed` says what comes.
+    /// If it takes none, `feed` says what comes.
     pub fn pass(&mut self, piece: &[u8], room: &mut Room) -> Option<usize>
         requires { self.old.fault ≡ None → total self.old + length piece.now < 2 ^ 64 }
         ensures kept { IfNone result (self.new ≡ self.old) }

@@ -11,7 +11,7 @@ use crate::plain_reset::is_plain_reset;
 use crate::read_body::{event_of, outcome_of, shown_of};
 use fw_async::is_plain_packet;
 use fw_cip::read_iso;
-use fw_entry::codes::kind;
+use fw_log_entry::codes::kind;
 use fw_words::Data;
 
 /// The body of an entry that is given without a value made of it.
@@ -25,7 +25,7 @@ pub enum PlainBody<'a> {
     Reset(Data<'a>),
 }
 
-/// The body of a packet or a bus reset, where it is right at the first look.
+/// The body of a packet or a bus reset, if it is right at the first look.
 #[inline(always)]
 pub(crate) fn plain_body<'a>(kind: u8, bytes: &'a [u8]) -> Option<PlainBody<'a>>
     requires kind { is_kind kind 0 ≡ true }

@@ -14,7 +14,7 @@ struct Turn {
     met: u32,
 }
 
-// What comes behind the packet that the quadlet is, if that comes next.
+// What comes after the packet that the quadlet is, if that comes next.
 fn turn_after(q: Quadlet, turn: Turn, count: u32) -> Option<Turn>
     requires { count ≤ 63 }
     ensures { IfSome result (GoesOnBy q.0 turn) }

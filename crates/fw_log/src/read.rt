@@ -3,23 +3,23 @@
 ghost use Rattle.std.specs.Prelude.{ℕ, ◌≡◌, ◌<◌, ◌+◌, ◌-◌, ◌^◌, ◌++◌, [], List, length};
 ghost use Rattle.std.specs.Prelude.{IfSome, IfNone, IfOk, IfErr, Some, None, Ok, Err};
 ghost use Rattle.std.specs.Result.{result_err};
-ghost use Rattle.fw_entry.specs.Log.{is_end, body, epoch_after, LogOpens};
-ghost use Rattle.fw_entry.specs.declared.version.Version.{Version as AVersion};
-ghost use Rattle.fw_entry.specs.declared.version.Version.TheVariants.{One};
+ghost use Rattle.fw_log_entry.specs.Log.{is_end, body, epoch_after, LogOpens};
+ghost use Rattle.fw_log_entry.specs.declared.version.Version.{Version as AVersion};
+ghost use Rattle.fw_log_entry.specs.declared.version.Version.TheVariants.{One};
 ghost use Rattle.fw_log.specs.Stands.{position};
 ghost use Rattle.fw_log.specs.Reading.{IsPending};
 ghost use Rattle.fw_log.specs.Reader.{State, total, with_bytes, version_read, known, Remembers, FindsIn, Joins};
 ghost use Rattle.fw_log.specs.Reader.{EndsEntry, EndsNothing, ShowsFault, Feeds, Counts, body_given, finish_of};
 ghost use Rattle.fw_log.specs.History.{stand_after, HasRead, ReadsOn, Names, GivesNext, Finishes};
 ghost use Rattle.fw_log.specs.declared.LogFault.{LogFault};
-ghost use Rattle.fw_entry.specs.declared.entry.Timed.{Timed};
+ghost use Rattle.fw_log_entry.specs.declared.entry.Timed.{Timed};
 
 use crate::first::{Found, at_hand, first_entry, plain_found};
 use crate::held::Held;
 use crate::stand::{Stand, skip};
 use crate::version::{remember, version_read};
 use crate::{Entry, LogFault, LogWhy, ResetEntry, Room, Timed, Version};
-use fw_entry::epoch_after;
+use fw_log_entry::epoch_after;
 use fw_words::Data;
 use std::alloc::{AllocError, Global};
 use std::marker::Model;
@@ -32,11 +32,11 @@ pub struct LogFed<'a> {
     pub used: usize,
     /// The entry that ended with them, if one did.
     pub entry: Option<Timed<'a>>,
-    /// The bytes of that entry's body; empty where none ended.
+    /// The bytes of that entry's body; empty if none ended.
     pub body: Data<'a>,
 }
 
-// Where a reader stands behind an entry that ends at this place, where this is the epoch of the latest bus reset before it.
+// Where a reader stands after an entry that ends at this place, if this is the epoch of the latest bus reset before it.
 fn behind(place: u64, version: Version, epoch: u32, entry: &Timed) -> Stand
     requires { 0 < place }
     ensures { position result ≡ record { start = place; last = entry.now.cycle; ended = is_end entry.now.what; version = version; epoch = epoch_after epoch entry.now.what } }
@@ -93,7 +93,7 @@ impl LogReader {
         })
     }
 
-    // Takes what was found in the bytes that were kept and, behind them, in the piece.
+    // Takes what was found in the bytes that were kept and, after them, in the piece.
     #[inline(always)]
     pub(crate) fn keep<'a>(
         &mut self,
@@ -160,7 +160,7 @@ impl LogReader {
         self.keep(found, piece)
     }
 
-    // Takes bytes up to the end of one entry, where no fault was answered. An entry that lies whole in the piece is read
+    // Takes bytes up to the end of one entry, if no fault was answered. An entry that lies whole in the piece is read
     // where it lies.
     #[inline(always)]
     fn feed_fresh<'a>(
@@ -181,9 +181,9 @@ impl LogReader {
         }
     }
 
-    /// Takes bytes up to the end of one entry, or all of the piece where no entry ends in it. The parts of a log are
-    /// each quadlet of its header, and of an entry its kind with the zero behind it, its length, in version 2 its epoch, its
-    /// cycle and its body, and a byte behind the end. A fault comes in the call in which the last byte of a refused part is taken;
+    /// Takes bytes up to the end of one entry, or all of the piece if no entry ends in it. The parts of a log are
+    /// each quadlet of its header, and of an entry its kind with the zero after it, its length, in version 2 its epoch, its
+    /// cycle and its body, and a byte after the end. A fault comes in the call in which the last byte of a refused part is taken;
     /// no log begins with the bytes up to there. After a fault each call answers that fault. The entry refers to the
     /// piece and to the room.
     #[inline(always)]
@@ -195,7 +195,7 @@ impl LogReader {
         ensures counts { Counts self.old piece.now result self.new }
         ensures body { IfOk result (λ fed. fed.body ≡ body_given fed.entry) }
 
-        // An entry, none and a fault come exactly where the bytes since the last entry make them.
+        // An entry, none and a fault come exactly if the bytes since the last entry make them.
         ensures entry { IfNone self.old.fault ((k : ℕ) → (t : Timed) → EndsEntry self.old.stand self.old.taken piece.now k t
             → result ≡ Ok (record { used = k; entry = Some t; body = body t.what })) }
         ensures none { IfNone self.old.fault (EndsNothing self.old.stand self.old.taken piece.now
@@ -203,7 +203,7 @@ impl LogReader {
         ensures fault { IfNone self.old.fault ((k : ℕ) → (f : LogFault) → ShowsFault self.old.stand self.old.taken piece.now k f → result ≡ Err f) }
 
         // All that was fed since the reader began is the entries that were given and a part of one more; a fault comes
-        // only where no log goes on, and of a log each entry that is given is the next.
+        // only if no log goes on, and of a log each entry that is given is the next.
         ensures history { (entries : List Timed) → (bytes : List ℕ) → HasRead entries bytes self.old → ReadsOn entries bytes piece.now result self.new }
         ensures version { (entries : List Timed) → (bytes : List ℕ) → HasRead entries bytes self.old → Names bytes piece.now result self.new }
         ensures log { (entries all : List Timed) → (v : AVersion) → (bytes more : List ℕ) → HasRead entries bytes self.old
@@ -225,7 +225,7 @@ impl LogReader {
         }
     }
 
-    /// The version of the log: none exactly where fewer than eight bytes were taken, or one of the two quadlets of them was refused.
+    /// The version of the log: none exactly if fewer than eight bytes were taken, or one of the two quadlets of them was refused.
     pub fn version(&self) -> Option<Version>
         ensures known { result ≡ known self.now }
         ensures read { (entries : List Timed) → (bytes : List ℕ) → HasRead entries bytes self.now → result ≡ version_read bytes }
@@ -233,7 +233,7 @@ impl LogReader {
         self.known()
     }
 
-    // The fault that the input's end is, where it is one.
+    // The fault that the input's end is, if it is one.
     fn end_fault(&self) -> Option<LogFault>
         requires { self.now.fault ≡ None → total self.now < 2 ^ 64 }
         ensures { result ≡ finish_of self.now }
@@ -252,8 +252,8 @@ impl LogReader {
         })
     }
 
-    /// Whether the log is whole, at the input's end. `Cut` comes where the input ended inside the header or an entry,
-    /// `NoEnd` where it ended after one of them and the last entry was not the end; a fault of `feed` is answered again.
+    /// Whether the log is whole, at the input's end. `Cut` comes if the input ended inside the header or an entry,
+    /// `NoEnd` if it ended after one of them and the last entry was not the end; a fault of `feed` is answered again.
     pub fn finish(&self) -> Result<(), LogFault>
         requires { self.now.fault ≡ None → total self.now < 2 ^ 64 }
         ensures fault { result_err result ≡ finish_of self.now }

@@ -2,11 +2,11 @@
 
 ghost use Rattle.std.specs.Prelude.{ℕ, ◌≡◌, ◌≤◌, ◌<◌, ◌-◌, ◌*◌, ◌%◌, length};
 ghost use Rattle.std.specs.Prelude.{IsTrue, IfSome, ◌==◌, ◌||◌, true};
-ghost use Rattle.fw_entry.specs.declared.entry.EventEntry.{EventEntry};
-ghost use Rattle.fw_entry.specs.declared.entry.OutcomeEntry.{OutcomeEntry};
-ghost use Rattle.fw_entry.specs.declared.entry.ShownEntry.{ShownEntry};
-ghost use Rattle.fw_entry.specs.Log.{quads, event_quads, outcome_quads, shown_quads, EventFits, OutcomeFits, ShownFits};
-ghost use Rattle.fw_entry.specs.declared.codes.TheConstants.{LINES_525, LINES_625};
+ghost use Rattle.fw_log_entry.specs.declared.entry.EventEntry.{EventEntry};
+ghost use Rattle.fw_log_entry.specs.declared.entry.OutcomeEntry.{OutcomeEntry};
+ghost use Rattle.fw_log_entry.specs.declared.entry.ShownEntry.{ShownEntry};
+ghost use Rattle.fw_log_entry.specs.Log.{quads, event_quads, outcome_quads, shown_quads, EventFits, OutcomeFits, ShownFits};
+ghost use Rattle.fw_log_entry.specs.declared.codes.TheConstants.{LINES_525, LINES_625};
 ghost use Rattle.fw_log.specs.Reading.{is_kind, is_length};
 ghost use Rattle.fw_log.specs.Bodies.{PacketJudges, ResetJudges, BodyJudges};
 
@@ -14,8 +14,8 @@ use crate::read_reset::read_reset;
 use crate::{BodyFault, Entry, EventEntry, OutcomeEntry, ResetEntry, ShownEntry};
 use fw_async::{Fed, Packet, is_plain_packet, read_packet, whole_packet};
 use fw_cip::read_iso;
-use fw_entry::codes::{LINES_525, LINES_625, kind};
-use fw_entry::{BorrowedReset, has_tape, may_bring, may_have};
+use fw_log_entry::codes::{LINES_525, LINES_625, kind};
+use fw_log_entry::{BorrowedReset, has_tape, may_bring, may_have};
 use fw_words::quadlet_at;
 
 pub(crate) fn outcome_of(body: &[u8]) -> Option<OutcomeEntry>

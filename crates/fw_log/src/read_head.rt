@@ -4,8 +4,8 @@ ghost use Rattle.std.specs.Prelude.{◌≡◌, ◌≤◌, ◌<◌, ◌+◌, ◌-
 ghost use Rattle.std.specs.Prelude.{None, Some, Ok, IfSome, ◌==◌, ◌&&◌, if◌then◌else◌};
 ghost use Rattle.fw_log.specs.Stands.{position};
 ghost use Rattle.fw_log.specs.Reading.{length_of, cycle_of, is_kind, is_length, is_epoch, has_epoch, epoch_fault, cycle_fault, entry_fault, header_fault, head_fault, fault_at};
-ghost use Rattle.fw_entry.specs.Log.{head_size};
-ghost use Rattle.fw_entry.specs.declared.version.Version.TheVariants.{Two};
+ghost use Rattle.fw_log_entry.specs.Log.{head_size};
+ghost use Rattle.fw_log_entry.specs.declared.version.Version.TheVariants.{Two};
 ghost use Rattle.fw_log.specs.Reader.{Ends};
 
 use crate::stand::{
@@ -13,7 +13,7 @@ use crate::stand::{
     rest, version_at,
 };
 use crate::{LogFault, LogWhy, Version};
-use fw_entry::codes;
+use fw_log_entry::codes;
 use fw_words::quadlet_at;
 
 fn is_kind(kind: u8, low: u8) -> bool
@@ -87,7 +87,7 @@ fn cycle_fault(version: Version, place: u64, last: u64, e: &[u8]) -> Option<LogF
     })
 }
 
-// The fault of the epoch in version 2, or that of the cycle behind it.
+// The fault of the epoch in version 2, or that of the cycle after it.
 fn epoch_fault(epoch: u32, place: u64, last: u64, e: &[u8]) -> Option<LogFault>
     requires { place + length e.now < 2 ^ 64 }
     ensures { result ≡ epoch_fault Two epoch place e.now (cycle_fault Two place last e.now) }
@@ -173,7 +173,7 @@ fn header_fault(bytes: &[u8]) -> Option<LogFault>
     None
 }
 
-// The first byte behind the end, which stands at this place.
+// The first byte after the end, which stands at this place.
 fn after_end(place: u64, bytes: &[u8]) -> Option<LogFault>
     ensures { result ≡ (if length bytes.now == 0 then None else Some (fault_at place LogWhy.AfterEnd)) }
 {
@@ -186,7 +186,7 @@ fn after_end(place: u64, bytes: &[u8]) -> Option<LogFault>
     })
 }
 
-/// Where the entry ends that the bytes begin with, behind others, where all of it is there and the parts before its body are
+/// Where the entry ends that the bytes begin with, after others, if all of it is there and the parts before its body are
 /// right.
 #[inline(always)]
 pub(crate) fn whole_end(stand: Stand, bytes: &[u8]) -> Option<usize>

@@ -4,8 +4,8 @@ ghost use Rattle.std.specs.Prelude.{ℕ, ◌≡◌, ◌≤◌, ◌<◌, ◌+◌,
 ghost use Rattle.std.specs.List.{All};
 ghost use Rattle.fw_phy.specs.Phy.{Fits as PhyFits};
 ghost use Rattle.fw_phy.specs.declared.packet.PhyPacket.{PhyPacket};
-ghost use Rattle.fw_entry.specs.Log as Log;
-ghost use Rattle.fw_entry.specs.Log.{quads, node_quad, RowFits, AreApart, ResetFits, are_ids, manager_byte};
+ghost use Rattle.fw_log_entry.specs.Log as Log;
+ghost use Rattle.fw_log_entry.specs.Log.{quads, node_quad, RowFits, AreApart, ResetFits, are_ids, manager_byte};
 ghost use Rattle.fw_log.specs.Bodies.{count_of, ids_at, has_nodes, AreIds, IdsJudges, ResetJudges};
 ghost use Rattle.fw_log.specs.Resets.{RowShape, ResetShape, goes_on};
 

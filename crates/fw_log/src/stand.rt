@@ -3,7 +3,7 @@
 ghost use Rattle.std.specs.Prelude.{◌≡◌, ◌≤◌, ◌+◌, ◌*◌, length, drop};
 ghost use Rattle.fw_log.specs.Stands.{position};
 ghost use Rattle.fw_log.specs.Reading.{length_of, cycle_of, skip, version_in, version_at, entry_need, need};
-ghost use Rattle.fw_entry.specs.Log.{head_size};
+ghost use Rattle.fw_log_entry.specs.Log.{head_size};
 
 use crate::Version;
 use fw_words::quadlet_at;
@@ -12,7 +12,7 @@ use std::num::NonZero;
 /// How many bytes the header has.
 pub(crate) const HEADER_SIZE: usize = 16;
 
-/// Where an entry's length begins, behind its kind and a zero byte.
+/// Where an entry's length begins, after its kind and a zero byte.
 pub(crate) const LENGTH_AT: usize = 2;
 
 /// Where an entry's length ends.
@@ -24,14 +24,14 @@ pub(crate) const EPOCH_AT: usize = 4;
 /// Where an entry's epoch ends, in version 2.
 pub(crate) const EPOCH_END: usize = 8;
 
-/// How many bytes a cycle has, in front of the body.
+/// How many bytes a cycle has, before the body.
 pub(crate) const CYCLE: usize = 8;
 
-/// Where a reader stands. `past` is the place of the first byte behind the last entry, `last` the cycle of that entry, `epoch` that
+/// Where a reader stands. `past` is the place of the first byte after the last entry, `last` the cycle of that entry, `epoch` that
 /// of the latest bus reset among the entries, or 0.
 #[derive(Clone, Copy)]
 pub enum Stand {
-    /// The header is to come, and the first entry behind it.
+    /// The header is to come, and the first entry after it.
     Header,
     /// An entry is to come.
     Entries {

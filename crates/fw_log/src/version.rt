@@ -7,13 +7,13 @@ ghost use Rattle.fw_log.specs.Reader.{version_read, Keeps};
 use crate::Version;
 use crate::held::Held;
 use crate::stand::Stand;
-use fw_entry::codes::LOG_MAGIC;
+use fw_log_entry::codes::LOG_MAGIC;
 use fw_words::quadlet_at;
 
-// How many bytes of the header name its version, behind a fixed quadlet.
+// How many bytes of the header name its version, after a fixed quadlet.
 const VERSION_END: usize = 8;
 
-/// The version that a header names, where its first two quadlets are there and right.
+/// The version that a header names, if its first two quadlets are there and right.
 pub(crate) fn version_read(bytes: &[u8]) -> Option<Version>
     ensures { result ≡ version_read bytes.now }
 {

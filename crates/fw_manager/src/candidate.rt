@@ -48,7 +48,7 @@ impl Candidate {
         }
     }
 
-    /// What the candidate does next in this epoch, as this node, where `manager` is the isochronous resource manager. A new epoch
+    /// What the candidate does next in this epoch, as this node, if `manager` is the isochronous resource manager. A new epoch
     /// begins its bid anew, and so drops what was asked and heard in another.
     pub fn next(&mut self, epoch: u32, node: u8, manager: u8) -> Bid
         requires heard { IsFalse (is_standing_in epoch self.old) }

@@ -1,20 +1,12 @@
--- Where the numbers tell who hangs on whom, they are those of self-identification.
-use Rattle.std.proofs.Common.{◌≡◌, inl, inr, ℕ, zero, suc, ◌+◌, ◌-◌, ◌<◌, ◌≤◌, ◌&&◌, nat_lt, not, List, [], ◌∷◌, ◌++◌, length, Some, None, Bool, true, false, arith, refl, sym, ap, subst, ◌∙◌}
-use Rattle.std.specs.List.{All}
-use Rattle.std.proofs.lemmas.Bool.{cases_eq, cases_lt}
-use Rattle.std.proofs.lemmas.Bool.Decides.{nat_tests}
-use Rattle.fw_phy.specs.declared.packet.PhyPacket.{PhyPacket}
-use Rattle.fw_phy.specs.Phy.{Fits}
-use Rattle.fw_entry.specs.declared.entry.ResetEntry.{ResetEntry}
-use Rattle.fw_tree.specs.Numbers.{counted, number_at, is_there}
-use Rattle.fw_tree.specs.Paths.{comes_before, is_left}
-use Rattle.fw_tree.proofs.CountLaws.{counted_same, counted_none, counted_yes, counted_else}
+-- If the numbers tell who hangs on whom, they are those of self-identification.
+use Rattle.fw_map.proofs.Common.{◌≡◌, inl, inr, ℕ, zero, suc, ◌+◌, ◌-◌, ◌<◌, ◌≤◌, ◌&&◌, nat_lt, not, List, [], ◌∷◌, ◌++◌, length, Some, None, Bool, true, false, arith, refl, sym, ap, subst, ◌∙◌, All}
+use Rattle.fw_map.proofs.Common.{cases_eq, cases_lt, nat_tests, PhyPacket, Fits, ResetEntry, counted, number_at, is_there, comes_before, counted_same, counted_none, counted_yes, counted_else, truth}
+use Rattle.fw_map.proofs.Common.{Tree, Hangs, at_root, down_to, HasSizes, HasPackets, Grown}
+use Rattle.fw_tree.specs.Paths.{is_left}
 use Rattle.fw_tree.proofs.StepLaws.{irreflexive}
-use Rattle.fw_tree.proofs.ForestLaws.{truth}
-use Rattle.fw_map.specs.declared.tree.Tree.{Tree}
 use Rattle.fw_map.specs.Faults.{is_last}
-use Rattle.fw_map.specs.Trees.{Hangs, LeadsDown, at_root, down_to, AreNumbers, HasSizes, HasPackets}
-use Rattle.fw_map.specs.Growing.{Grown, Noted}
+use Rattle.fw_map.specs.Trees.{LeadsDown, AreNumbers}
+use Rattle.fw_map.specs.Growing.{Noted}
 use Rattle.fw_map.proofs.PathLaws.{transitive, child_first, sibling_left, left_longer, left_first, branch_first}
 use Rattle.fw_map.proofs.FieldLaws.{no_field}
 use Rattle.fw_map.proofs.ShapeLaws.{some_of, none_of, hangs_of, one_way}
@@ -52,8 +44,9 @@ test_yes c d n a l m h = grind (arith, nat_tests)
 test_no : (c d n : ℕ) (a : Bool) → d ≤ c → (c < n → a ≡ false) → (nat_lt c n && a) ≡ nat_lt c d
 test_no c d n a l h = grind (arith, nat_tests)
 
--- where the lower of two nodes always comes first, each has the count of those that come before it
-pub places_of : (n : ℕ) (paths : ℕ → List ℕ) → n ≤ 63 → ((x y : ℕ) → x < y → y < n → comes_before (paths x) (paths y) ≡ true) → (d : ℕ) → d < n → d ≡ counted (λ c. nat_lt c n && comes_before (paths c) (paths d)) 63
+-- if the lower of two nodes always comes first, each has the count of those that come before it
+pub places_of : (n : ℕ) (paths : ℕ → List ℕ) → n ≤ 63 → ((x y : ℕ) → x < y → y < n → comes_before (paths x) (paths y) ≡ true) → (d : ℕ) → d < n
+    → d ≡ counted (λ c. nat_lt c n && comes_before (paths c) (paths d)) 63
 places_of n paths few first d low = sym (counted_same (λ c. nat_lt c n && comes_before (paths c) (paths d)) (λ c. nat_lt c d) 63 (λ c l. same c) ∙ count_to d 63 (omega arith))
   where
     not_before : (c : ℕ) → d ≤ c → c < n → comes_before (paths c) (paths d) ≡ false
@@ -179,7 +172,8 @@ module _ (ids : List PhyPacket) (t : Tree) (n : ℕ) (fits : All Fits ids) (g : 
         places = λ d l. let P : ℕ → Type 0 = λ m. d ≡ counted (λ c. nat_lt c m && comes_before (paths c) (paths d)) 63 in subst P (sym count) (place root last paths lead d (omega arith));
       }
 
-pub tree_of : (e : ResetEntry) (t : Tree) (n : ℕ) → All Fits e.ids → Grown e.ids n 27 t → n ≤ 63 → ((c : ℕ) → c + 1 < n → is_there (number_at t.parent c) ≡ true) → HasSizes t → t.count ≡ n → n ≡ length e.nodes → Noted e n t → e.root + 1 ≡ n → HasPackets e t
+pub tree_of : (e : ResetEntry) (t : Tree) (n : ℕ) → All Fits e.ids → Grown e.ids n 27 t → n ≤ 63 → ((c : ℕ) → c + 1 < n → is_there (number_at t.parent c) ≡ true) → HasSizes t → t.count ≡ n
+    → n ≡ length e.nodes → Noted e n t → e.root + 1 ≡ n → HasPackets e t
 tree_of e t n fits g few hang sizes count size noted last = record {
   sizes = sizes;
   count = count ∙ size;

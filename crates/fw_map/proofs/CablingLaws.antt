@@ -1,8 +1,9 @@
 -- The tree that identifying a cabling finds has the packets of the cabling.
-use Rattle.std.proofs.Common.{◌≡◌, ◌⊎◌, inl, inr, ℕ, zero, suc, ◌+◌, ◌<◌, ◌≤◌, ◌&&◌, nat_lt, List, [], ◌∷◌, ◌++◌, length, Option, Some, None, Bool, true, false, slice_index_or, get_or, if◌then◌else◌, arith, refl, sym, ap, subst, ◌∙◌, length-append}
+use Rattle.fw_map.proofs.Common.{◌≡◌, ◌⊎◌, inl, inr, ℕ, zero, suc, ◌+◌, ◌<◌, ◌≤◌, ◌&&◌, nat_lt, List, [], ◌∷◌, ◌++◌, length, Option, Some, None, Bool, true, false, slice_index_or, if◌then◌else◌}
+use Rattle.fw_map.proofs.Common.{arith, refl, sym, ap, subst, ◌∙◌, cases_eq, cases_lt, nat_tests, counted, number_at, is_there, comes_before, truth, ResetEntry, field_of, at_root, down_to, HasSizes}
+use Rattle.fw_map.proofs.Common.{HasPackets, Tree, Hangs, speed_at}
+use Rattle.std.proofs.Common.{get_or, length-append}
 use Rattle.std.specs.Option.{option_and_then, option_map}
-use Rattle.std.proofs.lemmas.Bool.{cases_eq, cases_lt}
-use Rattle.std.proofs.lemmas.Bool.Decides.{nat_tests}
 use Rattle.std.proofs.lemmas.List.{get_or_past, get_or_append_left}
 use Rattle.fw_tree.specs.declared.facts.End.{End}
 use Rattle.fw_tree.specs.declared.facts.PhyFacts.{PhyFacts}
@@ -10,26 +11,21 @@ use Rattle.fw_tree.specs.declared.numbering.Numbering.{Numbering}
 use Rattle.fw_tree.specs.Cables.{Peers, peer, IsOnBus, here, along}
 use Rattle.fw_tree.specs.Rounds.{stays, HasParent, IsRoot}
 use Rattle.fw_tree.specs.Forest.{AreCables}
-use Rattle.fw_tree.specs.Numbers.{counted, number_at, is_there, has_number, IsParentPort, at_root as bus_root, down_to as bus_down, LeadsDown as BusLeads}
+use Rattle.fw_tree.specs.Numbers.{has_number, IsParentPort, at_root as bus_root, down_to as bus_down, LeadsDown as BusLeads}
 use Rattle.fw_tree.specs.Numbering.{IsNumbering}
 use Rattle.fw_tree.specs.Topology.{Topology, IsSound}
-use Rattle.fw_tree.specs.Paths.{comes_before}
-use Rattle.fw_tree.proofs.ForestLaws.{truth, opened, open_to}
+use Rattle.fw_tree.proofs.ForestLaws.{opened, open_to}
 use Rattle.fw_tree.proofs.RoundLaws.{same_port, same_end, stayed, earlier, goes}
 use Rattle.fw_tree.proofs.RootLaws.{root_no_parent}
 use Rattle.fw_tree.proofs.PathLaws.{one_path, one_parent}
 use Rattle.fw_tree.proofs.CountLaws.{counted_less}
 use Rattle.fw_tree.proofs.StepLaws.{irreflexive}
 use Rattle.fw_tree.proofs.NumberingLaws.{placed, count_most}
-use Rattle.fw_entry.specs.declared.entry.ResetEntry.{ResetEntry}
 use Rattle.fw_tree.specs.SelfIds.{facts_at, port_code, ArePackets}
 use Rattle.fw_tree.specs.Topology.{ports_of, AreDevices}
-use Rattle.fw_map.specs.Fields.{field_of}
-use Rattle.fw_map.specs.Trees.{LeadsDown, at_root, down_to, HasSizes, HasPackets}
+use Rattle.fw_map.specs.Trees.{LeadsDown}
 use Rattle.fw_map.proofs.BuiltLaws.{places_of}
 use Rattle.fw_map.proofs.PacketLaws.{fields_are, speeds_are, child_code, code_child, parent_code, code_parent}
-use Rattle.fw_map.specs.declared.tree.Tree.{Tree}
-use Rattle.fw_map.specs.Trees.{Hangs, speed_at}
 use Rattle.fw_map.specs.Identified.{up_end, IsTreeOf}
 use Rattle.std.proofs.Math.Seq.{get_or-append_seam}
 use Rattle.fw_map.proofs.PathLaws.{transitive, total, child_first}
@@ -108,7 +104,8 @@ module _ (p : Topology) (n : Numbering) (s : IsSound p) (h : IsNumbering p n) wh
           device_of x = x.device
 
   -- a path goes on from the parent's
-  below : (d m b q : ℕ) → IsOnBus p.cables d → IsOnBus p.cables b → number_at n.parent_port b ≡ Some q → peer p.cables b q ≡ Some (record { device = d; port = m }) → h.numbers.paths b ≡ h.numbers.paths d ++ m ∷ []
+  below : (d m b q : ℕ) → IsOnBus p.cables d → IsOnBus p.cables b → number_at n.parent_port b ≡ Some q → peer p.cables b q ≡ Some (record { device = d; port = m })
+      → h.numbers.paths b ≡ h.numbers.paths d ++ m ∷ []
   below d m b q on also up at =
       let k = way_up b q also up in
       let forth = s.cables.back b q (record { device = d; port = m }) at in
@@ -129,8 +126,10 @@ module _ (p : Topology) (n : Numbering) (s : IsSound p) (h : IsNumbering p n) wh
 
       go : (x y : Option ℕ) → number_at n.parent_port d ≡ x → number_at n.parent_port b ≡ y → (number_at n.parent_port d ≡ Some m) ⊎ (number_at n.parent_port b ≡ Some q)
       go None None a c = absurd (s.cables.apart d m (record { device = b; port = q }) at (is_root b also c ∙ sym (is_root d on a)))
-      go None (Some y) a c = let k = way_up b y also c in inr (c ∙ ap (λ z. Some z) (towards p.cables d m b q y k.0 s.cables at k.1 (root_stays p.cables d m b q y k.0 s.cables at k.1 (root_of d on a))))
-      go (Some x) None a c = let k = way_up d x on a in inl (a ∙ ap (λ z. Some z) (towards p.cables b q d m x k.0 s.cables back k.1 (root_stays p.cables b q d m x k.0 s.cables back k.1 (root_of b also c))))
+      go None (Some y) a c = let k = way_up b y also c in inr (c ∙ ap (λ z. Some z)
+          (towards p.cables d m b q y k.0 s.cables at k.1 (root_stays p.cables d m b q y k.0 s.cables at k.1 (root_of d on a))))
+      go (Some x) None a c = let k = way_up d x on a in inl (a ∙ ap (λ z. Some z)
+          (towards p.cables b q d m x k.0 s.cables back k.1 (root_stays p.cables b q d m x k.0 s.cables back k.1 (root_of b also c))))
       go (Some x) (Some y) a c =
           let k = way_up d x on a in
           let l = way_up b y also c in
@@ -155,8 +154,10 @@ module _ (p : Topology) (n : Numbering) (s : IsSound p) (h : IsNumbering p n) wh
 
   first_lower : (d e v w : ℕ) → number_at n.number d ≡ Some v → number_at n.number e ≡ Some w → comes_before (h.numbers.paths d) (h.numbers.paths e) ≡ true → v < w
   first_lower d e v w a b l =
-      let less = counted_less (λ c. has_number n.number c && comes_before (h.numbers.paths c) (h.numbers.paths e)) (λ c. has_number n.number c && comes_before (h.numbers.paths c) (h.numbers.paths d)) 63 d (low d v a)
-      (λ k m. and_more (has_number n.number k) (comes_before (h.numbers.paths k) (h.numbers.paths d)) (comes_before (h.numbers.paths k) (h.numbers.paths e)) (λ i. transitive (h.numbers.paths k) (h.numbers.paths d) (h.numbers.paths e) i l) m)
+      let less = counted_less (λ c. has_number n.number c && comes_before (h.numbers.paths c) (h.numbers.paths e))
+      (λ c. has_number n.number c && comes_before (h.numbers.paths c) (h.numbers.paths d)) 63 d (low d v a)
+      (λ k m. and_more (has_number n.number k) (comes_before (h.numbers.paths k) (h.numbers.paths d)) (comes_before (h.numbers.paths k) (h.numbers.paths e))
+      (λ i. transitive (h.numbers.paths k) (h.numbers.paths d) (h.numbers.paths e) i l) m)
       (and_not (has_number n.number d) (comes_before (h.numbers.paths d) (h.numbers.paths d)) (irreflexive (h.numbers.paths d)))
       (both (has_number n.number d) (comes_before (h.numbers.paths d) (h.numbers.paths e)) (there (number_at n.number d) v a) l) in
       let x = same_some (number_at n.number d) v (counted (λ c. has_number n.number c && comes_before (h.numbers.paths c) (h.numbers.paths d)) 63) a (h.numbers.places d (on_bus d v a)) in
@@ -321,7 +322,8 @@ module _ (p : Topology) (n : Numbering) (s : IsSound p) (h : IsNumbering p n) wh
       speed_in f = f.speed
 
   -- what hangs at a port of a node is the device at the other end of the cable there
-  hangs_to : (b v u m : ℕ) → number_at n.number b ≡ Some v → Hangs found v u m → (d q : ℕ) × (number_at n.number d ≡ Some u) × (number_at n.parent_port b ≡ Some q) × (peer p.cables b q ≡ Some (record { device = d; port = m }))
+  hangs_to : (b v u m : ℕ) → number_at n.number b ≡ Some v → Hangs found v u m → (d q : ℕ) × (number_at n.number d ≡ Some u) × (number_at n.parent_port b ≡ Some q)
+      × (peer p.cables b q ≡ Some (record { device = d; port = m }))
   hangs_to b v u m e k =
       let up = sym (tree_is.parent b v e) ∙ k.parent in
       let at = sym (tree_is.parent_port b v e) ∙ k.port in
@@ -330,7 +332,8 @@ module _ (p : Topology) (n : Numbering) (s : IsSound p) (h : IsNumbering p n) wh
       let same : w.0.port ≡ m = same_some (option_map (λ (x : End). x.port) (up_end p n b)) w.0.port m (map_some (λ (x : End). x.port) (up_end p n b) w.0 w.1) at in
       (w.0.device, y.0, w.2, y.1, y.2 ∙ ap (λ z. Some (record { device = w.0.device; port = z })) same)
 
-  hangs_from : (b v d u q m : ℕ) → number_at n.number b ≡ Some v → number_at n.number d ≡ Some u → number_at n.parent_port b ≡ Some q → peer p.cables b q ≡ Some (record { device = d; port = m }) → Hangs found v u m
+  hangs_from : (b v d u q m : ℕ) → number_at n.number b ≡ Some v → number_at n.number d ≡ Some u → number_at n.parent_port b ≡ Some q → peer p.cables b q ≡ Some (record { device = d; port = m })
+      → Hangs found v u m
   hangs_from b v d u q m e f a c =
       let up : up_end p n b ≡ Some (record { device = d; port = m }) = ap (option_and_then (peer p.cables b)) a ∙ c in
       record {
@@ -364,14 +367,15 @@ module _ (p : Topology) (n : Numbering) (s : IsSound p) (h : IsNumbering p n) wh
   unfolding sp_of
   past_sp v l = sp_at v ∙ high_if v n.count (facts_at p.devices (device v).0).speed 0 l
 
-  -- each node has a parent's port where it has a parent, and an own port too
+  -- each node has a parent's port if it has a parent, and an own port too
   both_ports : (v : ℕ) → (is_there (number_at found.parent_port v) ≡ is_there (number_at found.parent v)) × (is_there (number_at found.own_port v) ≡ is_there (number_at found.parent v))
   both_ports v = elim (cases_lt v n.count) [
     | inr m ↦ (ap is_there (past_port v m) ∙ sym (ap is_there (past v m)), ap is_there (past_own v m) ∙ sym (ap is_there (past v m)))
     | inl l ↦ go (device v).0 ((device v).1 l) (number_at n.parent_port (device v).0) refl
   ]
     where
-      go : (b : ℕ) → number_at n.number b ≡ Some v → (o : Option ℕ) → number_at n.parent_port b ≡ o → (is_there (number_at found.parent_port v) ≡ is_there (number_at found.parent v)) × (is_there (number_at found.own_port v) ≡ is_there (number_at found.parent v))
+      go : (b : ℕ) → number_at n.number b ≡ Some v → (o : Option ℕ) → number_at n.parent_port b ≡ o → (is_there (number_at found.parent_port v) ≡ is_there (number_at found.parent v))
+          × (is_there (number_at found.own_port v) ≡ is_there (number_at found.parent v))
       go b e None a =
           let up : up_end p n b ≡ None = ap (option_and_then (peer p.cables b)) a in
           let x : number_at found.parent v ≡ None = tree_is.parent b v e ∙ ap (option_and_then (λ (x : End). number_at n.number x.device)) up in
@@ -406,7 +410,8 @@ module _ (p : Topology) (n : Numbering) (s : IsSound p) (h : IsNumbering p n) wh
   port_there : (a m : ℕ) (x : End) → peer p.cables a m ≡ Some x → m < (facts_at p.devices a).ports
   port_there a m x at = let l = s.placed a m x at in let e = ports_are p.devices a in omega arith
 
-  module _ (i : ℕ) (e : ResetEntry) (packets : ArePackets p.devices p.cables n.number n.parent_port i n.count e.ids) (size : length e.nodes ≡ n.count) (top : number_at n.number n.root ≡ Some e.root) where
+  module _ (i : ℕ) (e : ResetEntry) (packets : ArePackets p.devices p.cables n.number n.parent_port i n.count e.ids) (size : length e.nodes ≡ n.count)
+      (top : number_at n.number n.root ≡ Some e.root) where
     field_at : (a u m : ℕ) → number_at n.number a ≡ Some u → field_of e.ids u m ≡ port_code (facts_at p.devices a).ports (slice_index_or p.cables a []) (number_at n.parent_port a) m
     field_at a u m f = fields_are p.devices p.cables n.number n.parent_port i n.count u a m e.ids h.nodes.one (ports_low p.devices a s.devices) (below_count a u f) f packets
 
@@ -435,7 +440,8 @@ module _ (p : Topology) (n : Numbering) (s : IsSound p) (h : IsNumbering p n) wh
           let q = w.1 in
           let on = on_bus p n s h d u w.2 in
           let forth = s.cables.back b q (record { device = d; port = m }) w.4 in
-          field_at d u m w.2 ∙ code_child (facts_at p.devices d).ports (slice_index_or p.cables d []) (number_at n.parent_port d) m (record { device = b; port = q }) (port_there d m (record { device = b; port = q }) forth) forth (λ x. not_both p n s h d m b q on forth x w.3)
+          field_at d u m w.2 ∙ code_child (facts_at p.devices d).ports (slice_index_or p.cables d []) (number_at n.parent_port d) m (record { device = b; port = q })
+          (port_there d m (record { device = b; port = q }) forth) forth (λ x. not_both p n s h d m b q on forth x w.3)
     ]
 
     own_to : (u m : ℕ) → u < n.count → field_of e.ids u m ≡ 2 → number_at found.own_port u ≡ Some m
@@ -465,7 +471,8 @@ module _ (p : Topology) (n : Numbering) (s : IsSound p) (h : IsNumbering p n) wh
       numbers = record {
         paths = λ v. h.numbers.paths (device v).0;
         lead = λ v l. let at = (device v).1 l in leads e.root top (h.numbers.paths (device v).0) (device v).0 v (h.numbers.lead (device v).0 (on_bus p n s h (device v).0 v at)) at;
-        places = λ v l. places_of n.count (λ x. h.numbers.paths (device x).0) (count_most p n h) (λ x y k m. lower_first p n s h (device x).0 (device y).0 x y ((device x).1 (omega arith)) ((device y).1 m) k) v l;
+        places = λ v l. places_of n.count (λ x. h.numbers.paths (device x).0) (count_most p n h)
+            (λ x y k m. lower_first p n s h (device x).0 (device y).0 x y ((device x).1 (omega arith)) ((device y).1 m) k) v l;
       };
       children = λ u m l. (child_to u m l, λ w. child_from u m w.0 l w.1);
       own = λ u m l. (own_to u m l, own_from u m l);

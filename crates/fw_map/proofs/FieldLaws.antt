@@ -1,17 +1,12 @@
 -- Which ports the packets of a node have.
-use Rattle.std.proofs.Common.{subst, zero, suc, ◌≡◌, inl, inr, ℕ, ◌+◌, ◌-◌, ◌*◌, ◌<◌, ◌≤◌, ◌==◌, ◌&&◌, nat_le, nat_lt, List, [], ◌∷◌, Option, Some, None, Bool, true, false, slice_get, unwrap_or, if◌then◌else◌, arith, refl, ap, ◌∙◌}
-use Rattle.std.specs.List.{All}
-use Rattle.std.proofs.lemmas.Bool.{cases_eq, cases_lt}
-use Rattle.std.proofs.lemmas.Bool.Decides.{nat_tests}
+use Rattle.fw_map.proofs.Common.{subst, zero, suc, ◌≡◌, inl, inr, ℕ, ◌+◌, ◌-◌, ◌<◌, ◌≤◌, ◌==◌, ◌&&◌, nat_lt, List, [], ◌∷◌, Option, Some, None, Bool, true, false, slice_get, unwrap_or, if◌then◌else◌}
+use Rattle.fw_map.proofs.Common.{arith, refl, ap, ◌∙◌, All, cases_eq, cases_lt, nat_tests, PhyPacket, Fits, counted, counted_yes, counted_else, counted_zero, field_in, field_of, IsLast}
+use Rattle.std.proofs.Common.{◌*◌, nat_le}
 use Rattle.std.proofs.lemmas.List.Elements.{All-head, All-tail}
 use Rattle.std.proofs.lemmas.Option.{slice_get_past}
-use Rattle.fw_phy.specs.declared.packet.PhyPacket.{PhyPacket}
 use Rattle.fw_phy.specs.declared.packet.PhyPacket.TheVariants.{SelfId, SelfIdMore, Config, LinkOn}
-use Rattle.fw_phy.specs.Phy.{Fits}
-use Rattle.fw_tree.specs.Numbers.{counted}
 use Rattle.fw_tree.proofs.ForestLaws.{truth as cases_bool}
-use Rattle.fw_tree.proofs.CountLaws.{counted_yes, counted_else, counted_less, counted_fewer, counted_more, counted_zero}
-use Rattle.fw_map.specs.Fields.{field_in, field_of, IsLast}
+use Rattle.fw_tree.proofs.CountLaws.{counted_less, counted_fewer, counted_more}
 
 either_none : (b : Bool) (o : Option ℕ) → o ≡ None → (if b then o else None) ≡ None
 either_none true o h = h
@@ -19,7 +14,8 @@ either_none false o h = refl
 
 no_field_in : (q : PhyPacket) (d p : ℕ) → Fits q → 27 ≤ p → field_in q d p ≡ None
 no_field_in (SelfId s) d p f h = either_none (s.phy == d) (slice_get s.ports p) (slice_get_past s.ports p (let e = f.shape in omega arith))
-no_field_in (SelfIdMore s) d p f h = either_none ((s.phy == d) && nat_le (3 + 8 * s.number) p) (slice_get s.ports (p - (3 + 8 * s.number))) (slice_get_past s.ports (p - (3 + 8 * s.number)) (let e = f.shape in omega arith))
+no_field_in (SelfIdMore s) d p f h = either_none ((s.phy == d) && nat_le (3 + 8 * s.number) p) (slice_get s.ports (p - (3 + 8 * s.number)))
+    (slice_get_past s.ports (p - (3 + 8 * s.number)) (let e = f.shape in omega arith))
 no_field_in (Config root force_root set_gap gap) d p f h = refl
 no_field_in (LinkOn phy) d p f h = refl
 
@@ -50,7 +46,7 @@ counted_grows f n (suc d) = elim (cases_bool (f (n + d))) [
 pub counted_upto : (f : ℕ → Bool) (m n : ℕ) → m ≤ n → counted f m ≤ counted f n
 counted_upto f m n l = let e : m + (n - m) ≡ n = omega arith in subst (λ (k : ℕ). counted f m ≤ counted f k) e (counted_grows f m (n - m))
 
--- where one number passes it is the last that does
+-- if one number passes it is the last that does
 pub only_one : (f : ℕ → Bool) (n q k : ℕ) → counted f n ≡ 1 → IsLast f n (Some q) → k < n → f k ≡ true → k ≡ q
 only_one f n q k count last low h = elim (cases_eq k q) [
   | inl same ↦ same
@@ -72,14 +68,14 @@ only_one f n q k count last low h = elim (cases_eq k q) [
     first true b h = refl
     first false b h = h
 
--- where none counts, none passes
+-- if none counts, none passes
 pub none_counts : (f : ℕ → Bool) (n k : ℕ) → counted f n ≡ 0 → k < n → f k ≡ false
 none_counts f n k count low = elim (cases_bool (f k)) [
   | inr off ↦ off
   | inl on ↦ absurd (let a = counted_yes f k on in let b = counted_upto f (k + 1) n (omega arith) in omega arith)
 ]
 
--- where exactly one number passes, one counts
+-- if exactly one number passes, one counts
 pub one_counts : (f : ℕ → Bool) (n q : ℕ) → q < n → f q ≡ true → ((k : ℕ) → f k ≡ true → k ≡ q) → counted f n ≡ 1
 one_counts f n q low h only =
     let a = counted_more (λ k. false) f n q low refl h (λ k differ. elim (cases_bool (f k)) [ inr off ↦ off | inl on ↦ absurd (differ (only k on)) ]) in

@@ -1,7 +1,6 @@
 -- The graph of a tree, line by line.
-use Rattle.std.proofs.Common.{◌≡◌, ℕ, suc, ◌+◌, List, [], ◌++◌, slice_get, refl, ap, sym, ◌∙◌, append_assoc, arith}
-use Rattle.fw_entry.specs.declared.nodes.NodeRow.{NodeRow}
-use Rattle.fw_map.specs.declared.tree.Tree.{Tree}
+use Rattle.fw_map.proofs.Common.{◌≡◌, ℕ, suc, ◌+◌, List, [], ◌++◌, slice_get, refl, ap, sym, ◌∙◌, append_assoc, arith, Tree}
+use Rattle.fw_log_entry.specs.declared.nodes.NodeRow.{NodeRow}
 use Rattle.fw_map.specs.Graphs.{box_line, box_lines, edge_line, edge_lines}
 
 pub boxes_none : (rows : List NodeRow) → box_lines rows 0 ≡ []
@@ -20,6 +19,6 @@ pub edges_more : (t : Tree) (n : ℕ) → edge_lines t (n + 1) ≡ edge_lines t 
 unfolding edge_lines
 edges_more t n = let e : n + 1 ≡ suc n = omega arith in ap (edge_lines t) e
 
--- a line more behind a front and lines
+-- a line more after a prefix and lines
 pub line_more : (front lines line more now new : List ℕ) → now ≡ front ++ lines → new ≡ now ++ line → more ≡ lines ++ line → new ≡ front ++ more
 line_more front lines line more now new a b c = b ∙ (ap (λ (x : List ℕ). x ++ line) a ∙ (append_assoc front lines line ∙ ap (λ (x : List ℕ). front ++ x) (sym c)))

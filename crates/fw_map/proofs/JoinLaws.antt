@@ -1,17 +1,10 @@
 -- One node hangs more branches on itself, from its highest child port down.
-use Rattle.std.proofs.Common.{◌≡◌, ◌⊎◌, inl, inr, ℕ, suc, ◌+◌, ◌-◌, ◌<◌, ◌≤◌, ◌==◌, not, List, length, Option, Some, None, Bool, true, false, slice_set, arith, refl, sym, ap, ◌∙◌, get_or-set_same, get_or-set_other, length-set}
-use Rattle.std.specs.List.{All}
-use Rattle.std.proofs.lemmas.Bool.{cases_eq, cases_lt, eq-eqb, ne_eqb}
-use Rattle.fw_phy.specs.declared.packet.PhyPacket.{PhyPacket}
-use Rattle.fw_phy.specs.Phy.{Fits}
-use Rattle.fw_tree.specs.Numbers.{counted, number_at, is_there}
-use Rattle.fw_tree.proofs.CountLaws.{counted_same, counted_none, counted_zero, counted_yes, counted_else, counted_more}
-use Rattle.fw_tree.proofs.ForestLaws.{truth}
-use Rattle.fw_map.specs.declared.tree.Tree.{Tree}
-use Rattle.fw_map.specs.Fields.{field_of, fields}
-use Rattle.fw_map.specs.Faults.{branches}
-use Rattle.fw_map.specs.Trees.{Hangs, HasSizes}
-use Rattle.fw_map.specs.Growing.{IsDone, Grown, Counts, Agrees, is_open, KeepsRest}
+use Rattle.fw_map.proofs.Common.{◌≡◌, ◌⊎◌, inl, inr, ℕ, suc, ◌+◌, ◌-◌, ◌<◌, ◌≤◌, ◌==◌, not, List, length, Option, Some, None, Bool, true, false, slice_set, arith, refl, sym, ap, ◌∙◌, All, cases_eq}
+use Rattle.fw_map.proofs.Common.{cases_lt, eq-eqb, ne_eqb, PhyPacket, Fits, counted, number_at, is_there, counted_same, counted_none, counted_zero, counted_yes, counted_else, truth, Tree, field_of}
+use Rattle.fw_map.proofs.Common.{fields, branches, Hangs, HasSizes, Grown, Agrees, is_open}
+use Rattle.std.proofs.Common.{get_or-set_same, get_or-set_other, length-set}
+use Rattle.fw_tree.proofs.CountLaws.{counted_more}
+use Rattle.fw_map.specs.Growing.{IsDone, Counts, KeepsRest}
 use Rattle.fw_map.proofs.FieldLaws.{no_field}
 use Rattle.fw_map.proofs.ShapeLaws.{some_of, none_of, same_some, hangs_of}
 
@@ -31,7 +24,8 @@ pub record IsJoined (t u : Tree) (c i q : ℕ) : Type 0 where
   pub ports : (x : ℕ) → is_there (number_at u.parent_port x) ≡ is_there (number_at u.parent x)
   pub others : (x : ℕ) → (x ≡ c → ⊥) → number_at u.parent x ≡ number_at t.parent x
 
-pub joined_of : (t u : Tree) (c i q : ℕ) → HasSizes t → c < 63 → number_at t.parent c ≡ None → ((x : ℕ) → is_there (number_at t.parent_port x) ≡ is_there (number_at t.parent x)) → u.parent ≡ slice_set t.parent c (Some i) → u.parent_port ≡ slice_set t.parent_port c (Some q) → IsJoined t u c i q
+pub joined_of : (t u : Tree) (c i q : ℕ) → HasSizes t → c < 63 → number_at t.parent c ≡ None → ((x : ℕ) → is_there (number_at t.parent_port x) ≡ is_there (number_at t.parent x))
+    → u.parent ≡ slice_set t.parent c (Some i) → u.parent_port ≡ slice_set t.parent_port c (Some q) → IsJoined t u c i q
 joined_of t u c i q sizes low free ports e f = record {
   new = record { parent = at_c; port = port_c };
   old = λ x d r h. let w : x ≡ c → ⊥ = λ s. differ x d s h.parent in record { parent = parent_else x w ∙ h.parent; port = port_else x w ∙ h.port };
@@ -65,7 +59,8 @@ joined_of t u c i q sizes low free ports e f = record {
     differ : (x d : ℕ) → x ≡ c → number_at t.parent x ≡ Some d → ⊥
     differ x d s h = let y : number_at t.parent c ≡ number_at t.parent x = ap (number_at t.parent) (sym s) in let z : ⊥ = cc in z
 
-pub rest_of : (s t u : Tree) (c i q : ℕ) → KeepsRest s t → u ≡ record { count = t.count; parent = slice_set t.parent c (Some i); parent_port = slice_set t.parent_port c (Some q); own_port = t.own_port; sp = t.sp } → KeepsRest s u
+pub rest_of : (s t u : Tree) (c i q : ℕ) → KeepsRest s t → u
+    ≡ record { count = t.count; parent = slice_set t.parent c (Some i); parent_port = slice_set t.parent_port c (Some q); own_port = t.own_port; sp = t.sp } → KeepsRest s u
 rest_of s t u c i q k e = record {
   sizes = record {
     parent = ap (λ x. length (parent_of x)) e ∙ (length-set t.parent c (Some i) ∙ k.sizes.parent);
@@ -148,7 +143,8 @@ module _ (ids : List PhyPacket) (i : ℕ) (fits : All Fits ids) where
       ]
 
   -- at the next port down a child is to hang
-  module _ (t : Tree) (p below : ℕ) (some : 0 < p) (is_child : field_of ids i (p - 1) ≡ 3) (low : below ≤ i) (closed : (x : ℕ) → below ≤ x → x < i → is_there (number_at t.parent x) ≡ true) (taken : (x q : ℕ) → Hangs t x i q → below ≤ x) (g : Grown ids i p t) where
+  module _ (t : Tree) (p below : ℕ) (some : 0 < p) (is_child : field_of ids i (p - 1) ≡ 3) (low : below ≤ i) (closed : (x : ℕ) → below ≤ x → x < i → is_there (number_at t.parent x) ≡ true)
+      (taken : (x q : ℕ) → Hangs t x i q → below ≤ x) (g : Grown ids i p t) where
     -- the child that another tree has there has no parent yet
     pub child_open : (s : Tree) (n c : ℕ) → i < n → Grown ids n 27 s → Agrees s t i p → Hangs s c i (p - 1) → number_at t.parent c ≡ None
     child_open s n c m w a h = elim (truth (is_there (number_at t.parent c))) [
@@ -168,7 +164,7 @@ module _ (ids : List PhyPacket) (i : ℕ) (fits : All Fits ids) where
       | inr high ↦ absurd (let x = closed c high (w.up c i (p - 1) h) in let y = child_open s n c m w a h in let z : ⊥ = cc in z)
     ]
 
-    -- where none without a parent is left, a branch is missing
+    -- if none without a parent is left, a branch is missing
     pub missing : ((x : ℕ) → x < below → is_there (number_at t.parent x) ≡ true) → Counts ids i p t → branches ids i < fields ids i 3
     missing none c =
         let f : ℕ → Bool = λ q. field_of ids i q == 3 in
@@ -190,7 +186,8 @@ module _ (ids : List PhyPacket) (i : ℕ) (fits : All Fits ids) where
         let z : ⊥ = cc in z
 
     -- the highest without a parent hangs there
-    module _ (c : ℕ) (u : Tree) (lower : c < below) (free : number_at t.parent c ≡ None) (highest : (x : ℕ) → c < x → x < below → is_there (number_at t.parent x) ≡ true) (j : IsJoined t u c i (p - 1)) where
+    module _ (c : ℕ) (u : Tree) (lower : c < below) (free : number_at t.parent c ≡ None) (highest : (x : ℕ) → c < x → x < below → is_there (number_at t.parent x) ≡ true)
+        (j : IsJoined t u c i (p - 1)) where
       between : (x : ℕ) → c < x → x < i → is_there (number_at t.parent x) ≡ true
       between x l m = elim (cases_lt x below) [ inl k ↦ highest x l k | inr k ↦ closed x k m ]
 
@@ -209,7 +206,9 @@ module _ (ids : List PhyPacket) (i : ℕ) (fits : All Fits ids) where
           let on : f (p - 1) ≡ true = eq-eqb (field_of ids i (p - 1)) 3 is_child in
           let e : p - 1 + 1 ≡ p = omega arith in
           let s : counted f p ≡ counted f (p - 1) + 1 = ap (counted f) (sym e) ∙ counted_yes f (p - 1) on in
-          let fewer : counted (is_open t) i ≡ counted (is_open u) i + 1 = counted_more (is_open u) (is_open t) i c (omega arith) (ap (λ o. not (is_there o)) j.new.parent) (ap (λ o. not (is_there o)) free) (λ x w. ap (λ o. not (is_there o)) (sym (j.others x w))) in
+          let fewer : counted (is_open t) i ≡ counted (is_open u) i + 1 =
+          counted_more (is_open u) (is_open t) i c (omega arith) (ap (λ o. not (is_there o)) j.new.parent) (ap (λ o. not (is_there o)) free)
+          (λ x w. ap (λ o. not (is_there o)) (sym (j.others x w))) in
           omega arith
 
       pub some_grown : Grown ids i (p - 1) u

@@ -1,3 +1,4 @@
+pub mod Common
 pub mod BuiltLaws
 pub mod CablingLaws
 pub mod FieldLaws

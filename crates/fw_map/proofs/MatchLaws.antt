@@ -1,12 +1,10 @@
 -- Counts of numbers that pass: cut off, split, and of two tests that pass at places matched in order.
-use Rattle.std.proofs.Common.{◌≡◌, ◌⊎◌, inl, inr, ℕ, zero, suc, ◌+◌, ◌<◌, ◌≤◌, Bool, true, false, Option, Some, None, if◌then◌else◌, arith, refl, sym, ap, subst, ◌∙◌}
-use Rattle.std.proofs.lemmas.Bool.{cases_eq}
-use Rattle.fw_base.specs.Tables.{find_to}
-use Rattle.fw_base.proofs.Finds.{find_here}
-use Rattle.fw_base.proofs.Tables.{IsFirst, find_to_is}
-use Rattle.fw_tree.specs.Numbers.{counted}
-use Rattle.fw_tree.proofs.CountLaws.{counted_none, counted_yes, counted_else, counted_step, counted_same, counted_zero}
-use Rattle.fw_tree.proofs.ForestLaws.{truth}
+use Rattle.fw_map.proofs.Common.{◌≡◌, ◌⊎◌, inl, inr, ℕ, zero, suc, ◌+◌, ◌<◌, ◌≤◌, Bool, true, false, Option, Some, None, if◌then◌else◌, arith, refl, sym, ap, subst, ◌∙◌, cases_eq, counted}
+use Rattle.fw_map.proofs.Common.{counted_none, counted_yes, counted_else, counted_same, counted_zero, truth}
+use Rattle.fw_terms.specs.Tables.{find_to}
+use Rattle.fw_terms.proofs.Finds.{find_here}
+use Rattle.fw_terms.proofs.Tables.{IsFirst, find_to_is}
+use Rattle.fw_tree.proofs.CountLaws.{counted_step}
 
 -- ---- the first that passes
 
@@ -22,14 +20,14 @@ find_first n k test low at below = find_here n k test (find_all k test below) at
 
 -- ---- counts
 
--- 1 where it holds
+-- 1 if it holds
 abbrev pub one_if : Bool → ℕ
 one_if b = if b then 1 else 0
 
 pub counted_nothing : (f : ℕ → Bool) (n : ℕ) → ((k : ℕ) → k < n → f k ≡ false) → counted f n ≡ 0
 counted_nothing f n none = counted_same f (λ k. false) n none ∙ counted_zero (λ k. false) n (λ k. refl)
 
--- where each that passes one test passes the other
+-- if each that passes one test passes the other
 pub counted_below : (f h : ℕ → Bool) (n : ℕ) → ((k : ℕ) → k < n → h k ≡ true → f k ≡ true) → counted h n ≤ counted f n
 counted_below f h zero sub = omega (arith, counted_none f, counted_none h)
 counted_below f h (suc n) sub =
@@ -92,7 +90,8 @@ matched_count R f g (suc c) q m u = elim (truth (f c)) [
   | inl on ↦
       let e : c + 1 ≡ suc c = omega arith in
       let w = u.to c (omega arith) on in
-      ap (counted f) (sym e) ∙ (counted_yes f c on ∙ (ap (λ n. n + 1) (matched_count R f g c w.0 m (before on w.0 w.1 w.3)) ∙ sym (counted_last g w.0 q w.1 w.2 (λ p a b. none on w.0 w.3 p a b (truth (g p))))))
+      ap (counted f) (sym e) ∙ (counted_yes f c on ∙ (ap (λ n. n + 1) (matched_count R f g c w.0 m (before on w.0 w.1 w.3))
+      ∙ sym (counted_last g w.0 q w.1 w.2 (λ p a b. none on w.0 w.3 p a b (truth (g p))))))
 ]
   where
     without : f c ≡ false → MatchUpTo R f g c q

@@ -1,21 +1,13 @@
 -- What joining one node more keeps.
-use Rattle.std.proofs.Common.{◌≡◌, ◌⊎◌, ◌↔◌, inl, inr, ℕ, zero, suc, ◌+◌, ◌<◌, ◌≤◌, ◌==◌, not, nat_lt, List, length, replicate, Option, Some, None, Bool, true, false, slice_set, if◌then◌else◌, arith, refl, sym, ap, ◌∙◌, get_or-set_same, get_or-set_other, length-set}
-use Rattle.std.specs.List.{All}
-use Rattle.std.proofs.lemmas.Bool.{cases_eq, cases_lt, eq-eqb, ne_eqb}
-use Rattle.std.proofs.lemmas.Bool.Decides.{nat_tests}
+use Rattle.fw_map.proofs.Common.{◌≡◌, ◌⊎◌, inl, inr, ℕ, zero, suc, ◌+◌, ◌<◌, ◌≤◌, ◌==◌, not, nat_lt, List, length, Option, Some, None, Bool, true, false, slice_set, if◌then◌else◌, arith, refl, sym}
+use Rattle.fw_map.proofs.Common.{ap, ◌∙◌, All, cases_eq, cases_lt, eq-eqb, ne_eqb, nat_tests, PhyPacket, Fits, ResetEntry, speed_of, counted, number_at, is_there, counted_none, counted_same}
+use Rattle.fw_map.proofs.Common.{counted_zero, Tree, field_of, fields, IsLast, branches, Hangs, HasSizes, HasPackets, speed_at, Grown, Agrees, Joining, is_open}
+use Rattle.std.proofs.Common.{◌↔◌, replicate}
+use Rattle.std.proofs.Common.{get_or-set_same, get_or-set_other, length-set}
 use Rattle.std.proofs.lemmas.List.{length-replicate}
-use Rattle.fw_phy.specs.declared.packet.PhyPacket.{PhyPacket}
-use Rattle.fw_phy.specs.Phy.{Fits}
-use Rattle.fw_entry.specs.declared.entry.ResetEntry.{ResetEntry}
-use Rattle.fw_entry.specs.Network.{speed_of}
-use Rattle.fw_tree.specs.Numbers.{counted, number_at, is_there}
-use Rattle.fw_tree.proofs.CountLaws.{counted_none, counted_same, counted_zero}
-use Rattle.fw_map.specs.declared.tree.Tree.{Tree}
 use Rattle.fw_map.specs.declared.MapWhy.TheVariants.{Parents, Missing}
-use Rattle.fw_map.specs.Fields.{field_of, fields, IsLast}
-use Rattle.fw_map.specs.Faults.{branches, due, is_last, joining_fault}
-use Rattle.fw_map.specs.Trees.{Hangs, HasSizes, HasPackets, speed_at}
-use Rattle.fw_map.specs.Growing.{Grown, Agrees, Noted, Joining, KeepsRest, is_open}
+use Rattle.fw_map.specs.Faults.{due, is_last, joining_fault}
+use Rattle.fw_map.specs.Growing.{Noted, KeepsRest}
 use Rattle.fw_map.proofs.FieldLaws.{no_field, only_one, none_counts, one_counts}
 use Rattle.fw_map.proofs.OrderLaws.{root_last}
 use Rattle.fw_map.proofs.ShapeLaws.{there, some_of, same_some, root_or_hangs}
@@ -52,7 +44,8 @@ none_counted : (f : ℕ → Bool) (n : ℕ) → IsLast f n None → counted f n 
 none_counted f n h = counted_same f (λ k. false) n h ∙ counted_zero (λ k. false) n (λ k. refl)
 
 -- the port where the one parent port is
-pub own_of : (ids : List PhyPacket) (d : ℕ) (o : Option ℕ) → All Fits ids → (fields ids d 2 ≡ 0) ⊎ (fields ids d 2 ≡ 1) → IsLast (λ p. field_of ids d p == 2) 27 o → (p : ℕ) → (field_of ids d p ≡ 2) ↔ (o ≡ Some p)
+pub own_of : (ids : List PhyPacket) (d : ℕ) (o : Option ℕ) → All Fits ids → (fields ids d 2 ≡ 0) ⊎ (fields ids d 2 ≡ 1) → IsLast (λ p. field_of ids d p == 2) 27 o → (p : ℕ)
+    → (field_of ids d p ≡ 2) ↔ (o ≡ Some p)
 own_of ids d None fits count last p = (
   λ h. absurd (let x = last p (low_port ids d p fits h) in let y = eq-eqb (field_of ids d p) 2 h in let z : ⊥ = cc in z),
   λ h. absurd (let z : ⊥ = cc in z),
@@ -73,7 +66,8 @@ few_due : (n : ℕ) (b : Bool) → n ≡ (if b then 0 else 1) → (n ≡ 0) ⊎ 
 few_due n true h = inl h
 few_due n false h = inr h
 
-noted_next : (e : ResetEntry) (t u : Tree) (d : ℕ) (o : Option ℕ) → HasSizes t → d < 63 → Noted e d t → u.own_port ≡ slice_set t.own_port d o → u.sp ≡ slice_set t.sp d (speed_of d e.ids) → ((p : ℕ) → (field_of e.ids d p ≡ 2) ↔ (o ≡ Some p)) → is_there o ≡ not (is_last e d) → Noted e (d + 1) u
+noted_next : (e : ResetEntry) (t u : Tree) (d : ℕ) (o : Option ℕ) → HasSizes t → d < 63 → Noted e d t → u.own_port ≡ slice_set t.own_port d o → u.sp ≡ slice_set t.sp d (speed_of d e.ids)
+    → ((p : ℕ) → (field_of e.ids d p ≡ 2) ↔ (o ≡ Some p)) → is_there o ≡ not (is_last e d) → Noted e (d + 1) u
 noted_next e t u d o sizes low n a b own there = record {
   own = λ c p l. elim (cases_eq c d) [
     | inl same ↦ (
@@ -122,7 +116,8 @@ joining_none e d a b = none (fields e.ids d 2) (due e d) (branches e.ids d) (fie
     none x y b f h l = grind (arith, nat_tests)
 
 -- one node more
-pub joining_next : (e : ResetEntry) (d : ℕ) (t v u : Tree) (o : Option ℕ) → d < 63 → All Fits e.ids → Joining e d t → KeepsRest t v → Grown e.ids (d + 1) 27 v → counted (is_open v) (d + 1) ≡ branches e.ids (d + 1) → fields e.ids d 3 ≤ branches e.ids d → fields e.ids d 2 ≡ due e d → IsLast (λ p. field_of e.ids d p == 2) 27 o
+pub joining_next : (e : ResetEntry) (d : ℕ) (t v u : Tree) (o : Option ℕ) → d < 63 → All Fits e.ids → Joining e d t → KeepsRest t v → Grown e.ids (d + 1) 27 v
+    → counted (is_open v) (d + 1) ≡ branches e.ids (d + 1) → fields e.ids d 3 ≤ branches e.ids d → fields e.ids d 2 ≡ due e d → IsLast (λ p. field_of e.ids d p == 2) 27 o
     → u.count ≡ v.count → u.parent ≡ v.parent → u.parent_port ≡ v.parent_port → u.own_port ≡ slice_set v.own_port d o → u.sp ≡ slice_set v.sp d (speed_of d e.ids) → Joining e (d + 1) u
 joining_next e d t v u o low fits j k g n enough count last a b c f h = record {
   sizes = record {
@@ -134,7 +129,8 @@ joining_next e d t v u o low fits j k g n enough count last a b c f h = record {
   count = a ∙ (k.count ∙ j.count);
   grown = grown_like e.ids (d + 1) 27 v u b c g;
   counts = counted_same (is_open u) (is_open v) (d + 1) (λ x l. ap (λ xs. not (is_there (number_at xs x))) b) ∙ n;
-  noted = noted_next e v u d o k.sizes low (noted_like e d t v k.own_port k.sp j.noted) f h (own_of e.ids d o fits (few_due (fields e.ids d 2) (is_last e d) count) last) (own_there (λ p. field_of e.ids d p == 2) o (is_last e d) count last);
+  noted = noted_next e v u d o k.sizes low (noted_like e d t v k.own_port k.sp j.noted) f h (own_of e.ids d o fits (few_due (fields e.ids d 2) (is_last e d) count) last)
+      (own_there (λ p. field_of e.ids d p == 2) o (is_last e d) count last);
   joined = λ x l. elim (cases_eq x d) [ inl same ↦ ap (joining_fault e) same ∙ joining_none e d count enough | inr differ ↦ j.joined x (omega arith) ];
 }
 
@@ -155,9 +151,15 @@ zero_at d = zero_from 63 d
     zero_from (suc n) zero = refl
     zero_from (suc n) (suc d) = zero_from n d
 
-pub joining_first : (e : ResetEntry) (n : ℕ) → All Fits e.ids → n ≡ length e.nodes → Joining e 0 (record { count = n; parent = replicate 63 None; parent_port = replicate 63 None; own_port = replicate 63 None; sp = replicate 63 0 })
+pub joining_first : (e : ResetEntry) (n : ℕ) → All Fits e.ids → n ≡ length e.nodes
+    → Joining e 0 (record { count = n; parent = replicate 63 None; parent_port = replicate 63 None; own_port = replicate 63 None; sp = replicate 63 0 })
 joining_first e n fits size = record {
-  sizes = record { parent = length-replicate {A = Option ℕ} 63 None; parent_port = length-replicate {A = Option ℕ} 63 None; own_port = length-replicate {A = Option ℕ} 63 None; sp = length-replicate {A = ℕ} 63 0 };
+  sizes = record {
+    parent = length-replicate {A = Option ℕ} 63 None;
+    parent_port = length-replicate {A = Option ℕ} 63 None;
+    own_port = length-replicate {A = Option ℕ} 63 None;
+    sp = length-replicate {A = ℕ} 63 0;
+  };
   count = size;
   grown = record {
     up = λ c d p h. absurd (no c d p h);
@@ -182,13 +184,14 @@ joining_first e n fits size = record {
     no : (c d p : ℕ) → Hangs (record { count = n; parent = replicate 63 None; parent_port = replicate 63 None; own_port = replicate 63 None; sp = replicate 63 0 }) c d p → ⊥
     no c d p h = let x = h.parent in let y = blank_at c in let z : ⊥ = cc in z
 
-pub agrees_first : (e : ResetEntry) (s : Tree) (n k : ℕ) → All Fits e.ids → Grown e.ids k 27 s → Agrees s (record { count = n; parent = replicate 63 None; parent_port = replicate 63 None; own_port = replicate 63 None; sp = replicate 63 0 }) 0 27
+pub agrees_first : (e : ResetEntry) (s : Tree) (n k : ℕ) → All Fits e.ids → Grown e.ids k 27 s
+    → Agrees s (record { count = n; parent = replicate 63 None; parent_port = replicate 63 None; own_port = replicate 63 None; sp = replicate 63 0 }) 0 27
 agrees_first e s n k fits g = record {
   there = λ c d p k h. absurd (elim k [ inl l ↦ omega arith | inr m ↦ let b = no_field e.ids d p fits m.1 in let f = g.field c d p h in omega arith ]);
   back = λ c d p h. absurd (let x = h.parent in let y = blank_at c in let z : ⊥ = cc in z);
 }
 
--- a node has as many parent ports as it is to have, where a tree has the packets
+-- a node has as many parent ports as it is to have, if a tree has the packets
 pub due_of : (e : ResetEntry) (s : Tree) (d : ℕ) → HasPackets e s → s.count ≤ 63 → All Fits e.ids → d < s.count → fields e.ids d 2 ≡ due e d
 due_of e s d h few fits low = elim (cases_eq (d + 1) s.count) [
   | inl same ↦
@@ -196,7 +199,8 @@ due_of e s d h few fits low = elim (cases_eq (d + 1) s.count) [
       let root : d ≡ e.root = omega arith in
       let none : is_there (number_at s.own_port d) ≡ false = h.own_ports d ∙ ap is_there (ap (number_at s.parent) root ∙ h.top) in
       let size = h.count in
-      counted_zero (λ p. field_of e.ids d p == 2) 27 (λ p. ne_eqb (field_of e.ids d p) 2 (λ f. let x = there (number_at s.own_port d) p ((h.own d p low).0 f) in let z : ⊥ = cc in z)) ∙ sym (due_last (omega arith))
+      counted_zero (λ p. field_of e.ids d p == 2) 27 (λ p. ne_eqb (field_of e.ids d p) 2 (λ f. let x = there (number_at s.own_port d) p ((h.own d p low).0 f) in let z : ⊥ = cc in z))
+      ∙ sym (due_last (omega arith))
   | inr differ ↦
       let last = root_last e s h few in
       let size = h.count in
@@ -206,7 +210,8 @@ due_of e s d h few fits low = elim (cases_eq (d + 1) s.count) [
             let q = some_of (number_at s.own_port d) (h.own_ports d ∙ there (number_at s.parent d) up.0 up.2.parent) in
             let f = (h.own d q.0 low).1 q.1 in
             let l : q.0 < 27 = elim (cases_lt q.0 27) [ inl l ↦ l | inr m ↦ absurd (let z = no_field e.ids d q.0 fits m in omega arith) ] in
-            one_counts (λ p. field_of e.ids d p == 2) 27 q.0 l (eq-eqb (field_of e.ids d q.0) 2 f) (λ k g. same_some (number_at s.own_port d) k q.0 ((h.own d k low).0 (is_two (field_of e.ids d k) g)) q.1) ∙ sym (due_else (omega arith))
+            one_counts (λ p. field_of e.ids d p == 2) 27 q.0 l (eq-eqb (field_of e.ids d q.0) 2 f)
+            (λ k g. same_some (number_at s.own_port d) k q.0 ((h.own d k low).0 (is_two (field_of e.ids d k) g)) q.1) ∙ sym (due_else (omega arith))
       ]
 ]
   where

@@ -1,18 +1,10 @@
 -- In a tree whose numbers are those of self-identification, the numbers tell who hangs on whom.
-use Rattle.std.proofs.Common.{◌≡◌, inl, inr, ℕ, ◌+◌, ◌-◌, ◌<◌, ◌≤◌, ◌&&◌, nat_lt, List, [], ◌∷◌, ◌++◌, Bool, true, false, arith, refl, sym, ap, ◌∙◌}
-use Rattle.std.specs.List.{All}
-use Rattle.std.proofs.lemmas.Bool.{cases_eq, cases_lt}
-use Rattle.std.proofs.lemmas.Bool.Decides.{nat_tests}
-use Rattle.fw_phy.specs.Phy.{Fits}
-use Rattle.fw_entry.specs.declared.entry.ResetEntry.{ResetEntry}
-use Rattle.fw_tree.specs.Numbers.{counted}
-use Rattle.fw_tree.specs.Paths.{comes_before, is_front}
+use Rattle.fw_map.proofs.Common.{◌≡◌, inl, inr, ℕ, ◌+◌, ◌-◌, ◌<◌, ◌≤◌, ◌&&◌, nat_lt, List, [], ◌∷◌, ◌++◌, Bool, true, false, arith, refl, sym, ap, ◌∙◌, All, cases_eq, cases_lt, nat_tests, Fits}
+use Rattle.fw_map.proofs.Common.{ResetEntry, counted, comes_before, Tree, field_of, Hangs, at_root, down_to, HasPackets, Grown}
+use Rattle.fw_tree.specs.Paths.{is_front}
 use Rattle.fw_tree.proofs.CountLaws.{counted_less}
 use Rattle.fw_tree.proofs.StepLaws.{irreflexive}
-use Rattle.fw_map.specs.declared.tree.Tree.{Tree}
-use Rattle.fw_map.specs.Fields.{field_of}
-use Rattle.fw_map.specs.Trees.{Hangs, at_root, down_to, HasPackets}
-use Rattle.fw_map.specs.Growing.{IsDone, Grown}
+use Rattle.fw_map.specs.Growing.{IsDone}
 use Rattle.fw_map.proofs.PathLaws.{transitive, total, child_first, sibling_port, between, front_of_child, front_first}
 use Rattle.fw_map.proofs.FieldLaws.{no_field}
 use Rattle.fw_map.proofs.ShapeLaws.{one_way, root_or_hangs}
@@ -37,8 +29,10 @@ module _ (e : ResetEntry) (t : Tree) (h : HasPackets e t) (few : t.count ≤ 63)
 
   pub first_lower : (x y : ℕ) → x < t.count → y < t.count → comes_before (h.numbers.paths x) (h.numbers.paths y) ≡ true → x < y
   first_lower x y a b l =
-      let less = counted_less (λ c. nat_lt c t.count && comes_before (h.numbers.paths c) (h.numbers.paths y)) (λ c. nat_lt c t.count && comes_before (h.numbers.paths c) (h.numbers.paths x)) 63 x (omega arith)
-      (λ k m. and_more k t.count (comes_before (h.numbers.paths k) (h.numbers.paths x)) (comes_before (h.numbers.paths k) (h.numbers.paths y)) (λ i. transitive (h.numbers.paths k) (h.numbers.paths x) (h.numbers.paths y) i l) m)
+      let less = counted_less (λ c. nat_lt c t.count && comes_before (h.numbers.paths c) (h.numbers.paths y)) (λ c. nat_lt c t.count && comes_before (h.numbers.paths c) (h.numbers.paths x)) 63 x
+      (omega arith)
+      (λ k m. and_more k t.count (comes_before (h.numbers.paths k) (h.numbers.paths x)) (comes_before (h.numbers.paths k) (h.numbers.paths y))
+      (λ i. transitive (h.numbers.paths k) (h.numbers.paths x) (h.numbers.paths y) i l) m)
       (and_not x t.count (comes_before (h.numbers.paths x) (h.numbers.paths x)) (irreflexive (h.numbers.paths x)))
       (low_and x t.count (comes_before (h.numbers.paths x) (h.numbers.paths y)) a l) in
       let p = h.numbers.places x a in

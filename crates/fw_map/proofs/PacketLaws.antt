@@ -1,19 +1,15 @@
 -- What the packets of a numbering say of its nodes' ports and speeds.
-use Rattle.std.proofs.Common.{◌≡◌, inl, inr, ℕ, zero, suc, ◌+◌, ◌-◌, ◌<◌, ◌≤◌, ◌==◌, ◌&&◌, nat_lt, nat_le, List, [], ◌∷◌, ◌++◌, Option, Some, None, Bool, true, false, slice_get, slice_index_or, unwrap_or, if◌then◌else◌, arith, refl, sym, ap, ◌∙◌}
-use Rattle.std.proofs.lemmas.Bool.{cases_eq, cases_lt, eq-eqb, ne_eqb}
-use Rattle.std.proofs.lemmas.Bool.Decides.{nat_tests}
+use Rattle.fw_map.proofs.Common.{◌≡◌, inl, inr, ℕ, zero, suc, ◌+◌, ◌-◌, ◌<◌, ◌≤◌, ◌==◌, ◌&&◌, nat_lt, List, [], ◌∷◌, ◌++◌, Option, Some, None, Bool, true, false, slice_get, slice_index_or, unwrap_or}
+use Rattle.fw_map.proofs.Common.{if◌then◌else◌, arith, refl, sym, ap, ◌∙◌, cases_eq, cases_lt, eq-eqb, ne_eqb, nat_tests, PhyPacket, speed_of, number_at, field_in, field_of}
+use Rattle.std.proofs.Common.{nat_le}
 use Rattle.std.proofs.lemmas.Option.{slice_get_past}
-use Rattle.fw_phy.specs.declared.packet.PhyPacket.{PhyPacket}
 use Rattle.fw_phy.specs.declared.packet.PhyPacket.TheVariants.{SelfId, SelfIdMore, Config, LinkOn}
-use Rattle.fw_entry.specs.Network.{speed_of}
 use Rattle.fw_tree.specs.declared.facts.End.{End}
 use Rattle.fw_tree.specs.declared.facts.PhyFacts.{PhyFacts}
 use Rattle.fw_tree.specs.Cables.{Peers}
-use Rattle.fw_tree.specs.Numbers.{number_at}
 use Rattle.fw_tree.specs.SelfIds.{cable_code, port_code, first_port, first_packet, more_packet, further_packet, node_packets, facts_at, ArePackets, no_node, node}
-use Rattle.fw_map.specs.Fields.{field_in, field_of}
 
--- the field of a port in packets, or another where none has it
+-- the field of a port in packets, or another if none has it
 field_or : ℕ → ℕ → List PhyPacket → ℕ → ℕ
 field_or d p [] z = z
 field_or d p (q ∷ qs) z = unwrap_or (field_in q d p) (field_or d p qs z)
@@ -52,7 +48,8 @@ first_other f cables parent k b d p differ = if_false (k == d) _ (ne_eqb k d dif
 more_other : (f : PhyFacts) (cables : List (Option End)) (parent : Option ℕ) (k number d p : ℕ) → (k ≡ d → ⊥) → field_in (more_packet f cables parent k number) d p ≡ None
 more_other f cables parent k number d p differ = if_false ((k == d) && nat_le (first_port number) p) _ (and_false (k == d) (nat_le (first_port number) p) (ne_eqb k d differ))
 
-further_none : (f : PhyFacts) (cables : List (Option End)) (parent : Option ℕ) (k number d p z : ℕ) → field_in (more_packet f cables parent k number) d p ≡ None → field_or d p (further_packet f cables parent k number) z ≡ z
+further_none : (f : PhyFacts) (cables : List (Option End)) (parent : Option ℕ) (k number d p z : ℕ) → field_in (more_packet f cables parent k number) d p ≡ None
+    → field_or d p (further_packet f cables parent k number) z ≡ z
 unfolding field_or
 further_none f cables parent k number d p z h = step (nat_lt (first_port number) f.ports)
   where
@@ -69,7 +66,8 @@ node_other : (f : PhyFacts) (cables : List (Option End)) (parent : Option ℕ) (
 node_other f cables parent k b d p z differ =
     let n : (number y : ℕ) → field_or d p (further_packet f cables parent k number) y ≡ y = λ number y. further_none f cables parent k number d p y (more_other f cables parent k number d p differ) in
     node_append d p (first_packet f cables parent k b) (further_packet f cables parent k 0) (further_packet f cables parent k 1) (further_packet f cables parent k 2) z
-    ∙ (ap (λ o. unwrap_or o (field_or d p (further_packet f cables parent k 0) (field_or d p (further_packet f cables parent k 1) (field_or d p (further_packet f cables parent k 2) z)))) (first_other f cables parent k b d p differ)
+    ∙ (ap (λ o. unwrap_or o (field_or d p (further_packet f cables parent k 0) (field_or d p (further_packet f cables parent k 1) (field_or d p (further_packet f cables parent k 2) z))))
+    (first_other f cables parent k b d p differ)
     ∙ (n 0 (field_or d p (further_packet f cables parent k 1) (field_or d p (further_packet f cables parent k 2) z))
     ∙ (n 1 (field_or d p (further_packet f cables parent k 2) z) ∙ n 2 z)))
 
@@ -92,13 +90,16 @@ three f (suc (suc zero)) l = refl
 three f (suc (suc (suc k))) l = absurd (omega arith)
 
 -- the packets of the node itself
-first_own : (f : PhyFacts) (cables : List (Option End)) (parent : Option ℕ) (d : ℕ) (b : Bool) (p : ℕ) → p < 3 → field_in (first_packet f cables parent d b) d p ≡ Some (port_code f.ports cables parent p)
+first_own : (f : PhyFacts) (cables : List (Option End)) (parent : Option ℕ) (d : ℕ) (b : Bool) (p : ℕ) → p < 3
+    → field_in (first_packet f cables parent d b) d p ≡ Some (port_code f.ports cables parent p)
 first_own f cables parent d b p l = if_true (d == d) _ (eq-eqb d d refl) ∙ three (port_code f.ports cables parent) p l
 
 first_past : (f : PhyFacts) (cables : List (Option End)) (parent : Option ℕ) (d : ℕ) (b : Bool) (p : ℕ) → 3 ≤ p → field_in (first_packet f cables parent d b) d p ≡ None
-first_past f cables parent d b p l = if_true (d == d) _ (eq-eqb d d refl) ∙ slice_get_past (port_code f.ports cables parent 0 ∷ port_code f.ports cables parent 1 ∷ port_code f.ports cables parent 2 ∷ []) p l
+first_past f cables parent d b p l = if_true (d == d) _ (eq-eqb d d refl)
+    ∙ slice_get_past (port_code f.ports cables parent 0 ∷ port_code f.ports cables parent 1 ∷ port_code f.ports cables parent 2 ∷ []) p l
 
-more_own : (f : PhyFacts) (cables : List (Option End)) (parent : Option ℕ) (d number p : ℕ) → first_port number ≤ p → p < first_port number + 8 → field_in (more_packet f cables parent d number) d p ≡ Some (port_code f.ports cables parent p)
+more_own : (f : PhyFacts) (cables : List (Option End)) (parent : Option ℕ) (d number p : ℕ) → first_port number ≤ p → p < first_port number + 8
+    → field_in (more_packet f cables parent d number) d p ≡ Some (port_code f.ports cables parent p)
 more_own f cables parent d number p l m =
     let g = port_code f.ports cables parent in
     let at = first_port number in
@@ -135,7 +136,8 @@ no_port n cables parent p l = step (nat_lt p n) (cable_code (slice_index_or cabl
     step : (b : Bool) (x : ℕ) → b ≡ false → (if b then x else 0) ≡ 0
     step b x h = rw h refl
 
-further_own : (f : PhyFacts) (cables : List (Option End)) (parent : Option ℕ) (d number p z : ℕ) → z ≡ 0 → first_port number ≤ p → p < first_port number + 8 → field_or d p (further_packet f cables parent d number) z ≡ port_code f.ports cables parent p
+further_own : (f : PhyFacts) (cables : List (Option End)) (parent : Option ℕ) (d number p z : ℕ) → z ≡ 0 → first_port number ≤ p → p < first_port number + 8
+    → field_or d p (further_packet f cables parent d number) z ≡ port_code f.ports cables parent p
 unfolding field_or
 further_own f cables parent d number p z blank l m = elim (cases_lt (first_port number) f.ports) [
   | inl has ↦ step (nat_lt (first_port number) f.ports) (low (first_port number) f.ports has)
@@ -156,7 +158,8 @@ further_own f cables parent d number p z blank l m = elim (cases_lt (first_port 
     none true h lacks = absurd (let k : ⊥ = cc in k)
     none false h lacks = blank ∙ sym (no_port f.ports cables parent p (omega arith))
 
-node_own : (f : PhyFacts) (cables : List (Option End)) (parent : Option ℕ) (d : ℕ) (b : Bool) (p : ℕ) → f.ports ≤ 27 → field_or d p (node_packets f cables parent d b) 0 ≡ port_code f.ports cables parent p
+node_own : (f : PhyFacts) (cables : List (Option End)) (parent : Option ℕ) (d : ℕ) (b : Bool) (p : ℕ) → f.ports ≤ 27
+    → field_or d p (node_packets f cables parent d b) 0 ≡ port_code f.ports cables parent p
 node_own f cables parent d b p few =
     node_append d p (first_packet f cables parent d b) (further_packet f cables parent d 0) (further_packet f cables parent d 1) (further_packet f cables parent d 2) 0 ∙ elim (cases_lt p 3) [
       | inl l ↦ ap (λ o. unwrap_or o (x 0 (x 1 (x 2 0)))) (first_own f cables parent d b p l)
@@ -189,7 +192,9 @@ none_from fs g number parents i n v p z ps l (node {n = k} {ps = qs} a d h e) =
     ∙ node_other (facts_at fs d) (slice_index_or g d []) (number_at parents d) k (d == i) v p z (λ s. omega arith)))
 
 -- the field of a node's port is the code of its device's port
-pub fields_are : (fs : List PhyFacts) (g : Peers) (number parents : List (Option ℕ)) (i n v d p : ℕ) (ps : List PhyPacket) → ((d e n : ℕ) → number_at number d ≡ Some n → number_at number e ≡ Some n → d ≡ e) → (facts_at fs d).ports ≤ 27 → v < n → number_at number d ≡ Some v → ArePackets fs g number parents i n ps → field_of ps v p ≡ port_code (facts_at fs d).ports (slice_index_or g d []) (number_at parents d) p
+pub fields_are : (fs : List PhyFacts) (g : Peers) (number parents : List (Option ℕ)) (i n v d p : ℕ) (ps : List PhyPacket)
+    → ((d e n : ℕ) → number_at number d ≡ Some n → number_at number e ≡ Some n → d ≡ e) → (facts_at fs d).ports ≤ 27 → v < n → number_at number d ≡ Some v → ArePackets fs g number parents i n ps
+    → field_of ps v p ≡ port_code (facts_at fs d).ports (slice_index_or g d []) (number_at parents d) p
 fields_are fs g number parents i n v d p ps one few l at no_node = absurd (omega arith)
 fields_are fs g number parents i n v d p ps one few l at (node {n = k} {ps = qs} a c h e) =
     field_is v p ps ∙ (ap (λ xs. field_or v p xs 0) e ∙ (field_append v p qs (node_packets (facts_at fs c) (slice_index_or g c []) (number_at parents c) k (c == i)) 0 ∙ elim (cases_eq k v) [
@@ -204,7 +209,7 @@ fields_are fs g number parents i n v d p ps one few l at (node {n = k} {ps = qs}
           ∙ (sym (field_is v p qs) ∙ fields_are fs g number parents i k v d p qs one few (omega arith) at a)
     ]))
 
--- the speed in the first packet zero of a node, or another where it has none
+-- the speed in the first packet zero of a node, or another if it has none
 speed_or : ℕ → List PhyPacket → ℕ → ℕ
 speed_or n [] z = z
 speed_or n (SelfId s ∷ ps) z = if s.phy == n then s.speed else speed_or n ps z
@@ -242,7 +247,9 @@ speed_node f cables parent k b v z =
     let x = further_packet f cables parent k 0 in
     let y = further_packet f cables parent k 1 in
     let w = further_packet f cables parent k 2 in
-    ap (λ u. if k == v then f.speed else u) (speed_append v (x ++ y) w z ∙ (speed_append v x y (speed_or v w z) ∙ (speed_further f cables parent k 0 v (speed_or v y (speed_or v w z)) ∙ (speed_further f cables parent k 1 v (speed_or v w z) ∙ speed_further f cables parent k 2 v z))))
+    ap (λ u. if k == v then f.speed else u) (speed_append v (x ++ y) w z
+    ∙ (speed_append v x y (speed_or v w z) ∙ (speed_further f cables parent k 0 v (speed_or v y (speed_or v w z))
+    ∙ (speed_further f cables parent k 1 v (speed_or v w z) ∙ speed_further f cables parent k 2 v z))))
 
 if_same : (k v a b : ℕ) → k ≡ v → (if k == v then a else b) ≡ a
 if_same k v a b h = grind (arith, nat_tests)
@@ -259,7 +266,9 @@ no_speed fs g number parents i n v z ps l (node {n = k} {ps = qs} a d h e) =
     ∙ (speed_node (facts_at fs d) (slice_index_or g d []) (number_at parents d) k (d == i) v z ∙ if_differ k v (facts_at fs d).speed z (λ s. omega arith))))
 
 -- the speed of a node is that of its device
-pub speeds_are : (fs : List PhyFacts) (g : Peers) (number parents : List (Option ℕ)) (i n v d : ℕ) (ps : List PhyPacket) → ((d e n : ℕ) → number_at number d ≡ Some n → number_at number e ≡ Some n → d ≡ e) → v < n → number_at number d ≡ Some v → ArePackets fs g number parents i n ps → speed_of v ps ≡ (facts_at fs d).speed
+pub speeds_are : (fs : List PhyFacts) (g : Peers) (number parents : List (Option ℕ)) (i n v d : ℕ) (ps : List PhyPacket)
+    → ((d e n : ℕ) → number_at number d ≡ Some n → number_at number e ≡ Some n → d ≡ e) → v < n → number_at number d ≡ Some v → ArePackets fs g number parents i n ps
+    → speed_of v ps ≡ (facts_at fs d).speed
 speeds_are fs g number parents i n v d ps one l at no_node = absurd (omega arith)
 speeds_are fs g number parents i n v d ps one l at (node {n = k} {ps = qs} a c h e) =
     let own = node_packets (facts_at fs c) (slice_index_or g c []) (number_at parents c) k (c == i) in
@@ -283,7 +292,8 @@ child_code n cables parent p h = step (nat_lt p n) (slice_index_or cables p None
     differ : (p q : ℕ) → ◌≡◌ {A = ℕ} (if p == q then 2 else 3) 3 → p ≡ q → ⊥
     differ p q h e = grind (arith, nat_tests)
 
-    step : (b : Bool) (o : Option End) (u : Option ℕ) → (if b then cable_code o u p else 0) ≡ 3 → slice_index_or cables p None ≡ o → (e : End) × (slice_index_or cables p None ≡ Some e) × (u ≡ Some p → ⊥)
+    step : (b : Bool) (o : Option End) (u : Option ℕ) → (if b then cable_code o u p else 0) ≡ 3 → slice_index_or cables p None ≡ o → (e : End) × (slice_index_or cables p None ≡ Some e)
+        × (u ≡ Some p → ⊥)
     step false o u h k = absurd (omega arith)
     step true None u h k = absurd (omega arith)
     step true (Some e) None h k = (e, k, λ x. let z : ⊥ = cc in z)

@@ -1,8 +1,6 @@
 -- Paths of ports, and which comes before which.
-use Rattle.std.proofs.Common.{◌≡◌, ◌⊎◌, inl, inr, ℕ, ◌<◌, ◌==◌, ◌&&◌, nat_lt, List, [], ◌∷◌, ◌++◌, Bool, true, if◌then◌else◌, arith, refl, sym}
-use Rattle.std.proofs.lemmas.Bool.{cases_eq, cases_lt}
-use Rattle.std.proofs.lemmas.Bool.Decides.{nat_tests}
-use Rattle.fw_tree.specs.Paths.{comes_before, is_left, is_front}
+use Rattle.fw_map.proofs.Common.{◌≡◌, ◌⊎◌, inl, inr, ℕ, ◌<◌, ◌==◌, ◌&&◌, nat_lt, List, [], ◌∷◌, ◌++◌, Bool, true, if◌then◌else◌, arith, refl, sym, cases_eq, cases_lt, nat_tests, comes_before}
+use Rattle.fw_tree.specs.Paths.{is_left, is_front}
 
 -- the order is transitive and total
 pub transitive : (u v w : List ℕ) → comes_before u v ≡ true → comes_before v w ≡ true → comes_before u w ≡ true
@@ -11,7 +9,8 @@ transitive (x ∷ u) [] w h k = absurd (let z : ⊥ = cc in z)
 transitive (x ∷ u) (y ∷ v) [] h k = refl
 transitive (x ∷ u) (y ∷ v) (z ∷ w) h k = step x y z (comes_before u v) (comes_before v w) (comes_before u w) (transitive u v w) h k
   where
-    step : (x y z : ℕ) (a b c : Bool) → (a ≡ true → b ≡ true → c ≡ true) → (if x == y then a else nat_lt x y) ≡ true → (if y == z then b else nat_lt y z) ≡ true → (if x == z then c else nat_lt x z) ≡ true
+    step : (x y z : ℕ) (a b c : Bool) → (a ≡ true → b ≡ true → c ≡ true) → (if x == y then a else nat_lt x y) ≡ true → (if y == z then b else nat_lt y z) ≡ true
+        → (if x == z then c else nat_lt x z) ≡ true
     step x y z a b c e h k = grind (arith, nat_tests)
 
 pub total : (u v : List ℕ) → (comes_before u v ≡ true) ⊎ (u ≡ v) ⊎ (comes_before v u ≡ true)
@@ -79,12 +78,13 @@ front_of_child (y ∷ ys) (x ∷ k) p h = step y x ys k p (front_of_child ys k p
     join : (y x : ℕ) (a : Bool) → y ≡ x → a ≡ true → ((y == x) && a) ≡ true
     join y x a e h = grind (arith, nat_tests)
 
-    step : (y x : ℕ) (ys k : List ℕ) (p : ℕ) → (is_front ys (k ++ p ∷ []) ≡ true → (is_front ys k ≡ true) ⊎ (ys ≡ k ++ p ∷ [])) → ((y == x) && is_front ys (k ++ p ∷ [])) ≡ true → (((y == x) && is_front ys k) ≡ true) ⊎ (y ∷ ys ≡ x ∷ (k ++ p ∷ []))
+    step : (y x : ℕ) (ys k : List ℕ) (p : ℕ) → (is_front ys (k ++ p ∷ []) ≡ true → (is_front ys k ≡ true) ⊎ (ys ≡ k ++ p ∷ [])) → ((y == x) && is_front ys (k ++ p ∷ [])) ≡ true
+        → (((y == x) && is_front ys k) ≡ true) ⊎ (y ∷ ys ≡ x ∷ (k ++ p ∷ []))
     step y x ys k p f h =
         let e = same y x (is_front ys (k ++ p ∷ [])) h in
         elim (f (rest y x (is_front ys (k ++ p ∷ [])) h)) [ inl u ↦ inl (join y x (is_front ys k) e u) | inr s ↦ inr (cc) ]
 
--- what a path is a front of is the same or comes before it
+-- what a path is a prefix of is the same or comes before it
 pub front_first : (k v : List ℕ) → is_front k v ≡ true → (v ≡ k) ⊎ (comes_before v k ≡ true)
 front_first [] [] h = inl refl
 front_first [] (x ∷ v) h = inr refl

@@ -1,17 +1,7 @@
 -- In a tree that has the packets of a reset entry, who hangs on whom is told by the places of branches among those without a parent.
-use Rattle.std.proofs.Common.{◌≡◌, inl, inr, ℕ, zero, suc, ◌+◌, ◌-◌, ◌<◌, ◌≤◌, ◌==◌, ◌&&◌, nat_lt, nat_le, length, Bool, true, false, Option, Some, None, arith, refl, sym, ap, ◌∙◌}
-use Rattle.std.specs.List.{All}
-use Rattle.std.proofs.lemmas.Bool.{cases_eq, cases_lt, eq-eqb}
-use Rattle.std.proofs.lemmas.Bool.Decides.{nat_tests}
-use Rattle.fw_phy.specs.Phy.{Fits}
-use Rattle.fw_entry.specs.declared.entry.ResetEntry.{ResetEntry}
-use Rattle.fw_tree.specs.Numbers.{counted, number_at}
-use Rattle.fw_tree.proofs.CountLaws.{counted_none, counted_yes}
-use Rattle.fw_map.specs.declared.tree.Tree.{Tree}
-use Rattle.fw_map.specs.Fields.{field_of, fields}
-use Rattle.fw_map.specs.Faults.{branches}
-use Rattle.fw_map.specs.Trees.{Hangs, HasPackets}
-use Rattle.fw_map.specs.Growing.{Grown}
+use Rattle.fw_map.proofs.Common.{◌≡◌, inl, inr, ℕ, zero, suc, ◌+◌, ◌-◌, ◌<◌, ◌≤◌, ◌==◌, ◌&&◌, nat_lt, length, Bool, true, false, Option, Some, None, arith, refl, sym, ap, ◌∙◌, All, cases_eq, cases_lt}
+use Rattle.fw_map.proofs.Common.{eq-eqb, nat_tests, Fits, ResetEntry, counted, number_at, counted_none, counted_yes, Tree, field_of, fields, branches, Hangs, HasPackets, Grown}
+use Rattle.std.proofs.Common.{nat_le}
 use Rattle.fw_map.specs.Rebuilt.{place_in, takes, parent_in, port_in}
 use Rattle.fw_map.proofs.FieldLaws.{no_field, counted_upto}
 use Rattle.fw_map.proofs.JoinLaws.{branches_none, branches_step}
@@ -172,7 +162,8 @@ module _ (e : ResetEntry) (t : Tree) (h : HasPackets e t) (few : t.count ≤ 63)
     own_place =
         let a = place_is c (omega (arith, up, low)) in
         let b = parent_place in
-        let s = counted_split (λ x. is_behind (c + 1) (number_at t.parent x)) (λ x. is_behind (d + 1) (number_at t.parent x)) (λ x. is_on d (number_at t.parent x)) c (λ x l. each x l (number_at t.parent x) refl) in
+        let s = counted_split (λ x. is_behind (c + 1) (number_at t.parent x)) (λ x. is_behind (d + 1) (number_at t.parent x)) (λ x. is_on d (number_at t.parent x)) c
+        (λ x l. each x l (number_at t.parent x) refl) in
         omega arith
       where
         each : (x : ℕ) → x < c → (o : Option ℕ) → number_at t.parent x ≡ o → one_if (is_behind (c + 1) o) ≡ one_if (is_behind (d + 1) o) + one_if (is_on d o)
@@ -184,7 +175,8 @@ module _ (e : ResetEntry) (t : Tree) (h : HasPackets e t) (few : t.count ≤ 63)
     between j l m =
         let a = place_is c (omega (arith, low)) in
         let b = place_is j (omega (arith, low)) in
-        let x = counted_below (λ x. is_behind (j + 1) (number_at t.parent x)) (λ x. is_behind (c + 1) (number_at t.parent x)) c (λ x n on. behind_less (j + 1) d (number_at t.parent x) (omega arith) (above x n (number_at t.parent x) refl on)) in
+        let x = counted_below (λ x. is_behind (j + 1) (number_at t.parent x)) (λ x. is_behind (c + 1) (number_at t.parent x)) c
+        (λ x n on. behind_less (j + 1) d (number_at t.parent x) (omega arith) (above x n (number_at t.parent x) refl on)) in
         let y = counted_yes (λ x. is_behind (j + 1) (number_at t.parent x)) c (ap (is_behind (j + 1)) k.parent ∙ le_yes (j + 1) d (omega arith)) in
         let z = counted_upto (λ x. is_behind (j + 1) (number_at t.parent x)) (c + 1) j (omega arith) in
         omega arith
@@ -196,7 +188,8 @@ module _ (e : ResetEntry) (t : Tree) (h : HasPackets e t) (few : t.count ≤ 63)
 
     pub port_is : t.count ≡ length e.nodes → port_in e c ≡ Some p
     port_is count =
-        rw (parent_is count) (find_first 27 p (λ q. (field_of e.ids d q == 3) && (counted (λ r. field_of e.ids d r == 3) q == (place_in e.ids c - place_in e.ids d))) (low_port c d p k) here (λ q l. lower q l))
+        rw (parent_is count) (find_first 27 p (λ q. (field_of e.ids d q == 3) && (counted (λ r. field_of e.ids d r == 3) q == (place_in e.ids c - place_in e.ids d))) (low_port c d p k) here
+        (λ q l. lower q l))
       where
         behind : place_in e.ids c - place_in e.ids d ≡ counted (λ r. field_of e.ids d r == 3) p
         behind = let a = own_place in let b = elder c d p k in omega arith

@@ -1,21 +1,14 @@
 -- Which fault is the first, and that a reset entry has one tree at most.
-use Rattle.std.proofs.Common.{◌≡◌, ◌↔◌, inl, inr, ℕ, ◌+◌, ◌<◌, ◌≤◌, ◌==◌, not, nat_lt, length, Option, Some, None, Result, Err, Bool, true, false, if◌then◌else◌, arith, refl, sym, ap, subst, ◌∙◌}
-use Rattle.std.specs.List.{All}
-use Rattle.std.proofs.lemmas.Bool.{cases_eq, cases_lt}
-use Rattle.std.proofs.lemmas.Bool.Decides.{nat_tests}
+use Rattle.fw_map.proofs.Common.{◌≡◌, inl, inr, ℕ, ◌+◌, ◌<◌, ◌≤◌, ◌==◌, not, nat_lt, length, Option, Some, None, Bool, true, false, if◌then◌else◌, arith, refl, sym, ap, subst, ◌∙◌, All, cases_eq}
+use Rattle.fw_map.proofs.Common.{cases_lt, nat_tests, Fits, ResetEntry, counted, number_at, is_there, counted_same, counted_zero, counted_yes, counted_else, truth, Tree, branches, HasPackets}
+use Rattle.fw_map.proofs.Common.{speed_at, Agrees, Joining, is_open}
+use Rattle.std.proofs.Common.{◌↔◌, Result, Err}
 use Rattle.std.proofs.lemmas.List.{ext_get_or}
-use Rattle.fw_phy.specs.Phy.{Fits}
-use Rattle.fw_entry.specs.declared.entry.ResetEntry.{ResetEntry}
-use Rattle.fw_tree.specs.Numbers.{counted, number_at, is_there}
-use Rattle.fw_tree.proofs.CountLaws.{counted_same, counted_zero, counted_yes, counted_else}
-use Rattle.fw_tree.proofs.ForestLaws.{truth}
-use Rattle.fw_map.specs.declared.tree.Tree.{Tree}
 use Rattle.fw_map.specs.declared.MapFault.{MapFault}
 use Rattle.fw_map.specs.declared.MapWhy.{MapWhy}
 use Rattle.fw_map.specs.declared.MapWhy.TheVariants.{Left, Root}
-use Rattle.fw_map.specs.Faults.{branches, is_last, joining_fault, last_fault, node_fault, or_else, IsFault}
-use Rattle.fw_map.specs.Trees.{HasPackets, speed_at}
-use Rattle.fw_map.specs.Growing.{Agrees, AreJoined, Joining, is_open}
+use Rattle.fw_map.specs.Faults.{is_last, joining_fault, last_fault, node_fault, or_else, IsFault}
+use Rattle.fw_map.specs.Growing.{AreJoined}
 use Rattle.fw_map.proofs.FieldLaws.{no_field, counted_upto}
 use Rattle.fw_map.proofs.OrderLaws.{root_last}
 use Rattle.fw_map.proofs.ShapeLaws.{there, some_of, none_of, hangs_of, root_or_hangs}

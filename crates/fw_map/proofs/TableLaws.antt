@@ -1,7 +1,7 @@
 -- The fields of all nodes, noted packet by packet from the last to the first.
-use Rattle.std.proofs.Common.{◌≡◌, ℕ, zero, suc, ◌-◌, ◌<◌, ◌≤◌, List, [], length, drop, replicate, slice_index, slice_index_or, get_or, unwrap_or, arith, refl, sym, ap, ◌∙◌}
-use Rattle.fw_phy.specs.declared.packet.PhyPacket.{PhyPacket}
-use Rattle.fw_map.specs.Fields.{field_in, AreRows, HasFields}
+use Rattle.fw_map.proofs.Common.{◌≡◌, ℕ, zero, suc, ◌-◌, ◌<◌, ◌≤◌, List, [], length, drop, slice_index, slice_index_or, unwrap_or, arith, refl, sym, ap, ◌∙◌, PhyPacket, field_in}
+use Rattle.std.proofs.Common.{replicate, get_or}
+use Rattle.fw_map.specs.Fields.{AreRows, HasFields}
 use Rattle.fw_map.proofs.RowLaws.{fields_none, no_fields, row_more}
 
 -- the row of a node in a table of like rows

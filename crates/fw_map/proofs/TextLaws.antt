@@ -1,6 +1,6 @@
 -- The text of a tree, line by line.
-use Rattle.std.proofs.Common.{◌≡◌, ℕ, suc, ◌+◌, List, [], ◌∷◌, ◌++◌, decimal, refl, ap, subst, ◌∙◌, append_assoc, arith}
-use Rattle.fw_map.specs.declared.tree.Tree.{Tree}
+use Rattle.fw_map.proofs.Common.{◌≡◌, ℕ, suc, ◌+◌, List, [], ◌∷◌, ◌++◌, refl, ap, subst, ◌∙◌, append_assoc, arith, Tree}
+use Rattle.std.proofs.Common.{decimal}
 use Rattle.fw_map.specs.Texts.{node_line, node_lines, IsSpeed, IsRow, speed, AreRows, row}
 
 pub lines_none : (t : Tree) → node_lines t 0 ≡ []
@@ -17,6 +17,6 @@ row_more t a b s text r h = let e : suc b ≡ b + 1 = omega arith in let P : ℕ
 pub rows_more : (t : Tree) (n a : ℕ) (text line : List ℕ) → AreRows t n a text → IsRow t a n line → AreRows t n (a + 1) (text ++ (line ++ 10 ∷ []))
 rows_more t n a text line r h = let e : suc a ≡ a + 1 = omega arith in let P : ℕ → Type 0 = λ m. AreRows t n m (text ++ (line ++ 10 ∷ [])) in subst P e (row r h refl)
 
--- what is written behind a front and more of it
+-- what is written after a prefix and more of it
 pub goes_on : (front all more text now : List ℕ) → now ≡ all ++ more → all ≡ front ++ text → now ≡ front ++ (text ++ more)
 goes_on front all more text now e f = e ∙ (ap (λ (x : List ℕ). x ++ more) f ∙ append_assoc front text more)

@@ -1,21 +1,12 @@
 -- `rebuild` answers the value that `rebuilt` is.
-use Rattle.std.proofs.Common.{◌≡◌, ◌⊎◌, inl, inr, ℕ, zero, suc, ◌<◌, ◌≤◌, ◌==◌, nat_lt, [], ◌∷◌, length, slice_index_or, Option, Some, None, Result, Ok, Err, is_some, Bool, true, false, if◌then◌else◌, arith, refl, sym, ap, ◌∙◌}
-use Rattle.std.specs.List.{All}
-use Rattle.std.proofs.lemmas.Bool.{cases_eq, cases_lt, eq-eqb, ne_eqb}
-use Rattle.std.proofs.lemmas.Bool.Decides.{nat_tests}
+use Rattle.fw_map.proofs.Common.{◌≡◌, ◌⊎◌, inl, inr, ℕ, zero, suc, ◌<◌, ◌≤◌, ◌==◌, nat_lt, [], ◌∷◌, length, slice_index_or, Option, Some, None, Bool, true, false, if◌then◌else◌, arith, refl, sym, ap}
+use Rattle.fw_map.proofs.Common.{◌∙◌, All, cases_eq, cases_lt, eq-eqb, ne_eqb, nat_tests, Fits, speed_of, ResetEntry, number_at, is_there, truth, Tree, field_of, HasPackets, speed_at}
+use Rattle.std.proofs.Common.{Result, Ok, Err, is_some}
 use Rattle.std.proofs.lemmas.List.{ext_get_or, get_or_append_left, get_or_at, length_push}
-use Rattle.fw_base.specs.Tables.{find_to}
-use Rattle.fw_phy.specs.Phy.{Fits}
-use Rattle.fw_entry.specs.Network.{speed_of}
-use Rattle.fw_entry.specs.declared.entry.ResetEntry.{ResetEntry}
-use Rattle.fw_tree.specs.Numbers.{number_at, is_there}
-use Rattle.fw_tree.proofs.ForestLaws.{truth}
+use Rattle.fw_terms.specs.Tables.{find_to}
 use Rattle.fw_map.specs.declared.MapFault.{MapFault}
 use Rattle.fw_map.specs.declared.MapWhy.{MapWhy}
-use Rattle.fw_map.specs.declared.tree.Tree.{Tree}
-use Rattle.fw_map.specs.Fields.{field_of}
 use Rattle.fw_map.specs.Faults.{node_fault, IsFault}
-use Rattle.fw_map.specs.Trees.{HasPackets, speed_at}
 use Rattle.fw_map.specs.Rebuilt.{parent_in, port_in, own_in, speed_in, listed, tree_of_packets, fault_in, fault_at, fault_by, rebuilt, rebuilt_by}
 use Rattle.fw_map.proofs.FieldLaws.{no_field}
 use Rattle.fw_map.proofs.MatchLaws.{find_all, find_first}
@@ -47,7 +38,8 @@ no_why o e = ap is_some e
 
 pub fault_value : (e : ResetEntry) (f : MapFault) → IsFault e f → fault_in e ≡ Some f
 fault_value e f w =
-    ap (fault_by e) (find_first (length e.nodes) f.node (λ d. is_some (node_fault e d)) w.node (is_fault (node_fault e f.node) f.why w.is) (λ d l. no_why (node_fault e d) (w.first d l))) ∙ ap (fault_at f.node) w.is
+    ap (fault_by e) (find_first (length e.nodes) f.node (λ d. is_some (node_fault e d)) w.node (is_fault (node_fault e f.node) f.why w.is) (λ d l. no_why (node_fault e d) (w.first d l)))
+    ∙ ap (fault_at f.node) w.is
 
 -- none below n passes, or a first one does
 pub first_of : (n : ℕ) (test : ℕ → Bool) → ((j : ℕ) → j < n → test j ≡ false) ⊎ ((k : ℕ) × (k < n) × (test k ≡ true) × ((j : ℕ) → j < k → test j ≡ false))
@@ -98,7 +90,8 @@ tree_value e t h size fits = λ i. record { count = h.count i; parent = parents 
     parent_at c (Some d) s = let w = hangs_of t c d (h.ports c) s in sym (parent_is e t h few fits c d w.0 w.1 h.count)
 
     parents : t.parent ≡ listed 63 (parent_in e)
-    parents = ext_get_or None t.parent (listed 63 (parent_in e)) (h.sizes.parent ∙ sym (listed_long 63 (parent_in e))) (λ c l. parent_at c (number_at t.parent c) refl ∙ sym (listed_at 63 c (parent_in e) None (let s = h.sizes.parent in omega arith)))
+    parents = ext_get_or None t.parent (listed 63 (parent_in e)) (h.sizes.parent ∙ sym (listed_long 63 (parent_in e)))
+        (λ c l. parent_at c (number_at t.parent c) refl ∙ sym (listed_at 63 c (parent_in e) None (let s = h.sizes.parent in omega arith)))
 
     port_at : (c : ℕ) (o : Option ℕ) → number_at t.parent_port c ≡ o → o ≡ port_in e c
     port_at c None s = sym (no_port e t h few fits c h.count (none_of (number_at t.parent c) (sym (h.ports c) ∙ ap is_there s)))
@@ -107,7 +100,8 @@ tree_value e t h size fits = λ i. record { count = h.count i; parent = parents 
         sym (port_is e t h few fits c d.0 p (record { parent = d.1; port = s }) h.count)
 
     ports : t.parent_port ≡ listed 63 (port_in e)
-    ports = ext_get_or None t.parent_port (listed 63 (port_in e)) (h.sizes.parent_port ∙ sym (listed_long 63 (port_in e))) (λ c l. port_at c (number_at t.parent_port c) refl ∙ sym (listed_at 63 c (port_in e) None (let s = h.sizes.parent_port in omega arith)))
+    ports = ext_get_or None t.parent_port (listed 63 (port_in e)) (h.sizes.parent_port ∙ sym (listed_long 63 (port_in e)))
+        (λ c l. port_at c (number_at t.parent_port c) refl ∙ sym (listed_at 63 c (port_in e) None (let s = h.sizes.parent_port in omega arith)))
 
     low_own : (c p : ℕ) → number_at t.own_port c ≡ Some p → c < t.count
     low_own c p s = let d = some_of (number_at t.parent c) (sym (h.own_ports c) ∙ there (number_at t.own_port c) p s) in (h.nodes c d.0 d.1).0
@@ -117,7 +111,8 @@ tree_value e t h size fits = λ i. record { count = h.count i; parent = parents 
         let f = (h.own c p l).1 s in
         let k : p < 27 = elim (cases_lt p 27) [ inl m ↦ m | inr m ↦ absurd (let b = no_field e.ids c p fits m in omega arith) ] in
         sym (if_low c (length e.nodes) (find_to 27 (λ q. field_of e.ids c q == 2)) None (let n = h.count in omega arith)
-        ∙ find_first 27 p (λ q. field_of e.ids c q == 2) k (eq-eqb (field_of e.ids c p) 2 f) (λ q m. ne_eqb (field_of e.ids c q) 2 (λ on. let z = same_some (number_at t.own_port c) q p ((h.own c q l).0 on) s in omega arith)))
+        ∙ find_first 27 p (λ q. field_of e.ids c q == 2) k (eq-eqb (field_of e.ids c p) 2 f)
+        (λ q m. ne_eqb (field_of e.ids c q) 2 (λ on. let z = same_some (number_at t.own_port c) q p ((h.own c q l).0 on) s in omega arith)))
 
     own_none : (c : ℕ) → number_at t.own_port c ≡ None → None ≡ own_in e c
     own_none c s = elim (cases_lt c (length e.nodes)) [
@@ -132,7 +127,8 @@ tree_value e t h size fits = λ i. record { count = h.count i; parent = parents 
     own_at c (Some p) s = own_some c p (low_own c p s) s
 
     owns : t.own_port ≡ listed 63 (own_in e)
-    owns = ext_get_or None t.own_port (listed 63 (own_in e)) (h.sizes.own_port ∙ sym (listed_long 63 (own_in e))) (λ c l. own_at c (number_at t.own_port c) refl ∙ sym (listed_at 63 c (own_in e) None (let s = h.sizes.own_port in omega arith)))
+    owns = ext_get_or None t.own_port (listed 63 (own_in e)) (h.sizes.own_port ∙ sym (listed_long 63 (own_in e)))
+        (λ c l. own_at c (number_at t.own_port c) refl ∙ sym (listed_at 63 c (own_in e) None (let s = h.sizes.own_port in omega arith)))
 
     speed_is : (c : ℕ) → speed_at t.sp c ≡ speed_in e c
     speed_is c = elim (cases_lt c (length e.nodes)) [

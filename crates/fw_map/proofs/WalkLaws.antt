@@ -1,9 +1,5 @@
 -- The one walk between two nodes goes up from the lower of them.
-use Rattle.std.proofs.Common.{◌≡◌, ◌⊎◌, inl, inr, ℕ, zero, suc, ◌+◌, ◌<◌, ◌≤◌, List, [], ◌∷◌, ◌++◌, Some, arith, refl, sym, ap, subst, ◌∙◌}
-use Rattle.std.proofs.lemmas.Bool.{cases_eq, cases_lt}
-use Rattle.fw_tree.specs.Numbers.{number_at}
-use Rattle.fw_map.specs.declared.tree.Tree.{Tree}
-use Rattle.fw_map.specs.Trees.{speed_at}
+use Rattle.fw_map.proofs.Common.{◌≡◌, ◌⊎◌, inl, inr, ℕ, zero, suc, ◌+◌, ◌<◌, ◌≤◌, List, [], ◌∷◌, ◌++◌, Some, arith, refl, sym, ap, subst, ◌∙◌, cases_eq, cases_lt, number_at, Tree, speed_at}
 use Rattle.fw_map.specs.Walks.{IsRebuilt, AreJoined, IsOn, Walk, here, along, IsLeast, IsLeastSoFar}
 use Rattle.fw_map.proofs.ShapeLaws.{hangs_of, same_some, root_or_hangs}
 use Rattle.fw_map.proofs.OrderLaws.{grown, root_last}
@@ -41,8 +37,10 @@ data Below (t : Tree) (a : ℕ) : ℕ → Type 0 where
 stays_below : (t : Tree) (a b c : ℕ) (nodes : List ℕ) → Walk t b c nodes → Below t a b → (IsOn nodes a → ⊥) → Below t a c
 stays_below t a b c nodes here h apart = h
 stays_below t a b c nodes (along {b = d} {nodes = rest} (inr up) w other) h apart = stays_below t a d c rest w (deeper b up h) (λ o. apart (inr o))
-stays_below t a b c nodes (along {b = d} {nodes = rest} (inl up) w other) (child e) apart = absurd (apart (inr (let s : a ≡ d = same_some (number_at t.parent b) a d e up in subst (λ (x : ℕ). IsOn rest x) (sym s) (first_on t d c rest w))))
-stays_below t a b c nodes (along {b = d} {nodes = rest} (inl up) w other) (deeper y e h) apart = let s : y ≡ d = same_some (number_at t.parent b) y d e up in stays_below t a d c rest w (subst (λ (x : ℕ). Below t a x) s h) (λ o. apart (inr o))
+stays_below t a b c nodes (along {b = d} {nodes = rest} (inl up) w other) (child e) apart =
+    absurd (apart (inr (let s : a ≡ d = same_some (number_at t.parent b) a d e up in subst (λ (x : ℕ). IsOn rest x) (sym s) (first_on t d c rest w))))
+stays_below t a b c nodes (along {b = d} {nodes = rest} (inl up) w other) (deeper y e h) apart = let s : y ≡ d = same_some (number_at t.parent b) y d e up in
+    stays_below t a d c rest w (subst (λ (x : ℕ). Below t a x) s h) (λ o. apart (inr o))
 
 module _ (t : Tree) (r : IsRebuilt t) where
   few : t.count ≤ 63
@@ -68,13 +66,13 @@ module _ (t : Tree) (r : IsRebuilt t) where
   below_lower a x (child e) = (higher x a e).0
   below_lower a x (deeper y e h) = let l = below_lower a y h in let m = (higher x y e).0 in omega arith
 
-  -- a walk begins upwards where the other end is higher
+  -- a walk begins upwards if the other end is higher
   pub begins_up : (a c d : ℕ) (nodes : List ℕ) → Walk t a c nodes → a < c → number_at t.parent a ≡ Some d → (rest : List ℕ) × Walk t d c rest × (nodes ≡ a ∷ rest)
   begins_up a c d nodes here l e = absurd (omega arith)
   begins_up a c d nodes (along {b = b} {nodes = rest} (inl up) w apart) l e = let s : b ≡ d = same_some (number_at t.parent a) b d up e in (rest, subst (λ (x : ℕ). Walk t x c rest) s w, refl)
   begins_up a c d nodes (along {b = b} {nodes = rest} (inr down) w apart) l e = absurd (let k = below_lower a c (stays_below t a b c rest w (child down) apart) in omega arith)
 
-  -- and ends downwards where the first end is higher
+  -- and ends downwards if the first end is higher
   pub ends_down : (a c d : ℕ) (nodes : List ℕ) → Walk t a c nodes → c < a → number_at t.parent c ≡ Some d → (rest : List ℕ) × Walk t a d rest × (nodes ≡ rest ++ c ∷ [])
   ends_down a c d nodes here l e = absurd (omega arith)
   ends_down a c d nodes (along {b = b} {nodes = rest} j w apart) l e = elim (cases_eq b c) [
@@ -104,7 +102,8 @@ module _ (t : Tree) (r : IsRebuilt t) where
   -- a walk goes on to a node that it has not met
   goes_on : (a b c : ℕ) (nodes : List ℕ) → Walk t a b nodes → AreJoined t b c → (IsOn nodes c → ⊥) → Walk t a c (nodes ++ c ∷ [])
   goes_on a b c nodes here j apart = along j here (λ o. elim o [ inl e ↦ apart (inl (sym e)) | inr z ↦ z ])
-  goes_on a b c nodes (along {b = d} {nodes = rest} k w other) j apart = along k (goes_on d b c rest w j (λ o. apart (inr o))) (λ o. elim (on_both rest (c ∷ []) a o) [ inl x ↦ other x | inr x ↦ elim x [ inl e ↦ apart (inl (sym e)) | inr z ↦ z ] ])
+  goes_on a b c nodes (along {b = d} {nodes = rest} k w other) j apart =
+      along k (goes_on d b c rest w j (λ o. apart (inr o))) (λ o. elim (on_both rest (c ∷ []) a o) [ inl x ↦ other x | inr x ↦ elim x [ inl e ↦ apart (inl (sym e)) | inr z ↦ z ] ])
 
   -- there is a walk between two nodes, over nodes that are as high as one of them
   pub record Way (a b : ℕ) : Type 0 where
@@ -144,7 +143,8 @@ module _ (t : Tree) (r : IsRebuilt t) where
   -- ---- the loop
 
   -- one end goes up
-  pub first_up : (nodes : List ℕ) (a b d old new : ℕ) → a < b → number_at t.parent a ≡ Some d → old ≤ speed_at t.sp a → (new ≡ old) ⊎ (new ≡ speed_at t.sp d) → new ≤ old → IsLeastSoFar t nodes a b old → IsLeastSoFar t nodes d b new
+  pub first_up : (nodes : List ℕ) (a b d old new : ℕ) → a < b → number_at t.parent a ≡ Some d → old ≤ speed_at t.sp a → (new ≡ old) ⊎ (new ≡ speed_at t.sp d) → new ≤ old → IsLeastSoFar t nodes a b old
+      → IsLeastSoFar t nodes d b new
   first_up nodes a b d old new l e least which less s =
       let w = begins_up a b d s.rest s.walk l e in
       let inside : (x : ℕ) → IsOn w.0 x → IsOn nodes x = λ x o. s.inside x (subst (λ (xs : List ℕ). IsOn xs x) (sym w.2) (inr o)) in
@@ -157,7 +157,8 @@ module _ (t : Tree) (r : IsRebuilt t) where
         | inr same ↦ record { rest = w.0; walk = w.1; inside = inside; one = d; on = inside d (first_on t d b w.0 w.1); is = sym same; passed = passed }
       ]
 
-  pub second_up : (nodes : List ℕ) (a b d old new : ℕ) → b < a → number_at t.parent b ≡ Some d → old ≤ speed_at t.sp b → (new ≡ old) ⊎ (new ≡ speed_at t.sp d) → new ≤ old → IsLeastSoFar t nodes a b old → IsLeastSoFar t nodes a d new
+  pub second_up : (nodes : List ℕ) (a b d old new : ℕ) → b < a → number_at t.parent b ≡ Some d → old ≤ speed_at t.sp b → (new ≡ old) ⊎ (new ≡ speed_at t.sp d) → new ≤ old
+      → IsLeastSoFar t nodes a b old → IsLeastSoFar t nodes a d new
   second_up nodes a b d old new l e least which less s =
       let w = ends_down a b d s.rest s.walk l e in
       let inside : (x : ℕ) → IsOn w.0 x → IsOn nodes x = λ x o. s.inside x (subst (λ (xs : List ℕ). IsOn xs x) (sym w.2) (on_front w.0 (b ∷ []) x o)) in

@@ -1,7 +1,7 @@
 -- Why no tree has the packets of a reset entry.
 use Rattle.std.specs.Prelude.{◌≡◌, ℕ, zero, suc, ◌+◌, ◌-◌, ◌<◌, ◌==◌, not, nat_lt, Bool, List, length, Option, Some, None, if◌then◌else◌}
 use Rattle.fw_phy.specs.declared.packet.PhyPacket.{PhyPacket}
-use Rattle.fw_entry.specs.declared.entry.ResetEntry.{ResetEntry}
+use Rattle.fw_log_entry.specs.declared.entry.ResetEntry.{ResetEntry}
 use Rattle.fw_map.specs.declared.MapFault.{MapFault}
 use Rattle.fw_map.specs.declared.MapWhy.{MapWhy}
 use Rattle.fw_map.specs.declared.MapWhy.TheVariants.{Parents, Missing, Left, Root}
@@ -27,7 +27,7 @@ joining_fault e d =
     else if nat_lt (branches e.ids d) (fields e.ids d 3) then Some Missing
     else None
 
--- what is wrong of the last node behind that
+-- what is wrong of the last node after that
 abbrev pub last_fault : ResetEntry → ℕ → Option MapWhy
 last_fault e d =
     if nat_lt 1 (branches e.ids (d + 1)) then Some Left

@@ -5,7 +5,7 @@ use Rattle.fw_phy.specs.declared.packet.PhyPacket.TheVariants.{SelfId, SelfIdMor
 use Rattle.fw_tree.specs.Numbers.{counted}
 use Rattle.fw_tree.specs.SelfIds.{first_port}
 
--- the field of the node's port in a packet, where the packet is the node's and has that port
+-- the field of the node's port in a packet, if the packet is the node's and has that port
 abbrev pub field_in : PhyPacket → ℕ → ℕ → Option ℕ
 field_in (SelfId s) d p = if s.phy == d then slice_get s.ports p else None
 field_in (SelfIdMore s) d p = if (s.phy == d) && nat_le (first_port s.number) p then slice_get s.ports (p - first_port s.number) else None

@@ -1,7 +1,7 @@
 -- A tree as a graph, in Graphviz's language (own).
 use Rattle.std.specs.Prelude.{ℕ, zero, suc, min, ◌==◌, if◌then◌else◌, List, [], ◌∷◌, ◌++◌, Option, Some, None, slice_get, codes, decimal}
-use Rattle.fw_base.specs.Devices.{kind_with, name_of}
-use Rattle.fw_entry.specs.declared.nodes.NodeRow.{NodeRow}
+use Rattle.fw_terms.specs.Devices.{kind_with, name_of}
+use Rattle.fw_log_entry.specs.declared.nodes.NodeRow.{NodeRow}
 use Rattle.fw_tree.specs.Numbers.{number_at}
 use Rattle.fw_map.specs.declared.tree.Tree.{Tree}
 use Rattle.fw_map.specs.Trees.{speed_at}
@@ -26,7 +26,7 @@ speed_word speed = if speed == 0 then codes "S100" else if speed == 1 then codes
 abbrev pub device_text : List ℕ → ℕ → List ℕ
 device_text kind device = new_line ++ kind ++ codes " " ++ decimal device ++ (quote ++ codes "];" ++ 10 ∷ [])
 
--- the front of a node's box, with its number
+-- the beginning of a node's box, with its number
 abbrev pub number_text : ℕ → List ℕ
 number_text n = codes "  n" ++ decimal n ++ (codes " [label=" ++ quote ++ codes "node ") ++ decimal n
 
@@ -38,10 +38,11 @@ box_line n (Some r) = number_text n ++ device_text (kind_word r.kind) r.device
 -- the cable between a node and its parent: the parent's port, the own port, and the speed
 abbrev pub cable_line : ℕ → ℕ → ℕ → ℕ → ℕ → List ℕ
 cable_line n parent port own speed =
-    codes "  n" ++ decimal parent ++ codes " -- n" ++ decimal n ++ (codes " [taillabel=" ++ quote) ++ decimal port ++ (quote ++ codes ", headlabel=" ++ quote) ++ decimal own ++ (quote ++ codes ", label=" ++ quote)
+    codes "  n" ++ decimal parent
+    ++ codes " -- n" ++ decimal n ++ (codes " [taillabel=" ++ quote) ++ decimal port ++ (quote ++ codes ", headlabel=" ++ quote) ++ decimal own ++ (quote ++ codes ", label=" ++ quote)
     ++ speed_word speed ++ (quote ++ codes "];" ++ 10 ∷ [])
 
--- the cable of a node to its parent, with the lesser sp of the two, where it has one
+-- the cable of a node to its parent, with the lesser sp of the two, if it has one
 abbrev pub edge_by : Tree → ℕ → Option ℕ → Option ℕ → Option ℕ → List ℕ
 edge_by t n (Some parent) (Some port) (Some own) = cable_line n parent port own (min (speed_at t.sp n) (speed_at t.sp parent))
 edge_by t n _ _ _ = []

@@ -1,8 +1,8 @@
 -- A tree whose branches are joined node by node, from number 0 upwards.
 use Rattle.std.specs.Prelude.{◌≡◌, ◌↔◌, ◌⊎◌, ℕ, ◌+◌, ◌<◌, ◌≤◌, ◌==◌, not, Bool, List, length, Some, None}
 use Rattle.fw_phy.specs.declared.packet.PhyPacket.{PhyPacket}
-use Rattle.fw_entry.specs.declared.entry.ResetEntry.{ResetEntry}
-use Rattle.fw_entry.specs.Network.{speed_of}
+use Rattle.fw_log_entry.specs.declared.entry.ResetEntry.{ResetEntry}
+use Rattle.fw_log_entry.specs.Network.{speed_of}
 use Rattle.fw_tree.specs.Numbers.{counted, number_at, is_there}
 use Rattle.fw_map.specs.declared.tree.Tree.{Tree}
 use Rattle.fw_map.specs.Fields.{field_of, fields}

@@ -1,6 +1,6 @@
 -- What self-ID packets tell: the law that a function of this crate promises.
 use Rattle.std.specs.Prelude.{◌≡◌, ℕ, Some, length}
-use Rattle.fw_entry.specs.declared.entry.ResetEntry.{ResetEntry}
+use Rattle.fw_log_entry.specs.declared.entry.ResetEntry.{ResetEntry}
 use Rattle.fw_tree.specs.declared.numbering.Numbering.{Numbering}
 use Rattle.fw_tree.specs.Numbers.{number_at}
 use Rattle.fw_tree.specs.Numbering.{IsNumbering}

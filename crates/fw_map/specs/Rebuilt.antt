@@ -1,9 +1,9 @@
 -- The tree that has the packets of a reset entry, or the first fault, as a value: `rebuild` answers it.
 use Rattle.std.specs.Prelude.{ℕ, zero, suc, ◌-◌, ◌==◌, ◌&&◌, nat_le, nat_lt, Bool, List, [], ◌∷◌, ◌++◌, length, Option, Some, None, is_some, Result, Ok, Err, if◌then◌else◌}
 use Rattle.fw_phy.specs.declared.packet.PhyPacket.{PhyPacket}
-use Rattle.fw_entry.specs.declared.entry.ResetEntry.{ResetEntry}
-use Rattle.fw_entry.specs.Network.{speed_of}
-use Rattle.fw_base.specs.Tables.{find_to}
+use Rattle.fw_log_entry.specs.declared.entry.ResetEntry.{ResetEntry}
+use Rattle.fw_log_entry.specs.Network.{speed_of}
+use Rattle.fw_terms.specs.Tables.{find_to}
 use Rattle.fw_tree.specs.Numbers.{counted}
 use Rattle.fw_map.specs.declared.MapFault.{MapFault}
 use Rattle.fw_map.specs.declared.MapWhy.{MapWhy}
@@ -64,7 +64,7 @@ unfoldable pub listed : {A : Type 0} → ℕ → (ℕ → A) → List A
 listed zero f = []
 listed (suc n) f = listed n f ++ f n ∷ []
 
--- the tree, where nothing is wrong
+-- the tree, if nothing is wrong
 abbrev pub tree_of_packets : ResetEntry → Tree
 tree_of_packets e = record {
   count = length e.nodes;

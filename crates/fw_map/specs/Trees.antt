@@ -1,7 +1,7 @@
 -- The tree of a bus, as its self-ID packets tell it.
 use Rattle.std.specs.Prelude.{◌≡◌, ◌↔◌, ℕ, ◌<◌, ◌≤◌, ◌&&◌, nat_lt, List, [], ◌∷◌, ◌++◌, length, Some, None, slice_index_or}
-use Rattle.fw_entry.specs.declared.entry.ResetEntry.{ResetEntry}
-use Rattle.fw_entry.specs.Network.{speed_of}
+use Rattle.fw_log_entry.specs.declared.entry.ResetEntry.{ResetEntry}
+use Rattle.fw_log_entry.specs.Network.{speed_of}
 use Rattle.fw_tree.specs.Numbers.{counted, number_at, is_there}
 use Rattle.fw_tree.specs.Paths.{comes_before}
 use Rattle.fw_map.specs.declared.tree.Tree.{Tree}
@@ -23,7 +23,7 @@ pub record AreNumbers (t : Tree) (root : ℕ) : Type 0 where
   pub lead : (d : ℕ) → d < t.count → LeadsDown t root (paths d) d
   pub places : (d : ℕ) → d < t.count → d ≡ counted (λ c. nat_lt c t.count && comes_before (paths c) (paths d)) 63
 
--- what a list by node says of speeds: 0 behind its end
+-- what a list by node says of speeds: 0 after its end
 abbrev pub speed_at : List ℕ → ℕ → ℕ
 speed_at sp d = slice_index_or sp d 0
 
@@ -34,7 +34,7 @@ pub record HasSizes (t : Tree) : Type 0 where
   pub own_port : length t.own_port ≡ 63
   pub sp : length t.sp ≡ 63
 
--- each node's speed is that of its packet zero, and behind the last node 0 stands
+-- each node's speed is that of its packet zero, and after the last node 0 stands
 pub record HasSpeeds (e : ResetEntry) (t : Tree) : Type 0 where
   pub of : (d : ℕ) → d < t.count → speed_at t.sp d ≡ speed_of d e.ids
   pub behind : (d : ℕ) → t.count ≤ d → speed_at t.sp d ≡ 0

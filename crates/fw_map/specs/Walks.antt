@@ -1,7 +1,7 @@
 -- The walks between the nodes of a tree, and the speeds along them.
 use Rattle.std.specs.Prelude.{◌≡◌, ◌⊎◌, ℕ, ◌≤◌, List, [], ◌∷◌, Some}
-use Rattle.fw_entry.specs.declared.entry.ResetEntry.{ResetEntry}
-use Rattle.fw_entry.specs.Log.{ResetFits}
+use Rattle.fw_log_entry.specs.declared.entry.ResetEntry.{ResetEntry}
+use Rattle.fw_log_entry.specs.Log.{ResetFits}
 use Rattle.fw_tree.specs.Numbers.{number_at}
 use Rattle.fw_map.specs.declared.tree.Tree.{Tree}
 use Rattle.fw_map.specs.Trees.{HasPackets, speed_at}

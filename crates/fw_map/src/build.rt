@@ -3,7 +3,7 @@ ghost use Rattle.std.specs.Bool.{OnTrue, OnFalse};
 ghost use Rattle.std.specs.List.{All};
 ghost use Rattle.std.specs.Result.{result_err};
 ghost use Rattle.fw_phy.specs.Phy.{Fits};
-ghost use Rattle.fw_entry.specs.Log.{ResetFits};
+ghost use Rattle.fw_log_entry.specs.Log.{ResetFits};
 ghost use Rattle.fw_tree.specs.Numbers.{counted};
 ghost use Rattle.fw_map.specs.declared.MapFault.{MapFault};
 ghost use Rattle.fw_map.specs.declared.tree.Tree.{Tree as Shape};
@@ -15,7 +15,7 @@ ghost use Rattle.fw_map.specs.Growing.{Agrees, Grown, Joining, KeepsRest, is_ope
 
 use crate::fields::{CHILD, Ids, PORTS, parent_ports};
 use crate::{MapFault, MapWhy, Tree};
-use fw_entry::ResetEntry;
+use fw_log_entry::ResetEntry;
 
 // Hangs branches on a node, at its child ports from the highest down: each time the one whose node is highest of those without
 // a parent. Says whether there was one for each port.

@@ -1,6 +1,6 @@
 //! The port fields and speeds in self-ID packets.
 ghost use Rattle.std.specs.Prelude.{◌≡◌, ◌<◌, ◌==◌, ℕ, [], Some, None, length, slice_index, slice_index_or, unwrap_or};
-ghost use Rattle.fw_entry.specs.Network.{speed_of};
+ghost use Rattle.fw_log_entry.specs.Network.{speed_of};
 ghost use Rattle.fw_map.specs.Fields.{field_in, field_of, fields, IsLast, AreRows};
 
 use fw_phy::PhyPacket;
@@ -18,7 +18,7 @@ pub(crate) const CHILD: u8 = 3;
 /// The field of a port with the parent.
 pub(crate) const PARENT: u8 = 2;
 
-// The field of the node's port in a packet, where the packet is the node's and has that port.
+// The field of the node's port in a packet, if the packet is the node's and has that port.
 fn field_in(packet: &PhyPacket, node: u8, port: u8) -> Option<u8>
     ensures { result ≡ field_in packet.now node port }
 {
@@ -54,7 +54,7 @@ fn node_of(packet: &PhyPacket) -> Option<u8>
     }
 }
 
-// Notes the fields that a packet has of the node, over those of the packets behind it.
+// Notes the fields that a packet has of the node, over those of the packets after it.
 fn put_fields(packet: &PhyPacket, node: u8, fields: &mut [u8; 27])
     requires { length fields.old ≡ 27 }
     ensures size { length fields.new ≡ 27 }
@@ -104,7 +104,7 @@ impl<'a> Model for Ids<'a> {
 
 impl<'a> Ids<'a> {
     ghost use Rattle.std.specs.Prelude.{◌≡◌, ◌<◌, ℕ, slice_index};
-    ghost use Rattle.fw_entry.specs.Network.{speed_of};
+    ghost use Rattle.fw_log_entry.specs.Network.{speed_of};
     ghost use Rattle.fw_map.specs.Fields.{field_of};
 
     /// These packets.
@@ -118,7 +118,7 @@ impl<'a> Ids<'a> {
         Ids { packets, rows }
     }
 
-    /// The fields of the node's ports, 0 where no packet has the port.
+    /// The fields of the node's ports, 0 if no packet has the port.
     pub(crate) fn fields_of(&self, node: u8) -> [u8; 27]
         requires { node < 63 }
         ensures { (p : ℕ) → p < 27 → slice_index result p ≡ field_of self.now node p }
@@ -126,7 +126,7 @@ impl<'a> Ids<'a> {
         self.rows[usize::from(node)]
     }
 
-    /// sp of the node's packet zero, or 0 where it has none.
+    /// sp of the node's packet zero, or 0 if it has none.
     pub(crate) fn speed_of(&self, node: u8) -> u8
         ensures { result ≡ speed_of node self.now }
     {
@@ -152,7 +152,7 @@ pub(crate) fn parent_ports(ids: &Ids, node: u8) -> (u8, Option<u8>)
     (count, last)
 }
 
-// sp of the node's packet zero, or 0 where it has none.
+// sp of the node's packet zero, or 0 if it has none.
 fn speed_of(ids: &[PhyPacket], node: u8) -> u8
     ensures { result ≡ speed_of node ids.now }
 {

@@ -6,8 +6,8 @@ ghost use Rattle.fw_map.specs.Trees.{speed_at};
 ghost use Rattle.fw_map.specs.Walks.{IsRebuilt};
 
 use crate::Tree;
-use fw_base::DeviceKind;
-use fw_entry::NodeRow;
+use fw_log_entry::NodeRow;
+use fw_terms::DeviceKind;
 use std::alloc::{AllocError, Global};
 
 // The name of the kind with this code; no log has a code above 3.
@@ -31,7 +31,7 @@ fn speed_word(speed: u8) -> &'static str
     }
 }
 
-// sp of a node, 0 behind the last one.
+// sp of a node, 0 after the last one.
 fn speed_of(tree: &Tree, node: u8) -> u8
     ensures { result ≡ speed_at tree.now.sp node }
 {
@@ -48,7 +48,7 @@ fn put_device(text: &mut String, kind: &str, device: u8) -> Result<(), AllocErro
     write!(text, "\\n{kind} {device}\"];\n")
 }
 
-// Appends the front of a node's box.
+// Appends the beginning of a node's box.
 fn put_number(text: &mut String, node: u8) -> Result<(), AllocError>
     ensures { OnOk result (string_bytes text.new ≡ string_bytes text.old ++ number_text node) }
 {
@@ -64,7 +64,7 @@ fn put_row(text: &mut String, node: u8, row: &NodeRow) -> Result<(), AllocError>
     put_device(text, kind_word(row.kind), row.device)
 }
 
-// Appends the box of a node, where it has a row.
+// Appends the box of a node, if it has a row.
 fn put_box(text: &mut String, rows: &[NodeRow], node: u8) -> Result<(), AllocError>
     ensures { OnOk result (string_bytes text.new ≡ string_bytes text.old ++ box_line node (slice_get rows.now node)) }
 {
@@ -91,7 +91,7 @@ fn put_cable(
     write!(text, "\", label=\"{speed}\"];\n")
 }
 
-// Appends the cable of a node to its parent, where it has one.
+// Appends the cable of a node to its parent, if it has one.
 fn put_edge(text: &mut String, tree: &Tree, node: u8) -> Result<(), AllocError>
     requires { node < 63 }
     ensures { OnOk result (string_bytes text.new ≡ string_bytes text.old ++ edge_line tree.now node) }

@@ -7,7 +7,7 @@ ghost use Rattle.fw_map.specs.Texts.{node_line, place_text, IsRow, IsTreeText};
 use crate::Tree;
 use std::alloc::{AllocError, Global};
 
-// Appends where a node hangs.
+// Appends if a node hangs.
 fn put_place(text: &mut String, parent: u8, port: u8, own: u8) -> Result<(), AllocError>
     ensures { OnOk result (string_bytes text.new ≡ string_bytes text.old ++ place_text (Some parent) (Some port) (Some own)) }
 {

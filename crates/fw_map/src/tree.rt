@@ -6,13 +6,13 @@ ghost use Rattle.fw_tree.specs.Numbers.{number_at, is_there};
 pub struct Tree {
     /// How many nodes there are.
     pub count: u8,
-    /// Each node's parent; None for the root and behind the last node.
+    /// Each node's parent; None for the root and after the last node.
     pub parent: [Option<u8>; 63],
-    /// The port of the parent at which the node hangs; None for the root and behind the last node.
+    /// The port of the parent at which the node hangs; None for the root and after the last node.
     pub parent_port: [Option<u8>; 63],
-    /// The node's own port to its parent; None for the root and behind the last node.
+    /// The node's own port to its parent; None for the root and after the last node.
     pub own_port: [Option<u8>; 63],
-    /// sp of the node's self-ID packet: 0, 1, 2 for 100, 200, 400 Mbit/s; 0 behind the last node.
+    /// sp of the node's self-ID packet: 0, 1, 2 for 100, 200, 400 Mbit/s; 0 after the last node.
     pub sp: [u8; 63],
 }
 

@@ -1,7 +1,7 @@
 -- What stands in the registers that a node keeps itself fits a quadlet.
 use Rattle.std.proofs.Common.{◌<◌, ◌^◌, Bool, true, false, arith}
-use Rattle.fw_base.specs.declared.device.DeviceKind.{DeviceKind}
-use Rattle.fw_base.specs.Devices.{has_link, is_contender, is_capable}
+use Rattle.fw_terms.specs.declared.device.DeviceKind.{DeviceKind}
+use Rattle.fw_terms.specs.Devices.{has_link, is_contender, is_capable}
 use Rattle.fw_node.specs.Contents.{bit, capabilities}
 
 bit_below : (b : Bool) → bit b < 2

@@ -41,7 +41,7 @@ followed_there V from r f u after n waiting command only unit h e = record {
       subst Q (only g k) (subst P (sym (same_unit u v (sym is ∙ unit))) (follows V from f u after n waiting h e));
 }
 
--- the same, where the node is known by its fields
+-- the same, if the node is known by its fields
 pub followed : (V : VendorRelation) (from : ℕ) (r : Request) (f : Frame) (u after : UnitState) (fields n : NodeState) (waiting : Option (ℕ × Frame)) → fields ≡ n
     → IsCommand (Some r) f → ((g : Frame) → IsCommand (Some r) g → f ≡ g) → fields.unit ≡ Some u
     → HoldsResponse V u from f waiting → after ≡ unit_after u from f → HasFollowed V from (Some r) n (record fields { unit = Some after; waiting = waiting })

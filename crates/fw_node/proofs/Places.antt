@@ -3,8 +3,8 @@ use Rattle.std.proofs.Common.{◌≡◌, ◌≢◌, ◌⊎◌, inl, inr, ℕ, �
 use Rattle.std.specs.Prelude.{nat_lt}
 use Rattle.std.specs.Option.{option_map}
 use Rattle.std.proofs.lemmas.Bool.Decides.{nat_tests}
-use Rattle.fw_base.specs.Devices.{output_plugs_of, input_plugs_of}
-use Rattle.fw_base.proofs.KindLaws.{plugs_few}
+use Rattle.fw_terms.specs.Devices.{output_plugs_of, input_plugs_of}
+use Rattle.fw_terms.proofs.KindLaws.{plugs_few}
 use Rattle.fw_csr.specs.declared.request.Request.{Request}
 use Rattle.fw_csr.specs.Requests.{offset_of}
 use Rattle.fw_csr.specs.Manager.{ManagerWords}

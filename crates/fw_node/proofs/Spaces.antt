@@ -5,7 +5,7 @@ use Rattle.std.proofs.lemmas.Bool.{cases_eq}
 use Rattle.std.proofs.lemmas.Bool.Decides.{nat_tests}
 use Rattle.std.proofs.lemmas.Grind.{common_steps, get_or-set_at}
 use Rattle.std.proofs.lemmas.List.{get_or-set_other}
-use Rattle.fw_base.specs.Devices.{output_plugs_of, input_plugs_of}
+use Rattle.fw_terms.specs.Devices.{output_plugs_of, input_plugs_of}
 use Rattle.fw_csr.specs.declared.request.Request.{Request}
 use Rattle.fw_csr.specs.declared.register.Register.TheVariants.{ReadSwap}
 use Rattle.fw_csr.specs.Requests.{offset_of}
@@ -34,7 +34,8 @@ core_same n s offset h = λ i. core_register_at (record s { kind = h.kind i; dev
 plugs_same : (n : NodeState) (s : Space) (offset : ℕ) → HasSpace n s → Plugs.register_at (plug_table (space_of s.number s.cycle n)) offset ≡ Plugs.register_at (plug_table s) offset
 plugs_same n s offset h = kept ∙ words
   where
-    kept : Plugs.register_at (plug_table (space_of s.number s.cycle n)) offset ≡ Plugs.register_at (plug_table (record s { output_word = slice_index n.plugs.outputs; input_word = slice_index n.plugs.inputs })) offset
+    kept : Plugs.register_at (plug_table (space_of s.number s.cycle n)) offset
+        ≡ Plugs.register_at (plug_table (record s { output_word = slice_index n.plugs.outputs; input_word = slice_index n.plugs.inputs })) offset
     kept = λ i. Plugs.register_at (plug_table (record s { kind = h.kind i; rate = h.rate i; output_word = slice_index n.plugs.outputs; input_word = slice_index n.plugs.inputs })) offset
 
     words : Plugs.register_at (plug_table (record s { output_word = slice_index n.plugs.outputs; input_word = slice_index n.plugs.inputs })) offset ≡ Plugs.register_at (plug_table s) offset
@@ -75,7 +76,8 @@ after_same first plugs words word r size same k lt = go (plug_at first (length w
     go None e = same k lt ∙ sym (kept_elsewhere (first + 4 * k) (word k) r (missing first (length words) (offset_of r) k e (omega arith)))
     go (Some n) e = at n (found first (length words) (offset_of r) n e) (cases_eq k n)
       where
-        at : (n : ℕ) → (offset_of r ≡ first + 4 * n) × (n < length words) → (k ≡ n) ⊎ (k ≢ n) → slice_index (slice_set words n (word_after (slice_index words n) r)) k ≡ Manager.after_at (first + 4 * k) r (word k)
+        at : (n : ℕ) → (offset_of r ≡ first + 4 * n) × (n < length words) → (k ≡ n) ⊎ (k ≢ n)
+            → slice_index (slice_set words n (word_after (slice_index words n) r)) k ≡ Manager.after_at (first + 4 * k) r (word k)
         at n f (inl e) =
             get_or-set_at words n k (word_after (slice_index words n) r) 0 e f.1 ∙ ap (λ j. word_after (slice_index words j) r) (sym e) ∙ ap (λ w. word_after w r) (same k lt)
             ∙ sym (changed_here (first + 4 * k) (word k) r (f.0 ∙ ap (λ j. first + 4 * j) (sym e)))

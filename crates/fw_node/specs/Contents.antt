@@ -2,8 +2,8 @@
 use Rattle.std.specs.Prelude.{ℕ, ◌+◌, ◌/◌, ◌%◌, [], ◌∷◌, Bool, if◌then◌else◌}
 use Rattle.fw_words.specs.Layout.{packed}
 pub use Rattle.fw_async.specs.NodeIds.{node_id}
-use Rattle.fw_base.specs.declared.device.DeviceKind.{DeviceKind}
-use Rattle.fw_base.specs.Devices.{has_link, is_contender, is_capable}
+use Rattle.fw_terms.specs.declared.device.DeviceKind.{DeviceKind}
+use Rattle.fw_terms.specs.Devices.{has_link, is_contender, is_capable}
 
 -- NODE_IDS: node_ID, and 16 zeros
 abbrev pub node_ids : ℕ → ℕ

@@ -2,8 +2,8 @@
 use Rattle.std.specs.Prelude.{◌≡◌, ℕ, ◌+◌, ◌%◌, ◌<◌, ◌≤◌, ◌==◌, List, length, Option, Some, None, if◌then◌else◌}
 use Rattle.std.specs.Int.{to_be_bytes, from_be_bytes, w32}
 use Rattle.std.specs.Option.{option_map, option_and_then}
-use Rattle.fw_base.specs.declared.label.Label.TheVariants.{Script}
-use Rattle.fw_base.specs.Labels.{label_code}
+use Rattle.fw_terms.specs.declared.label.Label.TheVariants.{Script}
+use Rattle.fw_terms.specs.Labels.{label_code}
 use Rattle.fw_async.specs.Async.{AreBytes}
 use Rattle.fw_async.specs.declared.packet.Head.{Head}
 use Rattle.fw_async.specs.declared.packet.Packet.{Packet}
@@ -46,7 +46,7 @@ pub record Follows (V : VendorRelation) (from : ℕ) (f : Frame) (u : UnitState)
   pub sendable : IsSendable response
   pub node : after ≡ record before { unit = Some (unit_after u from f); waiting = Some (from, response) }
 
--- what follows from a request, beside what it does at the registers: nothing where it is no command or the node has no unit;
+-- what follows from a request, beside what it does at the registers: nothing if it is no command or the node has no unit;
 -- a command to a unit is carried out
 pub record HasFollowed (V : VendorRelation) (from : ℕ) (r : Option Request) (before after : NodeState) : Type 0 where
   pub rest : after ≡ record before { unit = after.unit; waiting = after.waiting }

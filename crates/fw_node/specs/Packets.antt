@@ -1,8 +1,8 @@
 -- Request packets and the packets that answer them (IEEE 1394-1995, transactions; retry code 01 and priority 0 are own).
 use Rattle.std.specs.Prelude.{◌≡◌, ℕ, ◌%◌, ◌^◌, ◌<◌, ◌≤◌, ◌==◌, IsTrue, IsSome, List, [], length, Option, Some, None, if◌then◌else◌}
 use Rattle.std.specs.Int.{to_be_bytes, w32}
-use Rattle.fw_base.specs.declared.label.Label.{Label}
-use Rattle.fw_base.specs.Labels.{label_code}
+use Rattle.fw_terms.specs.declared.label.Label.{Label}
+use Rattle.fw_terms.specs.Labels.{label_code}
 use Rattle.fw_words.specs.Quadlet.{quadlet_at}
 use Rattle.fw_async.specs.Async.{AreBytes, is_lock_size}
 use Rattle.fw_async.specs.Reader.{Spells}
@@ -57,7 +57,7 @@ requester _ = 0
 abbrev pub response_head : ℕ → Head → Head
 response_head n h = record { destination = h.source; tl = h.tl; rt = 1; pri = 0; source = node_id n }
 
--- a lock response has the old value where the lock was carried out, and no data else
+-- a lock response has the old value if the lock was carried out, and no data else
 abbrev pub old_bytes : Reply → List ℕ
 old_bytes a = if a.rcode == 0 then to_be_bytes w32 a.value else []
 

@@ -1,9 +1,10 @@
 -- The registers of a node by offset, and what a request at one of them is answered (IEEE 1394-1995, 8; IEC 61883-1, 7).
 use Rattle.std.specs.Prelude.{ℕ, ◌+◌, ◌*◌, ◌==◌, ◌&&◌, nat_le, Bool, Option, Some, None, if◌then◌else◌}
 use Rattle.std.specs.Option.{option_map}
-use Rattle.fw_base.specs.declared.device.DeviceKind.{DeviceKind}
-use Rattle.fw_base.specs.Devices.{has_unit, output_plugs_of, input_plugs_of}
-use Rattle.fw_csr.specs.declared.offset.TheConstants.{NODE_IDS, SPLIT_TIMEOUT_HI, SPLIT_TIMEOUT_LO, CYCLE_TIME, BUS_MANAGER_ID, CHANNELS_AVAILABLE_LO, BUS_NAME, BUS_OPTIONS, EUI_64_HI, EUI_64_LO, OMPR, OPCR, IPCR, LAST_PLUG_REGISTER, FCP_COMMAND, FCP_RESPONSE}
+use Rattle.fw_terms.specs.declared.device.DeviceKind.{DeviceKind}
+use Rattle.fw_terms.specs.Devices.{has_unit, output_plugs_of, input_plugs_of}
+use Rattle.fw_csr.specs.declared.offset.TheConstants.{NODE_IDS, SPLIT_TIMEOUT_HI, SPLIT_TIMEOUT_LO, CYCLE_TIME, BUS_MANAGER_ID, CHANNELS_AVAILABLE_LO, BUS_NAME, BUS_OPTIONS}
+use Rattle.fw_csr.specs.declared.offset.TheConstants.{EUI_64_HI, EUI_64_LO, OMPR, OPCR, IPCR, LAST_PLUG_REGISTER, FCP_COMMAND, FCP_RESPONSE}
 use Rattle.fw_csr.specs.declared.request.Request.{Request}
 use Rattle.fw_csr.specs.declared.reply.Reply.{Reply}
 use Rattle.fw_csr.specs.declared.register.Register.{Register}
@@ -26,7 +27,7 @@ pub record Space : Type 0 where
   -- the words of its output and its input plugs, as many as its kind has
   pub output_word : ℕ → ℕ
   pub input_word : ℕ → ℕ
-  -- where it is the isochronous resource manager, the words of the manager's registers
+  -- if it is the isochronous resource manager, the words of the manager's registers
   pub manager : Option ManagerWords
 
 -- the plug control registers of a node, as requests see them
@@ -64,7 +65,7 @@ register_at s offset =
     else if lies_within OMPR LAST_PLUG_REGISTER offset then Plugs.register_at (plug_table s) offset
     else core_register_at s offset
 
--- each word after a request: a quadlet compare_swap at its register stores where the word equals its argument
+-- each word after a request: a quadlet compare_swap at its register stores if the word equals its argument
 abbrev pub space_after : Space → Request → Space
 space_after s r = record s {
   output_word = λ n. after_at (OPCR + 4 * n) r (s.output_word n);

@@ -1,8 +1,8 @@
 -- What a node keeps, and what a bus reset and a request leave of it.
 use Rattle.std.specs.Prelude.{◌≡◌, ℕ, ◌<◌, Bool, length, slice_index, Option, Some, None, if◌then◌else◌}
 use Rattle.std.specs.Option.{option_map}
-use Rattle.fw_base.specs.declared.device.DeviceKind.{DeviceKind}
-use Rattle.fw_base.specs.Devices.{has_unit, output_plugs_of, input_plugs_of}
+use Rattle.fw_terms.specs.declared.device.DeviceKind.{DeviceKind}
+use Rattle.fw_terms.specs.Devices.{has_unit, output_plugs_of, input_plugs_of}
 use Rattle.fw_fcp.specs.declared.frame.Frame.{Frame}
 use Rattle.fw_avc.specs.State as Units
 use Rattle.fw_avc.specs.State.{UnitState}
@@ -13,16 +13,16 @@ use Rattle.fw_plug.specs.Plugs.{PlugWords, first_words, reset_words}
 use Rattle.fw_plug.specs.Plugs
 use Rattle.fw_node.specs.Space.{Space}
 
--- what a node keeps: its plugs, the manager's registers where it is the resource manager, and its AV/C unit
+-- what a node keeps: its plugs, the manager's registers if it is the resource manager, and its AV/C unit
 pub record NodeState : Type 0 where
   pub kind : DeviceKind
   pub device : ℕ
   -- whether the bus withholds channel 31
   pub withheld : Bool
-  -- the node's number since the latest bus reset; none came yet where there is none
+  -- the node's number since the latest bus reset; none came yet if there is none
   pub number : Option ℕ
   pub plugs : PlugWords
-  -- the manager's registers, where the latest bus reset named the node the isochronous resource manager
+  -- the manager's registers, if the latest bus reset named the node the isochronous resource manager
   pub manager : Option ManagerWords
   -- the AV/C unit of a deck or camcorder
   pub unit : Option UnitState
@@ -48,7 +48,13 @@ first_state kind device rate withheld = record {
 
 -- the node after a bus reset that gave it this number, and made it the manager or not
 abbrev pub after_reset : ℕ → Bool → NodeState → NodeState
-after_reset number manager n = record n { number = Some number; plugs = reset_words n.plugs; manager = if manager then Some (initial_words n.withheld) else None; unit = option_map Units.after_reset n.unit; waiting = None }
+after_reset number manager n = record n {
+  number = Some number;
+  plugs = reset_words n.plugs;
+  manager = if manager then Some (initial_words n.withheld) else None;
+  unit = option_map Units.after_reset n.unit;
+  waiting = None;
+}
 
 -- the second after a bus reset is over
 abbrev pub after_second : NodeState → NodeState

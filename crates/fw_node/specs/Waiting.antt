@@ -14,12 +14,12 @@ pub record HoldsResponse (V : VendorRelation) (u : UnitState) (from : ℕ) (f : 
   pub sendable : IsSendable response
   pub held : waiting ≡ Some (from, response)
 
--- where no frame waits, the next notice of a unit does
+-- if no frame waits, the next notice of a unit does
 abbrev pub filled : Option (ℕ × Frame) → UnitState → Option (ℕ × Frame)
 filled None u = notice_of u
 filled (Some told) u = Some told
 
--- the unit whose notice was asked for where no frame waited
+-- the unit whose notice was asked for if no frame waited
 abbrev pub unit_left : Option (ℕ × Frame) → UnitState → UnitState
 unit_left None u = after_notice u
 unit_left (Some told) u = u

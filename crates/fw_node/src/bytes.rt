@@ -5,7 +5,7 @@ ghost use Rattle.fw_async.specs.Async.{Fits};
 ghost use Rattle.fw_async.specs.Quadlets.{request_packet};
 ghost use Rattle.fw_async.specs.Reader.{Spells};
 ghost use Rattle.fw_async.specs.declared.packet.Packet.{Packet as AsyncPacket};
-ghost use Rattle.fw_base.specs.Devices.{has_link};
+ghost use Rattle.fw_terms.specs.Devices.{has_link};
 ghost use Rattle.fw_tape.specs.Desks.{AnyVendorByte};
 ghost use Rattle.fw_node.specs.Fcp.{HasFollowed};
 ghost use Rattle.fw_node.specs.Packets.{IsAnswer, IsRequest, IsServed, request_in, requester};

@@ -5,9 +5,9 @@ ghost use Rattle.std.specs.Prelude.{◌≡◌, IfOk, IsTrue};
 use crate::node::Node;
 use crate::waiting::Waiting;
 use fw_avc::Unit;
-use fw_base::DeviceKind;
 use fw_csr::Manager;
-use fw_parts::{Part, mixed};
+use fw_kept_parts::{Part, mixed};
+use fw_terms::DeviceKind;
 use std::alloc::{AllocError, Global};
 
 impl Waiting {

@@ -6,7 +6,7 @@ ghost use Rattle.std.specs.Option.{option_map};
 ghost use Rattle.fw_async.specs.Async.{Fits as HasSpelling};
 ghost use Rattle.fw_fcp.specs.Frames.{Fits};
 ghost use Rattle.fw_tape.specs.Desks.{AnyVendorByte};
-ghost use Rattle.fw_base.specs.Devices.{has_unit};
+ghost use Rattle.fw_terms.specs.Devices.{has_unit};
 ghost use Rattle.fw_csr.specs.declared.request.Request.{Request};
 ghost use Rattle.fw_avc.specs.State.{UnitState};
 ghost use Rattle.fw_node.specs.Lending.{LendsUnit};
@@ -16,11 +16,11 @@ use crate::Node;
 use crate::response::RETRY_X;
 use fw_async::{Head, Packet, node_id};
 use fw_avc::Unit;
-use fw_base::Label;
 use fw_csr::Request;
 use fw_csr::offset::{FCP_COMMAND, FCP_RESPONSE};
 use fw_fcp::{Frame, GENERAL_INQUIRY, read_frame, write_frame};
 use fw_tape::{Desk, Tape};
+use fw_terms::Label;
 use fw_words::{Bytes512, Data, Quadlet, are_bytes, put_quadlet, quadlet_at};
 
 /// The bytes of the longest frame, which fills a block.
@@ -30,7 +30,7 @@ const LONGEST_FRAME: usize = 512;
 const NO_NUMBER: u8 = 63;
 
 impl Node {
-    /// The AV/C unit. None exactly where the node is a relay or a computer.
+    /// The AV/C unit. None exactly if the node is a relay or a computer.
     pub fn unit(&mut self) -> Option<&mut Unit>
         ensures* lends { sem 𝓛 (LendsUnit self.entry result) }
         ensures unit { option_map (λ u. u.now) result ≡ self.old.unit }
@@ -42,7 +42,7 @@ impl Node {
         }
     }
 
-    /// The tape subunit of its unit, to be read. None exactly where the node is a relay or a computer.
+    /// The tape subunit of its unit, to be read. None exactly if the node is a relay or a computer.
     pub fn tape_subunit(&self) -> Option<&Tape>
         ensures tape { option_map (λ t. t.now) result ≡ option_map (λ (u : UnitState). u.tape) self.now.unit }
         ensures variant { is_some result ≡ has_unit self.now.kind }
@@ -103,7 +103,7 @@ impl Node {
     }
 
     /// The packet that is sent next: the response to the latest command, if it waits, and then the notices of changes. None
-    /// exactly where no response waits and no kept value has changed. The bytes of a frame of a block lie in `room`.
+    /// exactly if no response waits and no kept value has changed. The bytes of a frame of a block lie in `room`.
     pub fn outgoing<'a>(&mut self, room: &'a mut Bytes512) -> Option<Packet<'a>>
         ensures packet { result ≡ option_map (frame_packet (number_of self.old.number)) (next_frame self.old) }
         ensures node { self.new ≡ after_frame self.old }

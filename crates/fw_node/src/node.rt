@@ -1,14 +1,14 @@
 ghost use Rattle.std.specs.Prelude.{◌≡◌, ◌≤◌, ◌<◌, IfSome, is_some};
 ghost use Rattle.std.specs.Option.{option_map};
-ghost use Rattle.fw_base.specs.Devices.{code_of, has_unit};
+ghost use Rattle.fw_terms.specs.Devices.{code_of, has_unit};
 ghost use Rattle.fw_node.specs.Streams.{talking_on};
 ghost use Rattle.fw_node.specs.State.{first_state, first_unit, after_reset, after_second};
 
 use crate::waiting::Waiting;
 use fw_avc::Unit;
-use fw_base::DeviceKind;
 use fw_csr::Manager;
 use fw_plug::Plugs;
+use fw_terms::DeviceKind;
 use std::marker::Model;
 
 /// A device as a node of the bus: the registers by which it answers request packets.
@@ -29,7 +29,7 @@ pub struct Node {
 impl Model for Node {
     ghost use Rattle.std.specs.Prelude.{◌≡◌, ◌≤◌, is_some, length};
     ghost use Rattle.std.specs.Option.{ForSome};
-    ghost use Rattle.fw_base.specs.Devices.{has_unit, output_plugs_of, input_plugs_of};
+    ghost use Rattle.fw_terms.specs.Devices.{has_unit, output_plugs_of, input_plugs_of};
     ghost use Rattle.fw_fcp.specs.Frames.{Fits};
     ghost use Rattle.fw_node.specs.State.{NodeState};
 
@@ -42,7 +42,7 @@ impl Model for Node {
 
 impl Node {
     /// Device `device`, 0 to 62 in order of declaration, of the kind with this code (`DeviceKind::code`), at data rate 0,
-    /// 1 or 2 for 100, 200 or 400 Mbit/s, on a bus that withholds channel 31 where `withhold` is true. It is no node of a
+    /// 1 or 2 for 100, 200 or 400 Mbit/s, on a bus that withholds channel 31 if `withhold` is true. It is no node of a
     /// bus until a bus reset.
     pub fn new(kind: u8, device: u8, rate: u8, withhold: bool) -> Node
         requires kind { kind ≤ 3 }
@@ -73,7 +73,7 @@ impl Node {
     }
 
     /// A bus reset, at which the node gets its number, and where `manager` is true becomes the isochronous resource
-    /// manager with registers at their initial values; channel 31 is not free then where the bus withholds it.
+    /// manager with registers at their initial values; channel 31 is not free then if the bus withholds it.
     pub fn reset(&mut self, number: u8, manager: bool)
         requires { number ≤ 62 }
         ensures { self.new ≡ after_reset number manager self.old }
@@ -120,7 +120,7 @@ impl Node {
         &self.plugs
     }
 
-    /// The channel on which the node's output plug talks: None exactly where it does not talk, or the node has none. A device has
+    /// The channel on which the node's output plug talks: None exactly if it does not talk, or the node has none. A device has
     /// one output plug at most (own).
     pub fn talking_on(&self) -> Option<u8>
         ensures value { result ≡ talking_on self.now }
@@ -132,7 +132,7 @@ impl Node {
         Some(self.plugs.out_word(0).channel())
     }
 
-    /// The manager's registers that `answer` reads and swaps. None exactly where the latest `reset` did not name this node
+    /// The manager's registers that `answer` reads and swaps. None exactly if the latest `reset` did not name this node
     /// the manager, or no `reset` came since `new`.
     pub fn manager(&self) -> Option<&Manager>
         ensures { option_map (λ m. m.now) result ≡ self.now.manager }

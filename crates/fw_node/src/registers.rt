@@ -3,7 +3,7 @@
 ghost use Rattle.std.specs.Prelude.{◌≡◌, ◌≤◌, ℕ, Some, None, IsSome, IsTrue};
 ghost use Rattle.fw_async.specs.Async.{Fits};
 ghost use Rattle.std.specs.Option.{option_map};
-ghost use Rattle.fw_base.specs.Devices.{has_link};
+ghost use Rattle.fw_terms.specs.Devices.{has_link};
 ghost use Rattle.fw_csr.specs.Manager.{words_after};
 ghost use Rattle.fw_csr.specs.Requests.{offset_of};
 ghost use Rattle.fw_csr.specs.Replies.{reply};
@@ -146,7 +146,7 @@ impl Node {
     }
 }
 
-/// Carries a request out at the manager's registers, where the node is the manager.
+/// Carries a request out at the manager's registers, if the node is the manager.
 #[inline(always)]
 fn manager_reply<R: RegisterRequest>(manager: &mut Option<Manager>, r: &R) -> Reply
     ensures reply { result ≡ reply (manager_register_at manager.old (offset_of (R.request r.now))) (R.request r.now) }

@@ -7,8 +7,8 @@ ghost use Rattle.fw_node.specs.Packets.{request_in, requester, packet_of, reques
 
 use crate::response::RETRY_X;
 use fw_async::{Head, Packet, PacketRoom, QuadletRequest, node_id, number_of};
-use fw_base::Label;
 use fw_csr::{QuadletAccess, Request};
+use fw_terms::Label;
 use fw_words::{Bytes, Bytes16, Data, Swap};
 
 /// What a request packet asks.

@@ -58,7 +58,7 @@ pub fn put_reply(number: u8, asked: &QuadletRequest, reply: Reply, out: &mut Pac
     }
 }
 
-/// The old value, where the lock was carried out.
+/// The old value, if the lock was carried out.
 fn old_quadlet(reply: Reply) -> Option<u32>
     ensures { old_part result ≡ old_bytes reply }
 {
@@ -69,7 +69,7 @@ fn old_quadlet(reply: Reply) -> Option<u32>
     }
 }
 
-/// The response to a lock request with this function, with the old value where the lock was carried out.
+/// The response to a lock request with this function, with the old value if the lock was carried out.
 fn lock_response(head: Head, function: u8, reply: Reply) -> Packet<'static>
     ensures packet { result ≡ Packet.LockReply head reply.rcode function (old_bytes reply) }
     ensures sizes { IsTrue (is_reply_size (length (old_bytes reply))) }
@@ -97,7 +97,7 @@ fn response_head(number: u8, request: &Head) -> Head
     }
 }
 
-/// The data of a lock response: the old value, where the lock was carried out.
+/// The data of a lock response: the old value, if the lock was carried out.
 fn old_bytes(reply: Reply) -> Bytes8
     ensures value { result ≡ old_bytes reply }
     ensures size { IsTrue (is_reply_size (length result)) }
@@ -110,7 +110,7 @@ fn old_bytes(reply: Reply) -> Bytes8
     bytes
 }
 
-/// The reply that a response packet carries, with its response code. None where the packet is no response, or carries
+/// The reply that a response packet carries, with its response code. None if the packet is no response, or carries
 /// other data than a quadlet.
 pub fn reply_in(p: &Packet) -> Option<Reply>
     ensures { result ≡ reply_in p.now }

@@ -17,7 +17,7 @@ use fw_tape::Desk;
 use fw_words::Bytes512;
 use std::marker::Model;
 
-/// A frame that waits to be sent, and the number of the node that it goes to. Where none waits, the frame is room for the next.
+/// A frame that waits to be sent, and the number of the node that it goes to. If none waits, the frame is room for the next.
 #[derive(Drop)]
 pub(crate) struct Waiting {
     pub(crate) to: Option<u8>,
@@ -71,7 +71,7 @@ impl Waiting {
         self.to = Some(from);
     }
 
-    /// Where no frame waits, the next notice of a unit does.
+    /// If no frame waits, the next notice of a unit does.
     pub(crate) fn fill(&mut self, unit: &mut Unit)
         ensures waiting { self.new ≡ filled self.old unit.old }
         ensures unit { unit.new ≡ unit_left self.old unit.old }

@@ -5,8 +5,8 @@ ghost use Rattle.fw_node.specs.Contents.{node_ids, cycle_time, capabilities};
 
 use fw_async::node_id;
 use fw_avc::COMPANY_ID;
-use fw_base::DeviceKind;
 use fw_csr::{CYCLES_PER_SECOND, SPLIT_TIMEOUT};
+use fw_terms::DeviceKind;
 use fw_words::with_field;
 
 /// SPLIT_TIMEOUT_LO: the cycles, in the top 13 bits.

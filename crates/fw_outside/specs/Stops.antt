@@ -4,7 +4,7 @@ use Rattle.fw_outside.specs.Outside.{Rose}
 use Rattle.fw_outside.specs.declared.stop.Stop.{Stop}
 use Rattle.fw_outside.specs.declared.stop.Stop.TheVariants.{ReadFault, WriteFault, TooLong, NoMemory}
 
--- The source's count of faults rises where a read failed, and stays else.
+-- The source's count of faults rises if a read failed, and stays else.
 abbrev pub ReadCount : ℕ → ℕ → Option Stop → Type 0
 ReadCount old new None = new ≡ old
 ReadCount old new (Some ReadFault) = Rose old new
@@ -12,7 +12,7 @@ ReadCount old new (Some WriteFault) = new ≡ old
 ReadCount old new (Some TooLong) = new ≡ old
 ReadCount old new (Some NoMemory) = new ≡ old
 
--- The sink's count of faults rises where a write failed, and stays else.
+-- The sink's count of faults rises if a write failed, and stays else.
 abbrev pub WriteCount : ℕ → ℕ → Option Stop → Type 0
 WriteCount old new None = new ≡ old
 WriteCount old new (Some ReadFault) = new ≡ old

@@ -11,7 +11,7 @@ use std::io::Write;
 const ROOM: usize = 65_536;
 
 /// A `StdSink` that gathers what is written and passes it on once its room is full, so that a short piece is only copied. What it
-/// still keeps back is passed on by `flush`; where the writer fails, it is lost.
+/// still keeps back is passed on by `flush`; if the writer fails, it is lost.
 #[derive(Drop)]
 pub struct BufferedSink<W: Write> {
     inner: StdSink<W>,
@@ -35,7 +35,7 @@ impl<W: Write> BufferedSink<W> {
         }
     }
 
-    /// Passes on what is kept back, here and by the writer. Where it fails, some of it may not have been passed on.
+    /// Passes on what is kept back, here and by the writer. If it fails, some of it may not have been passed on.
     pub fn flush(&mut self) -> Result<(), Failed>
         ensures passed { OnOk result (Appends (W.contents self.old.inner.inner) (W.contents self.new.inner.inner) (take self.old.length self.old.bytes)) }
         ensures front { OnErr result (AppendsPart (W.contents self.old.inner.inner) (W.contents self.new.inner.inner) (take self.old.length self.old.bytes)) }
@@ -72,7 +72,7 @@ impl<W: Write> BufferedSink<W> {
         self.length = end;
     }
 
-    /// Keeps the front of a row back, which fits whole.
+    /// Keeps the beginning of a row back, which fits whole.
     #[inline(always)]
     fn keep_front(&mut self, row: &[u8; 48], count: usize)
         requires count { count ≤ 48 }

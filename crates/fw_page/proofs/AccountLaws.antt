@@ -1,14 +1,11 @@
 -- What a page says of the account at its end.
-use Rattle.std.proofs.Common.{◌≡◌, ℕ, ◌+◌, List, ◌++◌, Option, Some, None, Result, ap, subst, sym, ◌∙◌}
-use Rattle.std.specs.Prelude.{OnOk}
-use Rattle.std.proofs.lemmas.List.{append-nil}
-use Rattle.fw_account.specs.Account.{Account}
+use Rattle.fw_page.proofs.Common.{◌≡◌, ℕ, ◌+◌, List, ◌++◌, Option, Some, None, Result, ap, subst, sym, ◌∙◌, OnOk, append-nil, Account}
 use Rattle.fw_ledger.specs.declared.tables.Tables.{Tables}
 use Rattle.fw_ledger.specs.Stands.{StandsFor}
-use Rattle.fw_phrases.specs.declared.note.AccountStop.{AccountStop}
-use Rattle.fw_strip.specs.Drawing.{LedgerFor}
-use Rattle.fw_content.specs.Sums.{stopped_text, followed_text, account_text}
-use Rattle.fw_content.proofs.LedgerLaws.{by_ledger}
+use Rattle.fw_page_phrases.specs.declared.note.AccountStop.{AccountStop}
+use Rattle.fw_page_strip.specs.Drawing.{LedgerFor}
+use Rattle.fw_page_content.specs.Sums.{stopped_text, followed_text, account_text}
+use Rattle.fw_page_content.proofs.LedgerLaws.{by_ledger}
 
 pub stopped_said : (l : Option Account) (stop : AccountStop) (o : Option AccountStop) → o ≡ Some stop → stopped_text stop ≡ account_text l o
 stopped_said l stop o e = sym (ap (account_text l) e)

@@ -1,20 +1,13 @@
 -- An answer that comes later, as a row.
-use Rattle.std.proofs.Common.{◌≡◌, ℕ, Bool, true, List, ◌++◌, Option, Some, None, refl, ap, subst, ◌∙◌}
+use Rattle.fw_page.proofs.Common.{◌≡◌, ℕ, Bool, true, List, ◌++◌, Option, Some, None, refl, ap, subst, ◌∙◌, Packet, Request, Standing, Progress, State, Step, row, Front, own_front, Shows, Moves}
 use Rattle.std.specs.Option.{option_map}
 use Rattle.fw_async.specs.Heads.{head_of}
-use Rattle.fw_async.specs.declared.packet.Packet.{Packet}
-use Rattle.fw_phrases.specs.Asking.{class_of}
-use Rattle.fw_phrases.specs.Made.{answer_of, told_of}
-use Rattle.fw_phrases.specs.Standing.{standing_for}
-use Rattle.fw_phrases.specs.declared.request.Request.{Request}
-use Rattle.fw_phrases.specs.declared.standing.Standing.{Standing}
-use Rattle.fw_page.specs.declared.progress.Progress.{Progress}
-use Rattle.fw_page.specs.State.{State, Step}
+use Rattle.fw_page_phrases.specs.Asking.{class_of}
+use Rattle.fw_page_phrases.specs.Made.{answer_of, told_of}
+use Rattle.fw_page_phrases.specs.Standing.{standing_for}
 use Rattle.fw_page.specs.Requests.{answer, answer_to, answered}
-use Rattle.fw_content.specs.Exchanges.{answer_kind, answer_marks, answer_words, request_of}
-use Rattle.fw_page.specs.Rows.{row}
-use Rattle.fw_content.specs.Heads.{Front, devices_of, own_front}
-use Rattle.fw_page.specs.Sheets.{Shows, Moves}
+use Rattle.fw_page_content.specs.Exchanges.{answer_kind, answer_marks, answer_words, request_of}
+use Rattle.fw_page_content.specs.Heads.{devices_of}
 use Rattle.fw_page.proofs.RowLaws.{row_same}
 
 -- what an answer leaves as it was

@@ -1,39 +1,30 @@
 -- What a method does if the call at its end is done.
-use Rattle.std.proofs.Common.{◌≡◌, ℕ, ◌<◌, ◌==◌, Bool, true, false, List, ◌++◌, Option, Some, None, Result, Ok, Err, if◌then◌else◌, refl, ap, subst, sym, arith}
-use Rattle.std.specs.Prelude.{OnOk}
-use Rattle.fw_async.specs.Reader.{Spells}
-use Rattle.fw_entry.specs.declared.codes.event.TheConstants as Codes
-use Rattle.fw_scene.specs.Lives.{after_start, after_loss}
-use Rattle.fw_async.specs.declared.packet.Packet.{Packet}
-use Rattle.fw_entry.specs.Log.{Fits}
-use Rattle.fw_entry.specs.declared.entry.Entry.{Entry}
-use Rattle.fw_entry.specs.declared.entry.Entry.TheVariants.{Reset, Async, Iso, Event, Outcome, Shown, End}
-use Rattle.fw_entry.specs.declared.entry.EventEntry.{EventEntry}
-use Rattle.fw_entry.specs.declared.entry.OutcomeEntry.{OutcomeEntry}
-use Rattle.fw_entry.specs.declared.entry.ResetEntry.{ResetEntry}
-use Rattle.fw_entry.specs.declared.entry.ShownEntry.{ShownEntry}
+use Rattle.fw_page.proofs.Common.{◌≡◌, ℕ, ◌<◌, ◌==◌, Bool, true, false, List, ◌++◌, Option, Some, None, Result, if◌then◌else◌, refl, ap, subst, sym, arith, OnOk, Spells, Packet, Request, KeepsNothing}
+use Rattle.fw_page.proofs.Common.{KeepsRequest, KeepsRun, Progress, State, Step, then_do, with_entry, row, Front, exchange, Shows, Moves, three, put_as}
+use Rattle.std.proofs.Common.{Ok, Err}
+use Rattle.fw_log_entry.specs.declared.codes.event.TheConstants as Codes
+use Rattle.fw_page_scene.specs.Lives.{after_start, after_loss}
+use Rattle.fw_log_entry.specs.Log.{Fits}
+use Rattle.fw_log_entry.specs.declared.entry.Entry.{Entry}
+use Rattle.fw_log_entry.specs.declared.entry.Entry.TheVariants.{Reset, Async, Iso, Event, Outcome, Shown, End}
+use Rattle.fw_log_entry.specs.declared.entry.EventEntry.{EventEntry}
+use Rattle.fw_log_entry.specs.declared.entry.OutcomeEntry.{OutcomeEntry}
+use Rattle.fw_log_entry.specs.declared.entry.ResetEntry.{ResetEntry}
+use Rattle.fw_log_entry.specs.declared.entry.ShownEntry.{ShownEntry}
 use Rattle.fw_cip.specs.declared.packet.IsoPacket.{IsoPacket}
-use Rattle.fw_phrases.specs.Asking.{request_by}
-use Rattle.fw_phrases.specs.Runs.{with_start, with_packet}
-use Rattle.fw_phrases.specs.declared.note.Break.{Break}
-use Rattle.fw_phrases.specs.declared.request.Request.{Request}
-use Rattle.fw_page.specs.declared.progress.Held.TheVariants.{Nothing as KeepsNothing, Request as KeepsRequest, Run as KeepsRun}
-use Rattle.fw_page.specs.declared.progress.Progress.{Progress}
-use Rattle.fw_page.specs.State.{State, Step, says, then_do, with_entry}
-use Rattle.fw_page.specs.Rows.{row}
-use Rattle.fw_content.specs.Heads.{Front}
-use Rattle.fw_page.specs.Requests.{asked, answer, alone, exchange}
+use Rattle.fw_page_phrases.specs.Asking.{request_by}
+use Rattle.fw_page_phrases.specs.Runs.{with_start, with_packet}
+use Rattle.fw_page_phrases.specs.declared.note.Break.{Break}
+use Rattle.fw_page.specs.State.{says}
+use Rattle.fw_page.specs.Requests.{asked, answer, alone}
 use Rattle.fw_page.specs.Resets.{reset, reset_by}
-use Rattle.fw_content.specs.Kept.{orphans}
+use Rattle.fw_page_content.specs.Kept.{orphans}
 use Rattle.fw_page.specs.Streams.{cycles, start_joins, packet_joins}
 use Rattle.fw_page.specs.Ends.{why, section_end_text, closed, sum_text, end_text}
 use Rattle.fw_page.specs.declared.tail.TheConstants.{TAIL}
 use Rattle.fw_page.specs.Events.{event_row, outcome_row, shown_row, end_row, happened, died}
 use Rattle.fw_page.specs.Pieces.{release, released_in_section, begun_run, joined, asked_or_answer, lone_packet, held_for, streamed, piece_of}
-use Rattle.fw_page.specs.Sheets.{Shows, Moves}
-use Rattle.fw_section.proofs.ChainLaws.{three}
 use Rattle.fw_page.proofs.StepLaws.{moves_more, moves_as}
-use Rattle.fw_content.proofs.TextLaws.{put_as}
 use Rattle.fw_page.proofs.ReleaseLaws.{joined_no, release_asks, release_runs, packet_alone, packet_answers}
 
 -- a row that is the step

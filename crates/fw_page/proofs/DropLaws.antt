@@ -1,14 +1,10 @@
 -- The requests that a bus reset drops, one after another.
-use Rattle.std.proofs.Common.{◌≡◌, ℕ, ◌<◌, Bool, true, false, List, [], ◌∷◌, ◌++◌, drop, length, slice_get, codes, Option, Some, None, if◌then◌else◌, refl, ap, subst, sym, ◌∙◌, append_assoc, arith}
-use Rattle.std.proofs.lemmas.List.{append-nil}
-use Rattle.fw_phrases.specs.declared.standing.Standing.{Standing}
-use Rattle.fw_page.specs.declared.progress.Progress.{Progress}
-use Rattle.fw_page.specs.State.{State, Step, becomes, then_do}
-use Rattle.fw_page.specs.Rows.{row, due, gap, bare_row, plain, due_words}
-use Rattle.fw_content.specs.Heads.{Front, request_front}
+use Rattle.fw_page.proofs.Common.{◌≡◌, ℕ, ◌<◌, Bool, true, false, List, [], ◌++◌, length, codes, Option, Some, None, if◌then◌else◌, refl, ap, subst, sym, ◌∙◌, arith, append-nil, Standing, Progress}
+use Rattle.fw_page.proofs.Common.{State, Step, becomes, then_do, row, Front, request_front, Shows, Moves}
+use Rattle.std.proofs.Common.{◌∷◌, drop, slice_get, append_assoc}
+use Rattle.fw_page.specs.Rows.{due, gap, bare_row, plain, due_words}
 use Rattle.fw_page.specs.Resets.{drop_row, drop_by, drops}
-use Rattle.fw_content.specs.Exchanges.{dropped_marks, dropped_words}
-use Rattle.fw_page.specs.Sheets.{Shows, Moves}
+use Rattle.fw_page_content.specs.Exchanges.{dropped_marks, dropped_words}
 use Rattle.fw_page.proofs.FrameLaws.{standing_shown}
 
 -- ---- a row leaves the requests as they stand

@@ -1,17 +1,15 @@
 -- Who hears a channel, and who sends on it.
-use Rattle.std.proofs.Common.{◌≡◌, ℕ, ◌+◌, ◌-◌, ◌<◌, ◌≤◌, ◌&&◌, nat_lt, nat_le, Bool, true, false, List, length, Option, Some, None, if◌then◌else◌, slice_index_or, refl, ap, sym, ◌∙◌, arith}
+use Rattle.fw_page.proofs.Common.{◌≡◌, ℕ, ◌+◌, ◌-◌, ◌<◌, Bool, true, false, List, length, Option, Some, None, if◌then◌else◌, refl, ap, sym, ◌∙◌, arith, first_id, NodeRow, Account}
+use Rattle.std.proofs.Common.{◌≤◌, ◌&&◌, nat_lt, nat_le, slice_index_or}
 use Rattle.std.specs.List.{slice_get}
 use Rattle.std.specs.Option.{option_map}
 use Rattle.std.proofs.lemmas.Option.{slice_get_past, slice_get_read}
 use Rattle.std.proofs.lemmas.Bool.Decides.{nat_tests}
-use Rattle.fw_entry.specs.Network.{first_id}
-use Rattle.fw_entry.specs.declared.nodes.NodeRow.{NodeRow}
-use Rattle.fw_account.specs.Account.{Account}
 use Rattle.fw_ledger.specs.declared.tables.Tables.{Tables}
 use Rattle.fw_ledger.specs.Stands.{StandsFor}
-use Rattle.fw_marks.specs.Places.{device_at, device_of, row_device}
-use Rattle.fw_scene.specs.Lines.{hears_by}
-use Rattle.fw_strip.specs.Drawing.{LedgerFor}
+use Rattle.fw_page_marks.specs.Places.{device_at, device_of, row_device}
+use Rattle.fw_page_scene.specs.Lines.{hears_by}
+use Rattle.fw_page_strip.specs.Drawing.{LedgerFor}
 use Rattle.fw_page.specs.Streams.{heard, hears_at}
 
 -- the row of a node that is there

@@ -1,5 +1,5 @@
 -- What an event says and does, by its code.
-use Rattle.std.proofs.Common.{◌≡◌, ℕ, ◌==◌, if◌then◌else◌, ap, sym, ◌∙◌}
+use Rattle.fw_page.proofs.Common.{◌≡◌, ℕ, ◌==◌, if◌then◌else◌, ap, sym, ◌∙◌}
 use Rattle.std.proofs.lemmas.Bool.{ne_eqb}
 
 -- one of three

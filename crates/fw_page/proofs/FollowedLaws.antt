@@ -1,17 +1,13 @@
 -- The account takes an entry: what is drawn of it and of the nodes stays as it was, unless the progress has it that it has moved.
-use Rattle.std.proofs.Common.{◌≡◌, ℕ, ◌||◌, Bool, true, false, List, Option, Some, None, refl, ap, subst, sym, ◌∙◌}
-use Rattle.fw_entry.specs.declared.entry.Entry.{Entry}
-use Rattle.fw_entry.specs.declared.nodes.NodeRow.{NodeRow}
-use Rattle.fw_account.specs.Account.{Account}
-use Rattle.fw_phrases.specs.declared.note.AccountStop.{AccountStop}
-use Rattle.fw_scene.specs.Beside.{IsBeside, has_stopped}
-use Rattle.fw_scene.specs.Followed.{follow}
-use Rattle.fw_scene.specs.declared.lives.Lives.{Lives}
-use Rattle.fw_scene.specs.Laws.{StaysDrawn}
-use Rattle.fw_strip.specs.Drawing.{Painted}
-use Rattle.fw_page.specs.declared.progress.Progress.{Progress}
-use Rattle.fw_page.specs.State.{State, stops_or, with_entry}
-use Rattle.fw_page.specs.Sheets.{Shows, IsDrawn, painted_of}
+use Rattle.fw_page.proofs.Common.{◌≡◌, ℕ, Bool, true, false, List, Option, Some, None, refl, ap, subst, sym, ◌∙◌, NodeRow, Account, Lives, Painted, Progress, State, with_entry, Shows, painted_of}
+use Rattle.std.proofs.Common.{◌||◌}
+use Rattle.fw_log_entry.specs.declared.entry.Entry.{Entry}
+use Rattle.fw_page_phrases.specs.declared.note.AccountStop.{AccountStop}
+use Rattle.fw_page_scene.specs.Beside.{IsBeside, has_stopped}
+use Rattle.fw_page_scene.specs.Followed.{follow}
+use Rattle.fw_page_scene.specs.Laws.{StaysDrawn}
+use Rattle.fw_page.specs.State.{stops_or}
+use Rattle.fw_page.specs.Sheets.{IsDrawn}
 
 -- whether a row is due that tells that the account stops
 due_is : (due : Bool) (before after : Option AccountStop) → (due || has_stopped before after) ≡ stops_or due before after

@@ -1,15 +1,6 @@
 -- What a change of one part of what the entries leave does to the state that it stands for.
-use Rattle.std.proofs.Common.{◌≡◌, ℕ, Bool, List, refl, ap, subst, sym}
-use Rattle.fw_async.specs.Reader.{Spells}
-use Rattle.fw_async.specs.declared.packet.Packet.{Packet}
-use Rattle.fw_phrases.specs.declared.request.Request.{Request}
-use Rattle.fw_phrases.specs.declared.run.Run.{Run}
-use Rattle.fw_phrases.specs.declared.standing.Standing.{Standing}
-use Rattle.fw_content.specs.declared.counts.Counts.{Counts}
-use Rattle.fw_page.specs.declared.progress.Held.TheVariants.{Nothing as KeepsNothing, Request as KeepsRequest, Run as KeepsRun}
-use Rattle.fw_page.specs.declared.progress.Progress.{Progress}
-use Rattle.fw_page.specs.State.{State, Nothing, Asks, Runs}
-use Rattle.fw_page.specs.Sheets.{Shows}
+use Rattle.fw_page.proofs.Common.{◌≡◌, ℕ, Bool, List, refl, ap, subst, sym, Spells, Packet, Request, Run, Standing, Counts, KeepsNothing, KeepsRequest, KeepsRun, Progress, State, Asks, Shows}
+use Rattle.fw_page.specs.State.{Nothing, Runs}
 
 -- ---- one part changes
 

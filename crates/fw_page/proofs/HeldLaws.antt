@@ -1,24 +1,19 @@
 -- What is held back: how an entry joins it, and that an answer is to it.
-use Rattle.std.proofs.Common.{◌≡◌, ℕ, ◌==◌, ◌&&◌, Bool, true, false, List, Option, Some, None, if◌then◌else◌, refl, ap, subst, sym, ◌∙◌}
+use Rattle.fw_page.proofs.Common.{◌≡◌, ℕ, ◌==◌, Bool, true, false, List, Option, Some, None, if◌then◌else◌, refl, ap, subst, sym, ◌∙◌, Spells, Packet, Request, Run, KeepsNothing, KeepsRequest}
+use Rattle.fw_page.proofs.Common.{KeepsRun, Progress, State, Asks, then_do, exchange, Shows}
+use Rattle.std.proofs.Common.{◌&&◌}
 use Rattle.fw_async.specs.Heads.{head_of}
-use Rattle.fw_async.specs.Reader.{Spells}
-use Rattle.fw_async.specs.declared.packet.Packet.{Packet}
 use Rattle.fw_async.specs.declared.packet.Packet.TheVariants.{WriteQuadlet, WriteBlock, WriteReply, ReadQuadlet, ReadBlock, ReadQuadletReply, ReadBlockReply, CycleStart, Lock, LockReply}
 use Rattle.fw_async.specs.declared.packet.Head.{Head}
 use Rattle.fw_cip.specs.declared.packet.IsoPacket.{IsoPacket}
-use Rattle.fw_phrases.specs.Asking.{request_by}
-use Rattle.fw_phrases.specs.Made.{is_answer}
-use Rattle.fw_phrases.specs.Runs.{with_start}
-use Rattle.fw_phrases.specs.declared.request.Request.{Request}
-use Rattle.fw_phrases.specs.declared.run.Run.{Run}
+use Rattle.fw_page_phrases.specs.Asking.{request_by}
+use Rattle.fw_page_phrases.specs.Made.{is_answer}
+use Rattle.fw_page_phrases.specs.Runs.{with_start}
 use Rattle.fw_page.specs.declared.progress.Held.{Held as Kept}
-use Rattle.fw_page.specs.declared.progress.Held.TheVariants.{Nothing as KeepsNothing, Request as KeepsRequest, Run as KeepsRun}
-use Rattle.fw_page.specs.declared.progress.Progress.{Progress}
-use Rattle.fw_page.specs.State.{State, Held, Nothing, Asks, Runs, then_do}
-use Rattle.fw_page.specs.Requests.{exchange}
+use Rattle.fw_page.specs.State.{Held, Nothing, Runs}
 use Rattle.fw_page.specs.Streams.{start_joins, packet_joins, taken, held_run}
 use Rattle.fw_page.specs.Pieces.{streamed, released_in_section, asked_or_answer, lone_packet, held_for, packet_by}
-use Rattle.fw_page.specs.Sheets.{Shows, KeepsFor}
+use Rattle.fw_page.specs.Sheets.{KeepsFor}
 
 -- ---- what is kept is what is held back
 

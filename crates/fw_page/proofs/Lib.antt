@@ -1,3 +1,4 @@
+pub mod Common
 pub mod StepLaws
 pub mod PlainLaws
 pub mod FrameLaws

@@ -1,12 +1,9 @@
 -- What loops over channels and nodes have after so many of them.
-use Rattle.std.proofs.Common.{◌≡◌, ℕ, suc, ◌+◌, List, [], ◌++◌, Option, refl, ap, sym, arith}
-use Rattle.fw_account.specs.Account.{Account}
-use Rattle.fw_entry.specs.declared.nodes.NodeRow.{NodeRow}
-use Rattle.fw_marks.specs.Places.{place_of}
-use Rattle.fw_phrases.specs.Runs.{flow_at}
-use Rattle.fw_phrases.specs.declared.run.Run.{Run}
-use Rattle.fw_page.specs.State.{State, becomes, then_do}
-use Rattle.fw_page.specs.Streams.{heard, ear_if, ears_below, reach_from, reach_if, reach_below, channel_row, channel_rows}
+use Rattle.fw_page.proofs.Common.{◌≡◌, ℕ, ◌+◌, List, [], ◌++◌, Option, refl, ap, sym, arith, Account, NodeRow, Run, State, becomes, then_do, channel_row}
+use Rattle.std.proofs.Common.{suc}
+use Rattle.fw_page_marks.specs.Places.{place_of}
+use Rattle.fw_page_phrases.specs.Runs.{flow_at}
+use Rattle.fw_page.specs.Streams.{heard, ear_if, ears_below, reach_from, reach_if, reach_below, channel_rows}
 
 one : (n : ℕ) → n + 1 ≡ suc n
 one n = omega arith

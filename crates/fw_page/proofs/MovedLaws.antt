@@ -1,9 +1,5 @@
 -- What a change of what is drawn, or of what it is drawn of, does to the state that is stood for.
-use Rattle.std.proofs.Common.{◌≡◌, ℕ, Bool, true, List, refl, subst, sym}
-use Rattle.fw_scene.specs.declared.lives.Lives.{Lives}
-use Rattle.fw_page.specs.declared.progress.Progress.{Progress}
-use Rattle.fw_page.specs.State.{State}
-use Rattle.fw_page.specs.Sheets.{Shows}
+use Rattle.fw_page.proofs.Common.{◌≡◌, ℕ, Bool, true, List, refl, subst, sym, Lives, Progress, State, Shows}
 
 -- what the last row left over the columns
 pub lines_shown : (st : State) (old new : Progress) (lines : List ℕ) → new ≡ record old { lines = new.lines } → new.lines.items ≡ lines → Shows st old

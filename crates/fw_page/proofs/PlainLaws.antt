@@ -1,16 +1,11 @@
 -- Rows that draw what the last one left, and steps that are done or not.
-use Rattle.std.proofs.Common.{◌≡◌, ℕ, ◌<◌, ◌≤◌, nat_lt, true, false, List, [], ◌++◌, codes, decimal, ap, sym, ◌∙◌, arith}
-use Rattle.std.proofs.lemmas.List.{append-nil}
+use Rattle.fw_page.proofs.Common.{◌≡◌, ℕ, ◌<◌, true, false, List, [], ◌++◌, codes, ap, sym, ◌∙◌, arith, append-nil, three, Progress, State, becomes, plain_front, Shows, Moves, yes, no}
+use Rattle.std.proofs.Common.{◌≤◌, nat_lt, decimal}
 use Rattle.std.proofs.lemmas.Bool.Decides.{nat_tests}
-use Rattle.fw_marks.specs.Small.{millis}
-use Rattle.fw_section.proofs.ChainLaws.{three}
-use Rattle.fw_page.specs.declared.progress.Progress.{Progress}
-use Rattle.fw_page.specs.State.{State, becomes}
-use Rattle.fw_page.specs.Rows.{plain, plain_front, plain_back, gap_class, gap_text, before, before_text, due, due_words}
-use Rattle.fw_page.specs.Sheets.{Shows, Moves}
+use Rattle.fw_page_marks.specs.Small.{millis}
+use Rattle.fw_page.specs.Rows.{plain, plain_back, gap_class, gap_text, before, before_text, due, due_words}
 use Rattle.fw_page.proofs.StepLaws.{moves_as, moves_none}
 use Rattle.fw_page.proofs.FrameLaws.{begun_shown, due_shown}
-use Rattle.fw_content.proofs.TextLaws.{yes, no}
 
 low : (m n : ℕ) → m < n → nat_lt m n ≡ true
 low m n l = grind (arith, nat_tests)

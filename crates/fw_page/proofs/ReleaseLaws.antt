@@ -1,21 +1,14 @@
 -- What was held back comes as it stands alone, and what joins it.
-use Rattle.std.proofs.Common.{◌≡◌, ℕ, Bool, true, false, List, ◌++◌, Option, Some, None, Result, Ok, Err, ap, subst, sym}
-use Rattle.std.specs.Prelude.{OnOk}
-use Rattle.fw_async.specs.Reader.{Spells}
-use Rattle.fw_async.specs.declared.packet.Packet.{Packet}
-use Rattle.fw_phrases.specs.declared.request.Request.{Request}
-use Rattle.fw_phrases.specs.declared.run.Run.{Run}
-use Rattle.fw_page.specs.declared.progress.Held.TheVariants.{Nothing as KeepsNothing, Request as KeepsRequest, Run as KeepsRun}
-use Rattle.fw_page.specs.declared.progress.Progress.{Progress}
-use Rattle.fw_page.specs.State.{State, Step, Nothing, Asks, becomes, then_do}
-use Rattle.fw_page.specs.Requests.{alone, exchange}
+use Rattle.fw_page.proofs.Common.{◌≡◌, ℕ, Bool, true, false, List, ◌++◌, Option, Some, None, Result, ap, subst, sym, OnOk, Spells, Packet, Request, Run, KeepsNothing, KeepsRequest, KeepsRun, Progress}
+use Rattle.fw_page.proofs.Common.{State, Step, Asks, becomes, then_do, exchange, Shows, Moves, yes, no}
+use Rattle.std.proofs.Common.{Ok, Err}
+use Rattle.fw_page.specs.State.{Nothing}
+use Rattle.fw_page.specs.Requests.{alone}
 use Rattle.fw_page.specs.Streams.{cycles, held_run}
 use Rattle.fw_page.specs.Pieces.{released, release, joined, begun_run, streamed, held_for, packet_by, lone_packet}
-use Rattle.fw_page.specs.Sheets.{Shows, Moves}
 use Rattle.fw_page.proofs.StepLaws.{moves_more, moves_as, moves_none, moves_silent}
 use Rattle.fw_page.proofs.FrameLaws.{nothing_shown}
 use Rattle.fw_page.proofs.HeldLaws.{keeps_nothing, keeps_run, keeps_request, asks_spelled, taken_shown, lone_by, exchange_by}
-use Rattle.fw_content.proofs.TextLaws.{yes, no}
 
 -- an answer for each packet that some bytes spell, is one for all
 pub on_ok_packets : {T E : Type 0} (r : Result T E) (body : List ℕ) (f : Packet → State → Step) (a b : Progress) (x y : List ℕ) → ((p : Packet) → Spells p body → OnOk r (Moves (f p) a b x y))

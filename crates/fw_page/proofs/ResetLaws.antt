@@ -1,24 +1,18 @@
 -- What a bus reset and events do to what the entries left.
-use Rattle.std.proofs.Common.{◌≡◌, ℕ, ◌+◌, ◌==◌, map, Bool, true, false, List, [], Option, Some, None, refl, ap, subst, sym, ◌∙◌}
-use Rattle.fw_account.specs.Account.{Account}
-use Rattle.fw_entry.specs.declared.entry.ResetEntry.{ResetEntry}
-use Rattle.fw_entry.specs.declared.nodes.NodeRow.{NodeRow}
-use Rattle.fw_entry.specs.Network.{first_id}
-use Rattle.fw_marks.specs.Places.{node_of}
-use Rattle.fw_phrases.specs.Standing.{given_up}
-use Rattle.fw_scene.specs.Lives.{after_reset, after_death}
-use Rattle.fw_scene.specs.declared.lives.Lives.{Lives}
-use Rattle.fw_section.specs.Sections.{section}
-use Rattle.fw_section.specs.Subject.{Subject}
-use Rattle.fw_strip.specs.Drawing.{Painted}
-use Rattle.fw_content.specs.declared.counts.Counts.{Counts}
-use Rattle.fw_page.specs.declared.progress.Progress.{Progress}
+use Rattle.fw_page.proofs.Common.{◌≡◌, ℕ, ◌+◌, ◌==◌, Bool, true, false, List, [], Option, Some, None, refl, ap, subst, sym, ◌∙◌, Account, NodeRow, first_id, Lives, Painted, Counts, Progress, State}
+use Rattle.fw_page.proofs.Common.{then_do, Shows}
+use Rattle.std.proofs.Common.{map}
+use Rattle.fw_log_entry.specs.declared.entry.ResetEntry.{ResetEntry}
+use Rattle.fw_page_marks.specs.Places.{node_of}
+use Rattle.fw_page_phrases.specs.Standing.{given_up}
+use Rattle.fw_page_scene.specs.Lives.{after_reset, after_death}
+use Rattle.fw_page_section.specs.Sections.{section}
+use Rattle.fw_page_section.specs.Subject.{Subject}
 use Rattle.fw_page.specs.declared.rows.Room.{Room}
 use Rattle.fw_page.specs.declared.sheet.Sheet.{Sheet}
-use Rattle.fw_page.specs.State.{State, then_do}
 use Rattle.fw_page.specs.Events.{died, given_up_by}
 use Rattle.fw_page.specs.Resets.{closed, section_step, reset_row, reset_by}
-use Rattle.fw_page.specs.Sheets.{Shows, IsDrawn, Does}
+use Rattle.fw_page.specs.Sheets.{IsDrawn, Does}
 use Rattle.fw_page.proofs.MovedLaws.{lines_shown}
 use Rattle.fw_page.proofs.StepLaws.{moves_as, moves_more}
 

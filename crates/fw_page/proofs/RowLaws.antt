@@ -1,18 +1,13 @@
 -- A row: its text, and what it leaves.
-use Rattle.std.proofs.Common.{◌≡◌, ℕ, not, Bool, true, false, List, [], ◌++◌, codes, Option, refl, ap, subst, sym, ◌∙◌}
-use Rattle.std.specs.Option.{is_some}
-use Rattle.fw_account.specs.Account.{Account}
-use Rattle.fw_entry.specs.declared.nodes.NodeRow.{NodeRow}
-use Rattle.fw_marks.specs.Shapes.{halves}
-use Rattle.fw_scene.specs.Lines.{nodes_text}
-use Rattle.fw_scene.specs.declared.lives.Lives.{Lives}
-use Rattle.fw_section.proofs.ChainLaws.{six}
-use Rattle.fw_strip.specs.Drawing.{Painted, StaysAs, painted}
-use Rattle.fw_page.specs.declared.progress.Progress.{Progress}
-use Rattle.fw_page.specs.State.{State}
-use Rattle.fw_page.specs.Rows.{lines_now, strip_text, row_text, row, drawn_now}
-use Rattle.fw_content.specs.Heads.{Front, head_text}
-use Rattle.fw_page.specs.Sheets.{Shows, IsDrawn, StayNodes, Draws, IsDrawnNow, painted_of}
+use Rattle.fw_page.proofs.Common.{◌≡◌, ℕ, not, Bool, true, false, List, [], ◌++◌, codes, Option, refl, ap, subst, sym, ◌∙◌, is_some, Account, NodeRow, Lives, Painted, Progress, State, row, Front}
+use Rattle.fw_page.proofs.Common.{Shows, painted_of}
+use Rattle.fw_page_marks.specs.Shapes.{halves}
+use Rattle.fw_page_scene.specs.Lines.{nodes_text}
+use Rattle.fw_page_section.proofs.ChainLaws.{six}
+use Rattle.fw_page_strip.specs.Drawing.{StaysAs, painted}
+use Rattle.fw_page.specs.Rows.{lines_now, strip_text, row_text, drawn_now}
+use Rattle.fw_page_content.specs.Heads.{head_text}
+use Rattle.fw_page.specs.Sheets.{IsDrawn, StayNodes, Draws, IsDrawnNow}
 
 -- ---- if nothing has moved
 

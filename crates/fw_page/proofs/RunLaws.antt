@@ -1,8 +1,5 @@
 -- The rows of a run of cycles.
-use Rattle.std.proofs.Common.{◌≡◌, ℕ, subst}
-use Rattle.fw_page.specs.declared.progress.Progress.{Progress}
-use Rattle.fw_page.specs.State.{State}
-use Rattle.fw_page.specs.Sheets.{Shows}
+use Rattle.fw_page.proofs.Common.{◌≡◌, ℕ, subst, Progress, State, Shows}
 use Rattle.fw_page.proofs.FrameLaws.{last_shown}
 
 -- the cycle of the last row, by another name

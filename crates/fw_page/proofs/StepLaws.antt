@@ -1,10 +1,6 @@
 -- One step after another, as methods do them.
-use Rattle.std.proofs.Common.{◌≡◌, ℕ, List, ◌++◌, Result, Ok, Err, ap, subst, sym, ◌∙◌, append_assoc}
-use Rattle.std.specs.Prelude.{OnOk}
-use Rattle.std.proofs.lemmas.List.{append-nil}
-use Rattle.fw_page.specs.declared.progress.Progress.{Progress}
-use Rattle.fw_page.specs.State.{State, Step, then_do, becomes}
-use Rattle.fw_page.specs.Sheets.{Shows, Moves}
+use Rattle.fw_page.proofs.Common.{◌≡◌, ℕ, List, ◌++◌, Result, ap, subst, sym, ◌∙◌, OnOk, append-nil, Progress, State, Step, then_do, becomes, Shows, Moves}
+use Rattle.std.proofs.Common.{Ok, Err, append_assoc}
 
 -- two steps, one after the other
 pub moves_more : (f g : State → Step) (a b c : Progress) (x y z : List ℕ) → Moves f a b x y → Moves g b c y z → Moves (λ st. then_do (f st) g) a c x z

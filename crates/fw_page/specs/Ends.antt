@@ -1,12 +1,12 @@
 -- The end of a page: what is still held back, why the log ends, and what it amounts to (own).
 use Rattle.std.specs.Prelude.{ℕ, ◌+◌, Bool, List, [], ◌++◌, codes, Option, Some, None, if◌then◌else◌}
-use Rattle.fw_phrases.specs.Notes.{break_text}
-use Rattle.fw_phrases.specs.declared.note.Break.{Break}
+use Rattle.fw_page_phrases.specs.Notes.{break_text}
+use Rattle.fw_page_phrases.specs.declared.note.Break.{Break}
 use Rattle.fw_page.specs.declared.tail.TheConstants.{TAIL}
 use Rattle.fw_page.specs.State.{State, Step, says, becomes, then_do}
 use Rattle.fw_page.specs.Rows.{before, plain}
 use Rattle.fw_page.specs.Pieces.{release}
-use Rattle.fw_content.specs.Sums.{account_text, entries_text, answers_text, kinds_text}
+use Rattle.fw_page_content.specs.Sums.{account_text, entries_text, answers_text, kinds_text}
 
 -- ---- the sum
 

@@ -1,21 +1,21 @@
 -- Events, outcomes and shown words, as rows (own).
 use Rattle.std.specs.Prelude.{ℕ, ◌+◌, ◌==◌, false, List, [], ◌++◌, map, codes, Option, Some, None, if◌then◌else◌}
-use Rattle.fw_entry.specs.Network.{first_id}
-use Rattle.fw_entry.specs.declared.codes.event.TheConstants as Codes
-use Rattle.fw_entry.specs.declared.entry.EventEntry.{EventEntry}
-use Rattle.fw_entry.specs.declared.entry.OutcomeEntry.{OutcomeEntry}
-use Rattle.fw_entry.specs.declared.entry.ShownEntry.{ShownEntry}
-use Rattle.fw_entry.specs.declared.entry.Entry.TheVariants.{Event, Shown}
-use Rattle.fw_marks.specs.Places.{place_of_device, node_of}
-use Rattle.fw_phrases.specs.Standing.{given_up}
-use Rattle.fw_phrases.specs.declared.standing.Standing.{Standing}
-use Rattle.fw_scene.specs.Lives.{after_death, after_start, after_loss}
+use Rattle.fw_log_entry.specs.Network.{first_id}
+use Rattle.fw_log_entry.specs.declared.codes.event.TheConstants as Codes
+use Rattle.fw_log_entry.specs.declared.entry.EventEntry.{EventEntry}
+use Rattle.fw_log_entry.specs.declared.entry.OutcomeEntry.{OutcomeEntry}
+use Rattle.fw_log_entry.specs.declared.entry.ShownEntry.{ShownEntry}
+use Rattle.fw_log_entry.specs.declared.entry.Entry.TheVariants.{Event, Shown}
+use Rattle.fw_page_marks.specs.Places.{place_of_device, node_of}
+use Rattle.fw_page_phrases.specs.Standing.{given_up}
+use Rattle.fw_page_phrases.specs.declared.standing.Standing.{Standing}
+use Rattle.fw_page_scene.specs.Lives.{after_death, after_start, after_loss}
 use Rattle.fw_page.specs.State.{State, Step, with_entry}
-use Rattle.fw_content.specs.Counts.{counted_at}
+use Rattle.fw_page_content.specs.Counts.{counted_at}
 use Rattle.fw_page.specs.Rows.{row}
-use Rattle.fw_content.specs.Heads.{own_front}
-use Rattle.fw_content.specs.Sayings.{symbol_marks, outcome_symbol, outcome_words, shown_words, event_symbol, event_device, event_front}
-use Rattle.fw_content.specs.Leaving.{left_text, dropped_by, not_taken_text}
+use Rattle.fw_page_content.specs.Heads.{own_front}
+use Rattle.fw_page_content.specs.Sayings.{symbol_marks, outcome_symbol, outcome_words, shown_words, event_symbol, event_device, event_front}
+use Rattle.fw_page_content.specs.Leaving.{left_text, dropped_by, not_taken_text}
 
 -- ---- outcomes
 

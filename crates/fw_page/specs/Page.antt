@@ -1,7 +1,7 @@
 -- A log as a page: the pieces of its entries, each by those before it (own).
 use Rattle.std.specs.Prelude.{ℕ, List, [], ◌∷◌, ◌++◌, Option}
-use Rattle.fw_entry.specs.declared.entry.Timed.{Timed}
-use Rattle.fw_phrases.specs.declared.note.Break.{Break}
+use Rattle.fw_log_entry.specs.declared.entry.Timed.{Timed}
+use Rattle.fw_page_phrases.specs.declared.note.Break.{Break}
 use Rattle.fw_page.specs.declared.head.TheConstants.{HEAD}
 use Rattle.fw_page.specs.State.{State, first_state}
 use Rattle.fw_page.specs.Pieces.{piece}

@@ -3,16 +3,16 @@ use Rattle.std.specs.Prelude.{ℕ, ◌==◌, ◌&&◌, Bool, Option, Some, None,
 use Rattle.fw_async.specs.Heads.{head_of}
 use Rattle.fw_async.specs.declared.packet.Packet.{Packet}
 use Rattle.fw_async.specs.declared.packet.Packet.TheVariants.{CycleStart}
-use Rattle.fw_entry.specs.declared.entry.Entry.{Entry}
-use Rattle.fw_entry.specs.declared.entry.Entry.TheVariants.{Reset, Async, Iso, Event, Outcome, Shown, End}
-use Rattle.fw_entry.specs.declared.entry.Timed.{Timed}
-use Rattle.fw_phrases.specs.Asking.{request_by}
-use Rattle.fw_phrases.specs.Made.{is_answer}
-use Rattle.fw_phrases.specs.Runs.{run_from, with_start, with_packet}
-use Rattle.fw_phrases.specs.declared.request.Request.{Request}
-use Rattle.fw_phrases.specs.declared.run.Run.{Run}
+use Rattle.fw_log_entry.specs.declared.entry.Entry.{Entry}
+use Rattle.fw_log_entry.specs.declared.entry.Entry.TheVariants.{Reset, Async, Iso, Event, Outcome, Shown, End}
+use Rattle.fw_log_entry.specs.declared.entry.Timed.{Timed}
+use Rattle.fw_page_phrases.specs.Asking.{request_by}
+use Rattle.fw_page_phrases.specs.Made.{is_answer}
+use Rattle.fw_page_phrases.specs.Runs.{run_from, with_start, with_packet}
+use Rattle.fw_page_phrases.specs.declared.request.Request.{Request}
+use Rattle.fw_page_phrases.specs.declared.run.Run.{Run}
 use Rattle.fw_page.specs.State.{State, Step, Held, Nothing, Asks, Runs, becomes, then_do}
-use Rattle.fw_content.specs.Counts.{next}
+use Rattle.fw_page_content.specs.Counts.{next}
 use Rattle.fw_page.specs.Rows.{before}
 use Rattle.fw_page.specs.Requests.{asked, alone, exchange, answer}
 use Rattle.fw_page.specs.Streams.{cycles, start_joins, packet_joins, held_run}

@@ -3,17 +3,17 @@ use Rattle.std.specs.Prelude.{ℕ, Bool, true, false, [], codes, Option, Some, N
 use Rattle.std.specs.Option.{option_map}
 use Rattle.fw_async.specs.Heads.{head_of}
 use Rattle.fw_async.specs.declared.packet.Packet.{Packet}
-use Rattle.fw_entry.specs.declared.entry.Entry.TheVariants.{Async}
-use Rattle.fw_phrases.specs.Asking.{class_of}
-use Rattle.fw_phrases.specs.Made.{answer_of, made, told_of}
-use Rattle.fw_phrases.specs.Standing.{with_request, standing_for, without}
-use Rattle.fw_phrases.specs.declared.request.Request.{Request}
-use Rattle.fw_phrases.specs.declared.standing.Standing.{Standing}
+use Rattle.fw_log_entry.specs.declared.entry.Entry.TheVariants.{Async}
+use Rattle.fw_page_phrases.specs.Asking.{class_of}
+use Rattle.fw_page_phrases.specs.Made.{answer_of, made, told_of}
+use Rattle.fw_page_phrases.specs.Standing.{with_request, standing_for, without}
+use Rattle.fw_page_phrases.specs.declared.request.Request.{Request}
+use Rattle.fw_page_phrases.specs.declared.standing.Standing.{Standing}
 use Rattle.fw_page.specs.State.{State, Step, Nothing, Asks, with_entry, becomes}
-use Rattle.fw_content.specs.Counts.{count_answer}
+use Rattle.fw_page_content.specs.Counts.{count_answer}
 use Rattle.fw_page.specs.Rows.{row}
-use Rattle.fw_content.specs.Heads.{devices_of, own_front, request_front}
-use Rattle.fw_content.specs.Exchanges.{alone_marks, alone_words, exchange_marks, exchange_words, answer_kind, request_of, answer_marks, answer_words}
+use Rattle.fw_page_content.specs.Heads.{devices_of, own_front, request_front}
+use Rattle.fw_page_content.specs.Exchanges.{alone_marks, alone_words, exchange_marks, exchange_words, answer_kind, request_of, answer_marks, answer_words}
 
 -- a request stands from the present entry on, and is held back
 abbrev pub asked : ℕ → Request → Packet → State → Step

@@ -1,16 +1,16 @@
 -- A bus reset: what it ends, its section, and its row (own).
 use Rattle.std.specs.Prelude.{ℕ, ◌+◌, ◌==◌, not, Bool, true, false, List, [], ◌∷◌, ◌++◌, codes, None, if◌then◌else◌}
-use Rattle.fw_entry.specs.declared.entry.ResetEntry.{ResetEntry}
-use Rattle.fw_entry.specs.declared.entry.Entry.TheVariants.{Reset}
-use Rattle.fw_phrases.specs.declared.standing.Standing.{Standing}
-use Rattle.fw_scene.specs.Lives.{after_reset}
-use Rattle.fw_section.specs.Sections.{section}
+use Rattle.fw_log_entry.specs.declared.entry.ResetEntry.{ResetEntry}
+use Rattle.fw_log_entry.specs.declared.entry.Entry.TheVariants.{Reset}
+use Rattle.fw_page_phrases.specs.declared.standing.Standing.{Standing}
+use Rattle.fw_page_scene.specs.Lives.{after_reset}
+use Rattle.fw_page_section.specs.Sections.{section}
 use Rattle.fw_page.specs.State.{State, Step, says, becomes, then_do, with_entry}
-use Rattle.fw_content.specs.Counts.{next}
+use Rattle.fw_page_content.specs.Counts.{next}
 use Rattle.fw_page.specs.Rows.{row, gap, lines_now}
-use Rattle.fw_content.specs.Heads.{classes_of, request_front}
-use Rattle.fw_content.specs.Exchanges.{dropped_marks, dropped_words}
-use Rattle.fw_content.specs.Kept.{orphans, account_text}
+use Rattle.fw_page_content.specs.Heads.{classes_of, request_front}
+use Rattle.fw_page_content.specs.Exchanges.{dropped_marks, dropped_words}
+use Rattle.fw_page_content.specs.Kept.{orphans, account_text}
 
 -- ---- what is dropped
 

@@ -1,16 +1,16 @@
 -- Rows: each is whole by itself, and draws the whole state (own).
 use Rattle.std.specs.Prelude.{ℕ, ◌+◌, ◌-◌, nat_lt, not, Bool, true, false, List, [], ◌++◌, codes, decimal, Option, Some, None, if◌then◌else◌}
 use Rattle.std.specs.Option.{is_some}
-use Rattle.fw_marks.specs.Shapes.{halves}
-use Rattle.fw_marks.specs.Small.{millis}
-use Rattle.fw_phrases.specs.Notes.{stop_text}
-use Rattle.fw_phrases.specs.declared.note.AccountStop.{AccountStop}
-use Rattle.fw_strip.specs.Lanes.{lanes}
-use Rattle.fw_strip.specs.Labels.{labels, taken, dot_text}
-use Rattle.fw_scene.specs.Lines.{lines}
-use Rattle.fw_strip.specs.Owners.{owners}
+use Rattle.fw_page_marks.specs.Shapes.{halves}
+use Rattle.fw_page_marks.specs.Small.{millis}
+use Rattle.fw_page_phrases.specs.Notes.{stop_text}
+use Rattle.fw_page_phrases.specs.declared.note.AccountStop.{AccountStop}
+use Rattle.fw_page_strip.specs.Lanes.{lanes}
+use Rattle.fw_page_strip.specs.Labels.{labels, taken, dot_text}
+use Rattle.fw_page_scene.specs.Lines.{lines}
+use Rattle.fw_page_strip.specs.Owners.{owners}
 use Rattle.fw_page.specs.State.{State, Step, becomes, then_do}
-use Rattle.fw_content.specs.Heads.{edge_text, Front, head_text}
+use Rattle.fw_page_content.specs.Heads.{edge_text, Front, head_text}
 
 -- ---- the state as a row draws it
 

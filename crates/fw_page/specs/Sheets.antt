@@ -1,18 +1,18 @@
 -- For which state the progress of a sheet stands, and what methods do (own).
 use Rattle.std.specs.Prelude.{◌≡◌, ℕ, ◌++◌, Bool, true, false, List, Option}
 use Rattle.fw_async.specs.Reader.{Spells}
-use Rattle.fw_entry.specs.declared.nodes.NodeRow.{NodeRow}
-use Rattle.fw_account.specs.Account.{Account}
-use Rattle.fw_scene.specs.Beside.{IsBeside}
-use Rattle.fw_scene.specs.Lines.{nodes_text}
-use Rattle.fw_scene.specs.declared.lives.Lives.{Lives}
-use Rattle.fw_phrases.specs.declared.run.Run.{Run}
+use Rattle.fw_log_entry.specs.declared.nodes.NodeRow.{NodeRow}
+use Rattle.fw_model_account.specs.Account.{Account}
+use Rattle.fw_page_scene.specs.Beside.{IsBeside}
+use Rattle.fw_page_scene.specs.Lines.{nodes_text}
+use Rattle.fw_page_scene.specs.declared.lives.Lives.{Lives}
+use Rattle.fw_page_phrases.specs.declared.run.Run.{Run}
 use Rattle.fw_page.specs.declared.progress.Held.{Held as Kept}
 use Rattle.fw_page.specs.declared.progress.Held.TheVariants.{Nothing as KeepsNothing, Request as KeepsRequest, Run as KeepsRun}
 use Rattle.fw_page.specs.declared.progress.Progress.{Progress}
 use Rattle.fw_page.specs.declared.sheet.Sheet.{Sheet}
 use Rattle.fw_page.specs.State.{State, Step, Held, Nothing, Asks, Runs}
-use Rattle.fw_strip.specs.Drawing.{Painted, painted}
+use Rattle.fw_page_strip.specs.Drawing.{Painted, painted}
 use Rattle.fw_page.specs.Rows.{lines_now}
 
 -- what is held back: of a request its bytes, of a run the run

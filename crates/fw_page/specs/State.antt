@@ -2,19 +2,19 @@
 use Rattle.std.specs.Prelude.{ℕ, ◌+◌, Bool, true, false, List, [], ◌++◌, Option, Some, None, if◌then◌else◌}
 use Rattle.std.specs.Option.{is_some}
 use Rattle.fw_async.specs.declared.packet.Packet.{Packet}
-use Rattle.fw_entry.specs.declared.entry.Entry.{Entry}
-use Rattle.fw_entry.specs.declared.nodes.NodeRow.{NodeRow}
-use Rattle.fw_phrases.specs.declared.note.AccountStop.{AccountStop}
-use Rattle.fw_phrases.specs.declared.request.Request.{Request}
-use Rattle.fw_phrases.specs.declared.run.Run.{Run}
-use Rattle.fw_phrases.specs.declared.standing.Standing.{Standing}
-use Rattle.fw_scene.specs.declared.lives.Lives.{Lives}
-use Rattle.fw_strip.specs.declared.owner.Owner.{Owner}
-use Rattle.fw_scene.specs.Followed.{Followed, none_followed, follow}
-use Rattle.fw_scene.specs.Lives.{all_live}
-use Rattle.fw_strip.specs.Owners.{nobodies}
-use Rattle.fw_content.specs.declared.counts.Counts.{Counts}
-use Rattle.fw_content.specs.Counts.{next, no_counts}
+use Rattle.fw_log_entry.specs.declared.entry.Entry.{Entry}
+use Rattle.fw_log_entry.specs.declared.nodes.NodeRow.{NodeRow}
+use Rattle.fw_page_phrases.specs.declared.note.AccountStop.{AccountStop}
+use Rattle.fw_page_phrases.specs.declared.request.Request.{Request}
+use Rattle.fw_page_phrases.specs.declared.run.Run.{Run}
+use Rattle.fw_page_phrases.specs.declared.standing.Standing.{Standing}
+use Rattle.fw_page_scene.specs.declared.lives.Lives.{Lives}
+use Rattle.fw_page_strip.specs.declared.owner.Owner.{Owner}
+use Rattle.fw_page_scene.specs.Followed.{Followed, none_followed, follow}
+use Rattle.fw_page_scene.specs.Lives.{all_live}
+use Rattle.fw_page_strip.specs.Owners.{nobodies}
+use Rattle.fw_page_content.specs.declared.counts.Counts.{Counts}
+use Rattle.fw_page_content.specs.Counts.{next, no_counts}
 
 -- what is held back: a request, whose answer may be the next entry, with its cycle, its number and its packet; or a run of cycles
 pub data Held : Type 0 where

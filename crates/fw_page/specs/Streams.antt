@@ -1,19 +1,19 @@
 -- Runs of cycles, as rows: one of the cycle starts, and one of each channel (own).
 use Rattle.std.specs.Prelude.{ℕ, zero, suc, ◌+◌, ◌-◌, ◌==◌, nat_lt, min, max, Bool, true, false, List, [], ◌++◌, length, slice_get, codes, decimal, Option, Some, None, if◌then◌else◌}
 use Rattle.fw_cip.specs.declared.packet.IsoPacket.{IsoPacket}
-use Rattle.fw_entry.specs.Network.{first_id}
-use Rattle.fw_entry.specs.declared.nodes.NodeRow.{NodeRow}
-use Rattle.fw_account.specs.Account.{Account}
-use Rattle.fw_marks.specs.Places.{place_of, place_of_id, right, device_of}
-use Rattle.fw_marks.specs.Shapes.{mark, level_line, path}
-use Rattle.fw_phrases.specs.Cycles.{cycles_text, flow_text}
-use Rattle.fw_phrases.specs.Runs.{flow_at, joins_start, joins_packet}
-use Rattle.fw_phrases.specs.declared.run.Flow.{Flow}
-use Rattle.fw_phrases.specs.declared.run.Run.{Run}
-use Rattle.fw_scene.specs.Lines.{hears_by}
+use Rattle.fw_log_entry.specs.Network.{first_id}
+use Rattle.fw_log_entry.specs.declared.nodes.NodeRow.{NodeRow}
+use Rattle.fw_model_account.specs.Account.{Account}
+use Rattle.fw_page_marks.specs.Places.{place_of, place_of_id, right, device_of}
+use Rattle.fw_page_marks.specs.Shapes.{mark, level_line, path}
+use Rattle.fw_page_phrases.specs.Cycles.{cycles_text, flow_text}
+use Rattle.fw_page_phrases.specs.Runs.{flow_at, joins_start, joins_packet}
+use Rattle.fw_page_phrases.specs.declared.run.Flow.{Flow}
+use Rattle.fw_page_phrases.specs.declared.run.Run.{Run}
+use Rattle.fw_page_scene.specs.Lines.{hears_by}
 use Rattle.fw_page.specs.State.{State, Step, Held, Nothing, Asks, Runs, becomes, then_do}
 use Rattle.fw_page.specs.Rows.{row}
-use Rattle.fw_content.specs.Heads.{classes_of}
+use Rattle.fw_page_content.specs.Heads.{classes_of}
 use Rattle.fw_page.specs.declared.ears.Reach.{Reach}
 
 -- ---- who hears a channel

@@ -2,15 +2,15 @@
 
 use crate::sheet::Sheet;
 use fw_async::Packet;
-use fw_content::{answer_kind, put_answer_marks, put_answer_words, told_by};
-use fw_entry::Timed;
-use fw_explain::head_of;
+use fw_log_entry::Timed;
+use fw_log_explain::head_of;
+use fw_page_content::{answer_kind, put_answer_marks, put_answer_words, told_by};
 use std::alloc::AllocError;
 
 impl Sheet {
     ghost use Rattle.std.specs.Prelude.{◌≡◌, OnOk};
-    ghost use Rattle.fw_entry.specs.Log.{Fits};
-    ghost use Rattle.fw_entry.specs.declared.entry.Entry.{Entry as AnEntry};
+    ghost use Rattle.fw_log_entry.specs.Log.{Fits};
+    ghost use Rattle.fw_log_entry.specs.declared.entry.Entry.{Entry as AnEntry};
     ghost use Rattle.fw_page.specs.Requests.{answer};
     ghost use Rattle.fw_page.specs.Sheets.{Does};
 

@@ -2,19 +2,19 @@
 
 ghost use Rattle.std.specs.Prelude.{◌≡◌, ◌+◌, ◌++◌, ◌<◌, OnOk, Option};
 ghost use Rattle.std.specs.Option.{option_copied};
-ghost use Rattle.fw_account.specs.Account.{Account};
-ghost use Rattle.fw_entry.specs.Network.{first_id};
-ghost use Rattle.fw_marks.specs.Places.{device_of};
-ghost use Rattle.fw_phrases.specs.Runs.{flow_at};
-ghost use Rattle.fw_strip.specs.Drawing.{LedgerFor};
+ghost use Rattle.fw_model_account.specs.Account.{Account};
+ghost use Rattle.fw_log_entry.specs.Network.{first_id};
+ghost use Rattle.fw_page_marks.specs.Places.{device_of};
+ghost use Rattle.fw_page_phrases.specs.Runs.{flow_at};
+ghost use Rattle.fw_page_strip.specs.Drawing.{LedgerFor};
 ghost use Rattle.fw_page.specs.Streams.{starter, starts_marks, flow_marks};
 
 use crate::ears::put_ears;
 use crate::sheet::Sheet;
-use fw_content::RowHead;
 use fw_ledger::Ledger;
-use fw_marks::{Columns, put_line, put_mark, put_path};
-use fw_phrases::{Flow, Run, put_cycles, put_flow};
+use fw_page_content::RowHead;
+use fw_page_marks::{Columns, put_line, put_mark, put_path};
+use fw_page_phrases::{Flow, Run, put_cycles, put_flow};
 use std::alloc::AllocError;
 
 // Appends the marks of a flow, with a list for the heads at those who hear it.
@@ -78,7 +78,7 @@ fn sender(columns: &Columns, flow: &Flow) -> Option<u8>
 
 impl Sheet {
     ghost use Rattle.std.specs.Prelude.{◌≡◌, ◌<◌, OnOk, Some};
-    ghost use Rattle.fw_phrases.specs.Runs.{flow_at};
+    ghost use Rattle.fw_page_phrases.specs.Runs.{flow_at};
     ghost use Rattle.fw_page.specs.Sheets.{Does};
     ghost use Rattle.fw_page.specs.Streams.{starts, channel_row, cycles};
 

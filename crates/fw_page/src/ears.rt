@@ -2,14 +2,14 @@
 
 ghost use Rattle.std.specs.Prelude.{◌≡◌, ◌≤◌, ◌++◌, IfOk, OnOk, Option, length};
 ghost use Rattle.std.specs.Option.{option_copied};
-ghost use Rattle.fw_account.specs.Account.{Account};
-ghost use Rattle.fw_strip.specs.Drawing.{LedgerFor};
+ghost use Rattle.fw_model_account.specs.Account.{Account};
+ghost use Rattle.fw_page_strip.specs.Drawing.{LedgerFor};
 ghost use Rattle.fw_page.specs.Streams.{heard, ear, ear_if, ears_below, reach_with, reach_if, reach_below};
 
 use fw_ledger::Ledger;
-use fw_marks::{Columns, put_part};
-use fw_names::put_word;
-use fw_scene::hears;
+use fw_log_names::put_word;
+use fw_page_marks::{Columns, put_part};
+use fw_page_scene::hears;
 use std::alloc::AllocError;
 
 /// How far the line of a flow reaches, and whether anybody hears it.

@@ -1,18 +1,18 @@
 //! The end of a page: what is still held back, why the log ends, and what it amounts to.
 
 ghost use Rattle.std.specs.Prelude.{◌≡◌, ◌++◌, OnOk};
-ghost use Rattle.fw_scene.specs.Beside.{IsBeside};
-ghost use Rattle.fw_scene.specs.Followed.{Followed};
-ghost use Rattle.fw_content.specs.Sums.{account_text};
+ghost use Rattle.fw_page_scene.specs.Beside.{IsBeside};
+ghost use Rattle.fw_page_scene.specs.Followed.{Followed};
+ghost use Rattle.fw_page_content.specs.Sums.{account_text};
 ghost use Rattle.fw_page.specs.Ends.{section_end_text};
 
 use crate::progress::Progress;
 use crate::sheet::Sheet;
 use crate::tail::TAIL;
-use fw_content::{put_answers, put_entries, put_followed, put_kinds, put_stopped};
-use fw_names::put_word;
-use fw_phrases::{Break, put_break};
-use fw_scene::Account;
+use fw_log_names::put_word;
+use fw_page_content::{put_answers, put_entries, put_followed, put_kinds, put_stopped};
+use fw_page_phrases::{Break, put_break};
+use fw_page_scene::Account;
 use std::alloc::AllocError;
 
 // Appends the end of the section that is open, if one is.

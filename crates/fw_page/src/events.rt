@@ -2,13 +2,13 @@
 
 use crate::progress::Progress;
 use crate::sheet::Sheet;
-use fw_content::{
+use fw_log_entry::codes::event;
+use fw_log_entry::{EventEntry, OutcomeEntry, ShownEntry, Timed};
+use fw_log_names::put_word;
+use fw_page_content::{
     FIRST_NODE, event_device, event_symbol, outcome_symbol, put_dropped, put_event_front, put_left,
     put_not_taken, put_outcome_words, put_shown_words, put_symbol,
 };
-use fw_entry::codes::event;
-use fw_entry::{EventEntry, OutcomeEntry, ShownEntry, Timed};
-use fw_names::put_word;
 use std::alloc::AllocError;
 
 impl Progress {
@@ -61,8 +61,8 @@ impl Progress {
 
 impl Sheet {
     ghost use Rattle.std.specs.Prelude.{◌≡◌, ◌++◌, OnOk};
-    ghost use Rattle.fw_entry.specs.Log.{Fits};
-    ghost use Rattle.fw_entry.specs.declared.entry.Entry.{Entry as AnEntry};
+    ghost use Rattle.fw_log_entry.specs.Log.{Fits};
+    ghost use Rattle.fw_log_entry.specs.declared.entry.Entry.{Entry as AnEntry};
     ghost use Rattle.fw_page.specs.Events.{outcome_row, shown_row, event_row};
     ghost use Rattle.fw_page.specs.Pieces.{piece_of};
     ghost use Rattle.fw_page.specs.Sheets.{Does};

@@ -3,17 +3,17 @@
 use crate::progress::Held;
 use crate::sheet::Sheet;
 use fw_async::Packet;
-use fw_content::{put_alone_marks, put_alone_words, put_exchange_marks, put_exchange_words};
-use fw_entry::Timed;
-use fw_phrases::{Request, told_of};
+use fw_log_entry::Timed;
+use fw_page_content::{put_alone_marks, put_alone_words, put_exchange_marks, put_exchange_words};
+use fw_page_phrases::{Request, told_of};
 use std::alloc::AllocError;
 
 impl Sheet {
     ghost use Rattle.std.specs.Prelude.{◌≡◌, OnOk};
     ghost use Rattle.fw_async.specs.Reader.{Spells};
     ghost use Rattle.fw_async.specs.declared.packet.Packet.{Packet as AnyPacket};
-    ghost use Rattle.fw_entry.specs.Log.{Fits, body};
-    ghost use Rattle.fw_entry.specs.declared.entry.Entry.{Entry as AnEntry};
+    ghost use Rattle.fw_log_entry.specs.Log.{Fits, body};
+    ghost use Rattle.fw_log_entry.specs.declared.entry.Entry.{Entry as AnEntry};
     ghost use Rattle.fw_page.specs.Requests.{asked, alone, exchange};
     ghost use Rattle.fw_page.specs.Sheets.{Does};
 

@@ -16,7 +16,7 @@ mod rows;
 mod sheet;
 mod tail;
 
-pub use fw_phrases::Break;
+pub use fw_page_phrases::Break;
 pub use head::HEAD;
 pub use sheet::Sheet;
 pub use tail::TAIL;

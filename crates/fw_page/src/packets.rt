@@ -3,16 +3,16 @@
 use crate::progress::Held;
 use crate::sheet::Sheet;
 use fw_async::{Head, Packet};
-use fw_entry::Timed;
-use fw_explain::head_of;
-use fw_phrases::{Request, answers};
+use fw_log_entry::Timed;
+use fw_log_explain::head_of;
+use fw_page_phrases::{Request, answers};
 use std::alloc::AllocError;
 
 impl Sheet {
     ghost use Rattle.std.specs.Prelude.{◌≡◌, OnOk};
     ghost use Rattle.fw_async.specs.Heads.{head_of};
-    ghost use Rattle.fw_entry.specs.Log.{Fits, body};
-    ghost use Rattle.fw_entry.specs.declared.entry.Entry.{Entry as AnEntry};
+    ghost use Rattle.fw_log_entry.specs.Log.{Fits, body};
+    ghost use Rattle.fw_log_entry.specs.declared.entry.Entry.{Entry as AnEntry};
     ghost use Rattle.fw_page.specs.State.{State};
     ghost use Rattle.fw_page.specs.Pieces.{held_for, lone_packet, piece_of};
     ghost use Rattle.fw_page.specs.Sheets.{Shows, Does};

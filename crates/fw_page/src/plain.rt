@@ -4,10 +4,10 @@ ghost use Rattle.std.specs.Prelude.{◌≡◌, ◌++◌, OnOk};
 ghost use Rattle.fw_page.specs.Rows.{strip_front, gap_class};
 
 use crate::progress::Progress;
-use fw_content::put_edge;
-use fw_marks::put_millis;
-use fw_names::{Pairs, put_number, put_word};
-use fw_phrases::put_stop;
+use fw_log_names::{Pairs, put_number, put_word};
+use fw_page_content::put_edge;
+use fw_page_marks::put_millis;
+use fw_page_phrases::put_stop;
 use std::alloc::AllocError;
 
 // The classes of a gap, by how many cycles pass: the more digits that has, the taller it is.
@@ -113,7 +113,7 @@ impl Progress {
         put_word(text, "<ol class=\"r\">\n")
     }
 
-    // Appends where the account has stopped, if it has.
+    // Appends if the account has stopped, if it has.
     fn put_due_words(&self, text: &mut Vec<u8>, pairs: &Pairs) -> Result<(), AllocError>
         ensures { (st : State) → Shows st self.now → OnOk result (text.new.items ≡ text.old.items ++ due_words st.followed.stop) }
     {
@@ -123,7 +123,7 @@ impl Progress {
         }
     }
 
-    /// Appends a row that says where the account has stopped, if none has yet.
+    /// Appends a row that says if the account has stopped, if none has yet.
     pub(crate) fn put_due(&mut self, text: &mut Vec<u8>, pairs: &Pairs) -> Result<(), AllocError>
         ensures moves { OnOk result (Moves due self.old self.new text.old.items text.new.items) }
         ensures run { OnOk result (self.new.run ≡ self.old.run) }

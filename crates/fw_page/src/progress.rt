@@ -1,13 +1,13 @@
 //! What the entries that were taken leave for the next ones.
 
 use fw_async::{Packet, read_packet};
-use fw_content::{Counts, RowHead};
-use fw_entry::Entry;
-use fw_explain::head_of;
-use fw_marks::Columns;
-use fw_phrases::{Request, Requests, Run, Standing, answer_of, made};
-use fw_scene::{Account, Lives};
-use fw_strip::Strip;
+use fw_log_entry::Entry;
+use fw_log_explain::head_of;
+use fw_page_content::{Counts, RowHead};
+use fw_page_marks::Columns;
+use fw_page_phrases::{Request, Requests, Run, Standing, answer_of, made};
+use fw_page_scene::{Account, Lives};
+use fw_page_strip::Strip;
 use std::alloc::{AllocError, Global};
 
 /// What is held back: it comes with a later piece.
@@ -61,15 +61,15 @@ impl Progress {
     ghost use Rattle.fw_async.specs.Heads.{head_of};
     ghost use Rattle.fw_async.specs.Reader.{Spells};
     ghost use Rattle.fw_async.specs.declared.packet.Packet.{Packet as APacket};
-    ghost use Rattle.fw_entry.specs.Log.{Fits};
-    ghost use Rattle.fw_entry.specs.declared.entry.Entry.{Entry as AnEntry};
-    ghost use Rattle.fw_phrases.specs.Made.{answer_of};
-    ghost use Rattle.fw_phrases.specs.Standing.{standing_for};
+    ghost use Rattle.fw_log_entry.specs.Log.{Fits};
+    ghost use Rattle.fw_log_entry.specs.declared.entry.Entry.{Entry as AnEntry};
+    ghost use Rattle.fw_page_phrases.specs.Made.{answer_of};
+    ghost use Rattle.fw_page_phrases.specs.Standing.{standing_for};
     ghost use Rattle.fw_page.specs.State.{State, first_state, with_entry};
-    ghost use Rattle.fw_content.specs.Heads.{devices_of, front_of, own_front, request_front};
+    ghost use Rattle.fw_page_content.specs.Heads.{devices_of, front_of, own_front, request_front};
     ghost use Rattle.std.specs.Option.{option_copied, option_map};
     ghost use Rattle.fw_page.specs.Requests.{ended, counted};
-    ghost use Rattle.fw_content.specs.Exchanges.{request_of};
+    ghost use Rattle.fw_page_content.specs.Exchanges.{request_of};
     ghost use Rattle.fw_page.specs.Sheets.{Shows};
 
     /// That of no entries.

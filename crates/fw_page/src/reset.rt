@@ -2,19 +2,19 @@
 
 use crate::progress::Progress;
 use crate::sheet::Sheet;
-use fw_content::{RowHead, put_account, put_dropped_marks, put_dropped_words, put_orphans};
-use fw_entry::{ResetEntry, Timed};
-use fw_marks::Columns;
-use fw_names::put_word;
-use fw_phrases::Standing;
-use fw_section::{Section, put_section};
+use fw_log_entry::{ResetEntry, Timed};
+use fw_log_names::put_word;
+use fw_page_content::{RowHead, put_account, put_dropped_marks, put_dropped_words, put_orphans};
+use fw_page_marks::Columns;
+use fw_page_phrases::Standing;
+use fw_page_section::Section;
 use std::alloc::AllocError;
 use std::mem;
 
 impl Progress {
     ghost use Rattle.std.specs.Prelude.{◌≡◌};
-    ghost use Rattle.fw_entry.specs.Log.{Fits};
-    ghost use Rattle.fw_entry.specs.declared.entry.Entry.{Entry as AnEntry};
+    ghost use Rattle.fw_log_entry.specs.Log.{Fits};
+    ghost use Rattle.fw_log_entry.specs.declared.entry.Entry.{Entry as AnEntry};
     ghost use Rattle.fw_page.specs.State.{State};
     ghost use Rattle.fw_page.specs.Resets.{reset_state};
     ghost use Rattle.fw_page.specs.Sheets.{Shows};
@@ -39,8 +39,8 @@ impl Progress {
 
 impl Sheet {
     ghost use Rattle.std.specs.Prelude.{◌≡◌, OnOk};
-    ghost use Rattle.fw_entry.specs.Log.{Fits};
-    ghost use Rattle.fw_entry.specs.declared.entry.Entry.{Entry as AnEntry};
+    ghost use Rattle.fw_log_entry.specs.Log.{Fits};
+    ghost use Rattle.fw_log_entry.specs.declared.entry.Entry.{Entry as AnEntry};
     ghost use Rattle.fw_page.specs.Sheets.{Does};
     ghost use Rattle.fw_page.specs.Pieces.{piece_of};
     ghost use Rattle.fw_page.specs.Resets.{drop_row, drop_by, drops, closed, section_step, reset_row, reset_by};
@@ -110,7 +110,8 @@ impl Sheet {
             number: self.progress.number,
             cycle: t.cycle,
         };
-        put_section(&mut self.text, &section, self.progress.strip.lanes())?;
+        self.sections
+            .put(&mut self.text, &section, self.progress.strip.lanes())?;
         self.progress.draw_lines(&mut self.room)?;
         self.progress.leave_lines(&mut self.room);
         Ok(())

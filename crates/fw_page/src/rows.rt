@@ -2,17 +2,17 @@
 
 ghost use Rattle.std.specs.Prelude.{◌≡◌, OnOk, Option};
 ghost use Rattle.std.specs.Option.{option_copied};
-ghost use Rattle.fw_account.specs.Account.{Account};
-ghost use Rattle.fw_strip.specs.Drawing.{LedgerFor};
-ghost use Rattle.fw_scene.specs.Lines.{nodes_text};
+ghost use Rattle.fw_model_account.specs.Account.{Account};
+ghost use Rattle.fw_page_strip.specs.Drawing.{LedgerFor};
+ghost use Rattle.fw_page_scene.specs.Lines.{nodes_text};
 ghost use Rattle.fw_page.specs.Sheets.{StayNodes};
 
 use crate::plain::put_strip_front;
 use crate::progress::Progress;
-use fw_content::{RowHead, put_head};
-use fw_marks::put_halves;
-use fw_names::{Pairs, put_word};
-use fw_scene::Scene;
+use fw_log_names::{Pairs, put_word};
+use fw_page_content::{RowHead, put_head};
+use fw_page_marks::put_halves;
+use fw_page_scene::Scene;
 use std::alloc::{AllocError, Global};
 use std::mem;
 
@@ -55,11 +55,11 @@ fn draw_nodes(
 impl Progress {
     ghost use Rattle.std.specs.Prelude.{◌≡◌, ◌++◌, OnOk, not, false};
     ghost use Rattle.std.specs.Option.{is_some};
-    ghost use Rattle.fw_scene.specs.Beside.{IsBeside};
-    ghost use Rattle.fw_scene.specs.Followed.{Followed};
+    ghost use Rattle.fw_page_scene.specs.Beside.{IsBeside};
+    ghost use Rattle.fw_page_scene.specs.Followed.{Followed};
     ghost use Rattle.fw_page.specs.State.{State};
     ghost use Rattle.fw_page.specs.Rows.{strip_text, bare_row, drawn_now, row, lines_now};
-    ghost use Rattle.fw_content.specs.Heads.{front_of};
+    ghost use Rattle.fw_page_content.specs.Heads.{front_of};
     ghost use Rattle.fw_page.specs.Sheets.{Shows, Moves, Draws, IsDrawnNow};
 
     /// Draws the lines of the state as it is, for the next row.

@@ -3,9 +3,10 @@
 use crate::progress::{Held, Progress};
 use crate::rows::Room;
 use fw_cip::IsoPacket;
-use fw_content::{RowHead, next};
-use fw_entry::{Entry, Timed};
-use fw_phrases::Run;
+use fw_log_entry::{Entry, Timed};
+use fw_page_content::{RowHead, next};
+use fw_page_phrases::Run;
+use fw_page_section::Sections;
 use std::alloc::{AllocError, Global};
 
 /// How many bytes of text there is room for at first.
@@ -20,16 +21,18 @@ pub struct Sheet {
     pub(crate) marks: Vec<u8>,
     pub(crate) words: Vec<u8>,
     pub(crate) room: Room,
+    // What the latest section says: mostly the next one says the same.
+    pub(crate) sections: Sections,
     pub(crate) progress: Progress,
 }
 
 impl Sheet {
     ghost use Rattle.std.specs.Prelude.{◌≡◌, ◌<◌, [], IfOk, OnOk};
-    ghost use Rattle.fw_entry.specs.Log.{Fits, body};
-    ghost use Rattle.fw_phrases.specs.Runs.{with_start, with_packet};
+    ghost use Rattle.fw_log_entry.specs.Log.{Fits, body};
+    ghost use Rattle.fw_page_phrases.specs.Runs.{with_start, with_packet};
     ghost use Rattle.fw_page.specs.State.{State, first_state};
     ghost use Rattle.fw_page.specs.Rows.{row};
-    ghost use Rattle.fw_content.specs.Heads.{front_of};
+    ghost use Rattle.fw_page_content.specs.Heads.{front_of};
     ghost use Rattle.fw_page.specs.Pieces.{piece, release, released_in_section, begun_run, joined, streamed, piece_of};
     ghost use Rattle.fw_page.specs.Streams.{start_joins, packet_joins};
     ghost use Rattle.fw_page.specs.Sheets.{Shows, Does};
@@ -45,6 +48,7 @@ impl Sheet {
             marks: Vec::new(alloc),
             words: Vec::new(alloc),
             room: Room::new(alloc),
+            sections: Sections::new(alloc)?,
             progress: Progress::new(alloc)?,
         })
     }

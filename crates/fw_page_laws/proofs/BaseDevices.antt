@@ -1,9 +1,8 @@
--- The texts of fw_base, Devices: each keeps a page whole.
-use Rattle.fw_base.specs.Devices.{name_of}
-use Rattle.fw_base.specs.declared.device.DeviceKind.{DeviceKind}
-use Rattle.fw_base.specs.declared.device.DeviceKind.TheVariants.{Camcorder, Computer, Deck, Relay}
-use Rattle.std.proofs.Common.{List, codes, refl, ℕ}
-use Rattle.fw_page_laws.specs.Markup.{Outside}
+-- The texts of fw_terms, Devices: each keeps a page whole.
+use Rattle.fw_page_laws.proofs.Common.{List, codes, refl, ℕ, Outside}
+use Rattle.fw_terms.specs.Devices.{name_of}
+use Rattle.fw_terms.specs.declared.device.DeviceKind.{DeviceKind}
+use Rattle.fw_terms.specs.declared.device.DeviceKind.TheVariants.{Camcorder, Computer, Deck, Relay}
 use Rattle.fw_page_laws.proofs.Modes.{Goes, lit-goes}
 
 pub name_of-outside : (a0 : DeviceKind) → (outer : List (List ℕ)) → Goes (Outside outer) (name_of a0) (Outside outer)

@@ -1,23 +1,17 @@
--- The texts of fw_content, Exchanges: each keeps a page whole.
-use Rattle.fw_async.specs.Heads.{head_of}
+-- The texts of fw_page_content, Exchanges: each keeps a page whole.
+use Rattle.fw_page_laws.proofs.Common.{head_of, Packet, NodeRow, Request, Standing, List, Option, Some, codes, false, refl, true, ℕ, ◌-◌, ◌==◌, ◌∷◌, InValue, Outside}
 use Rattle.fw_async.specs.declared.packet.Head.{Head}
-use Rattle.fw_async.specs.declared.packet.Packet.{Packet}
-use Rattle.fw_content.specs.Exchanges.{alone_marks, alone_words, answer_marks, answer_words, asked_text, dropped_marks, dropped_words, exchange_marks, exchange_words}
-use Rattle.fw_entry.specs.declared.nodes.NodeRow.{NodeRow}
-use Rattle.fw_marks.specs.Places.{place_of_id}
-use Rattle.fw_marks.specs.declared.arrows.Line.TheVariants.{Dashed, Whole}
-use Rattle.fw_marks.specs.declared.arrows.Told.{Told}
-use Rattle.fw_marks.specs.declared.arrows.Told.TheVariants.{Nothing as NotTold}
+use Rattle.fw_page_content.specs.Exchanges.{alone_marks, alone_words, answer_marks, answer_words, asked_text, dropped_marks, dropped_words, exchange_marks, exchange_words}
+use Rattle.fw_page_marks.specs.Places.{place_of_id}
+use Rattle.fw_page_marks.specs.declared.arrows.Line.TheVariants.{Dashed, Whole}
+use Rattle.fw_page_marks.specs.declared.arrows.Told.{Told}
+use Rattle.fw_page_marks.specs.declared.arrows.Told.TheVariants.{Nothing as NotTold}
 use Rattle.fw_page_laws.proofs.MarksArrows.{arrow-outside, cross-outside, turn-outside}
 use Rattle.fw_page_laws.proofs.MarksShapes.{mark-outside}
 use Rattle.fw_page_laws.proofs.PhrasesAnswers.{answer_text-outside, got-outside}
 use Rattle.fw_page_laws.proofs.PhrasesAsking.{subject-outside}
 use Rattle.fw_page_laws.proofs.PhrasesAsks.{ask-outside, who-outside}
-use Rattle.fw_phrases.specs.declared.request.Request.{Request}
-use Rattle.fw_phrases.specs.declared.standing.Standing.{Standing}
-use Rattle.fw_requests.specs.declared.asked.Asked.{Asked}
-use Rattle.std.proofs.Common.{List, Option, Some, codes, false, refl, true, ℕ, ◌-◌, ◌==◌, ◌∷◌}
-use Rattle.fw_page_laws.specs.Markup.{InValue, Outside}
+use Rattle.fw_log_requests.specs.declared.asked.Asked.{Asked}
 use Rattle.fw_page_laws.proofs.Modes.{Goes, IsWhole, if-goes, lit-goes, more-goes, none-goes, number-goes}
 
 pub asked_text-outside : (a0 : Request) (a1 : List ℕ) (a2 : Packet) → IsWhole a1 → (outer : List (List ℕ)) → Goes (Outside outer) (asked_text a0 a1 a2) (Outside outer)

@@ -1,7 +1,6 @@
--- The texts of fw_content, Heads: each keeps a page whole.
-use Rattle.fw_content.specs.Heads.{classes_of, device_class, edge_text}
-use Rattle.std.proofs.Common.{Bool, List, None, Option, Some, codes, refl, ℕ}
-use Rattle.fw_page_laws.specs.Markup.{InValue, Outside}
+-- The texts of fw_page_content, Heads: each keeps a page whole.
+use Rattle.fw_page_laws.proofs.Common.{Bool, List, None, Option, Some, codes, refl, ℕ, InValue, Outside}
+use Rattle.fw_page_content.specs.Heads.{classes_of, device_class, edge_text}
 use Rattle.fw_page_laws.proofs.Modes.{Goes, IsValued, if-goes, lit-goes, more-goes, none-goes, number-goes}
 
 pub device_class-value : (a0 : Option ℕ) → (outer : List (List ℕ)) → Goes (InValue outer) (device_class a0) (InValue outer)

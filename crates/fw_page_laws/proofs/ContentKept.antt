@@ -1,13 +1,10 @@
--- The texts of fw_content, Kept: each keeps a page whole.
-use Rattle.fw_account.specs.Account.{Account, Flow}
-use Rattle.fw_content.specs.Kept.{account_text, flow_after, flow_words, flows, flows_below, kept_text, orphan, orphans, orphans_below, orphans_in, orphans_text}
+-- The texts of fw_page_content, Kept: each keeps a page whole.
+use Rattle.fw_page_laws.proofs.Common.{Account, owner, Owner, Plug, Bool, List, None, Option, Some, [], codes, refl, suc, zero, ℕ, ◌+◌, ◌∷◌, Outside}
+use Rattle.fw_model_account.specs.Account.{Flow}
+use Rattle.fw_page_content.specs.Kept.{account_text, flow_after, flow_words, flows, flows_below, kept_text, orphan, orphans, orphans_below, orphans_in, orphans_text}
 use Rattle.fw_page_laws.proofs.MarksSmall.{plural-outside}
-use Rattle.fw_strip.specs.Owners.{flow_on, owner}
-use Rattle.fw_strip.specs.declared.owner.Class.TheVariants.{Orphaned}
-use Rattle.fw_strip.specs.declared.owner.Owner.{Owner}
-use Rattle.fw_strip.specs.declared.owner.Owner.TheVariants.{Plug}
-use Rattle.std.proofs.Common.{Bool, List, None, Option, Some, [], codes, refl, suc, zero, ℕ, ◌+◌, ◌∷◌}
-use Rattle.fw_page_laws.specs.Markup.{Outside}
+use Rattle.fw_page_strip.specs.Owners.{flow_on}
+use Rattle.fw_page_strip.specs.declared.owner.Class.TheVariants.{Orphaned}
 use Rattle.fw_page_laws.proofs.Modes.{Goes, IsWhole, if-goes, lit-goes, more-goes, none-goes, number-goes}
 
 pub flow_words-outside : (a0 : ℕ) (a1 : Flow) → (outer : List (List ℕ)) → Goes (Outside outer) (flow_words a0 a1) (Outside outer)

@@ -1,6 +1,6 @@
--- The texts of fw_content, Leaving: each keeps a page whole.
-use Rattle.fw_account.specs.Account.{Account}
-use Rattle.fw_content.specs.Leaving.{
+-- The texts of fw_page_content, Leaving: each keeps a page whole.
+use Rattle.fw_page_laws.proofs.Common.{Account, Standing, owner, Owner, Plug, List, None, Option, Some, [], codes, refl, suc, zero, ℕ, ◌&&◌, ◌+◌, ◌==◌, ◌∷◌, InValue, Outside}
+use Rattle.fw_page_content.specs.Leaving.{
   dropped_by,
   dropped_of,
   dropped_text,
@@ -16,15 +16,9 @@ use Rattle.fw_content.specs.Leaving.{
   units_left,
   units_text,
 }
-use Rattle.fw_entry.specs.Network.{first_id}
+use Rattle.fw_log_entry.specs.Network.{first_id}
 use Rattle.fw_page_laws.proofs.MarksSmall.{plural-outside}
-use Rattle.fw_phrases.specs.declared.standing.Standing.{Standing}
-use Rattle.fw_strip.specs.Owners.{owner}
-use Rattle.fw_strip.specs.declared.owner.Class.TheVariants.{Kept}
-use Rattle.fw_strip.specs.declared.owner.Owner.{Owner}
-use Rattle.fw_strip.specs.declared.owner.Owner.TheVariants.{Plug}
-use Rattle.std.proofs.Common.{List, None, Option, Some, [], codes, refl, suc, zero, ℕ, ◌&&◌, ◌+◌, ◌==◌, ◌∷◌}
-use Rattle.fw_page_laws.specs.Markup.{InValue, Outside}
+use Rattle.fw_page_strip.specs.declared.owner.Class.TheVariants.{Kept}
 use Rattle.fw_page_laws.proofs.Modes.{Goes, if-goes, lit-goes, more-goes, none-goes, number-goes}
 
 pub not_taken-outside : (a0 : ℕ) (a1 : Owner) → (outer : List (List ℕ)) → Goes (Outside outer) (not_taken a0 a1) (Outside outer)

@@ -1,20 +1,18 @@
--- The texts of fw_content, Sayings: each keeps a page whole.
-use Rattle.fw_content.specs.Sayings.{device_name, event_device, event_front, event_symbol, named_device, outcome_class, outcome_symbol, outcome_words, saying_front, shown_words, symbol_marks}
+-- The texts of fw_page_content, Sayings: each keeps a page whole.
+use Rattle.fw_page_laws.proofs.Common.{EventEntry, place_of, List, None, Option, Some, [], codes, refl, ℕ, ◌+◌, ◌==◌, ◌∷◌, InValue, Outside}
+use Rattle.fw_page_content.specs.Sayings.{device_name, event_device, event_front, event_symbol, named_device, outcome_class, outcome_symbol, outcome_words, saying_front, shown_words, symbol_marks}
 use Rattle.fw_csr.specs.declared.offset.TheConstants.{REGISTER_SPACE}
-use Rattle.fw_entry.specs.declared.codes.event.TheConstants as Codes
-use Rattle.fw_entry.specs.declared.codes.outcome.TheConstants as Outcomes
-use Rattle.fw_entry.specs.declared.entry.EventEntry.{EventEntry}
-use Rattle.fw_entry.specs.declared.entry.OutcomeEntry.{OutcomeEntry}
-use Rattle.fw_entry.specs.declared.entry.ShownEntry.{ShownEntry}
-use Rattle.fw_names.specs.Names.{event_name, event_saying, outcome_name}
+use Rattle.fw_log_entry.specs.declared.codes.event.TheConstants as Codes
+use Rattle.fw_log_entry.specs.declared.codes.outcome.TheConstants as Outcomes
+use Rattle.fw_log_entry.specs.declared.entry.OutcomeEntry.{OutcomeEntry}
+use Rattle.fw_log_entry.specs.declared.entry.ShownEntry.{ShownEntry}
+use Rattle.fw_log_names.specs.Names.{event_name, event_saying, outcome_name}
 use Rattle.fw_page_laws.proofs.ExplainLines.{saying_text-outside, tape_text-outside, value_text-outside}
 use Rattle.fw_page_laws.proofs.MarksShapes.{symbol_at-outside}
 use Rattle.fw_page_laws.proofs.NamesTexts.{named-outside}
 use Rattle.fw_page_laws.proofs.PhrasesAsks.{code_word-outside}
 use Rattle.fw_page_laws.proofs.RegistersWords.{place_text-outside}
-use Rattle.fw_registers.specs.Places.{place_of}
-use Rattle.std.proofs.Common.{List, None, Option, Some, [], codes, refl, ℕ, ◌+◌, ◌==◌, ◌||◌, ◌∷◌}
-use Rattle.fw_page_laws.specs.Markup.{InValue, Outside}
+use Rattle.std.proofs.Common.{◌||◌}
 use Rattle.fw_page_laws.proofs.Modes.{Goes, IsValued, if-goes, lit-goes, more-goes, none-goes, number-goes}
 use Rattle.fw_page_laws.proofs.Tables.{event_name-goes, event_saying-goes, outcome_name-goes}
 

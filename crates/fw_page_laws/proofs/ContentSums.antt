@@ -1,6 +1,7 @@
--- The texts of fw_content, Sums: each keeps a page whole.
-use Rattle.fw_account.specs.Account.{Account, remainder}
-use Rattle.fw_content.specs.Sums.{
+-- The texts of fw_page_content, Sums: each keeps a page whole.
+use Rattle.fw_page_laws.proofs.Common.{Account, owner, Owner, Plug, List, None, Option, Some, [], codes, refl, suc, zero, ℕ, ◌==◌, ◌∷◌, Outside}
+use Rattle.fw_model_account.specs.Account.{remainder}
+use Rattle.fw_page_content.specs.Sums.{
   account_text,
   answers_text,
   comma,
@@ -17,17 +18,13 @@ use Rattle.fw_content.specs.Sums.{
   owners_text,
   stopped_text,
 }
-use Rattle.fw_content.specs.declared.counts.Counts.{Counts}
-use Rattle.fw_names.specs.Names.{event_name, outcome_name}
+use Rattle.fw_page_content.specs.declared.counts.Counts.{Counts}
+use Rattle.fw_log_names.specs.Names.{event_name, outcome_name}
 use Rattle.fw_page_laws.proofs.MarksSmall.{plural-outside, seconds-outside}
 use Rattle.fw_page_laws.proofs.NamesTexts.{named-outside}
 use Rattle.fw_page_laws.proofs.StripOwners.{class_name-outside}
-use Rattle.fw_phrases.specs.declared.note.AccountStop.{AccountStop}
-use Rattle.fw_strip.specs.Owners.{owner}
-use Rattle.fw_strip.specs.declared.owner.Owner.{Owner}
-use Rattle.fw_strip.specs.declared.owner.Owner.TheVariants.{Plug}
-use Rattle.std.proofs.Common.{List, None, Option, Some, [], codes, refl, slice_index_or, suc, zero, ℕ, ◌==◌, ◌∷◌}
-use Rattle.fw_page_laws.specs.Markup.{Outside}
+use Rattle.fw_page_phrases.specs.declared.note.AccountStop.{AccountStop}
+use Rattle.std.proofs.Common.{slice_index_or}
 use Rattle.fw_page_laws.proofs.Modes.{Goes, IsWhole, if-goes, lit-goes, more-goes, none-goes, number-goes}
 use Rattle.fw_page_laws.proofs.Names.{NamesGo}
 use Rattle.fw_page_laws.proofs.Tables.{event_name-goes, outcome_name-goes}

@@ -1,24 +1,22 @@
 -- Events, outcomes, shown words and the last entry keep a page whole, and are told.
-use Rattle.std.proofs.Common.{◌≡◌, ◌∷◌, Bool, true, false, refl, ℕ, ◌==◌, ◌++◌, List, [], codes, Option, Some, None, if◌then◌else◌}
-use Rattle.fw_entry.specs.declared.codes.event.TheConstants as Codes
-use Rattle.fw_entry.specs.declared.entry.Entry.TheVariants.{Event, Shown}
-use Rattle.fw_entry.specs.declared.entry.EventEntry.{EventEntry}
-use Rattle.fw_entry.specs.declared.entry.OutcomeEntry.{OutcomeEntry}
-use Rattle.fw_entry.specs.declared.entry.ShownEntry.{ShownEntry}
-use Rattle.fw_marks.specs.Places.{place_of_device}
-use Rattle.fw_page.specs.State.{State, Held, with_entry}
+use Rattle.fw_page_laws.proofs.Common.{◌≡◌, ◌∷◌, Bool, true, false, refl, ℕ, ◌==◌, ◌++◌, List, [], codes, Option, Some, None, if◌then◌else◌, EventEntry, State, Held, Outside, InValue}
+use Rattle.fw_log_entry.specs.declared.codes.event.TheConstants as Codes
+use Rattle.fw_log_entry.specs.declared.entry.Entry.TheVariants.{Event, Shown}
+use Rattle.fw_log_entry.specs.declared.entry.OutcomeEntry.{OutcomeEntry}
+use Rattle.fw_log_entry.specs.declared.entry.ShownEntry.{ShownEntry}
+use Rattle.fw_page_marks.specs.Places.{place_of_device}
+use Rattle.fw_page.specs.State.{with_entry}
 use Rattle.fw_page.specs.Rows.{row}
-use Rattle.fw_content.specs.Heads.{own_front}
+use Rattle.fw_page_content.specs.Heads.{own_front}
 use Rattle.fw_page.specs.Events.{outcome_row, shown_row, end_row, died, happened, event_counted, more_text, event_row}
-use Rattle.fw_content.specs.Counts.{counted_at}
-use Rattle.fw_content.specs.Sayings.{symbol_marks, outcome_symbol, outcome_words, shown_words, event_symbol, event_device, event_front}
-use Rattle.fw_page_laws.specs.Markup.{Outside, InValue}
+use Rattle.fw_page_content.specs.Counts.{counted_at}
+use Rattle.fw_page_content.specs.Sayings.{symbol_marks, outcome_symbol, outcome_words, shown_words, event_symbol, event_device, event_front}
 use Rattle.fw_page_laws.proofs.Modes.{IsWhole, IsValued, lit-goes, more-goes, none-goes}
 use Rattle.fw_page_laws.proofs.StepLaws.{IsClean, Acts, keeps-as, stays, row-acts}
 use Rattle.fw_page_laws.proofs.ContentHeads.{classes_of-value}
 use Rattle.fw_page_laws.proofs.ContentSayings.{symbol_marks-outside, outcome_symbol-value, outcome_words-outside, shown_words-outside, event_symbol-value, event_front-outside}
 use Rattle.fw_page_laws.proofs.PageEvents.{more_text-outside}
-use Rattle.fw_scene.specs.Lives.{after_start, after_loss}
+use Rattle.fw_page_scene.specs.Lives.{after_start, after_loss}
 
 -- the number of a state
 abbrev pub own_number : ℕ → Held → List ℕ

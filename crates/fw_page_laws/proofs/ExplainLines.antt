@@ -1,13 +1,12 @@
--- The texts of fw_explain, Lines: each keeps a page whole.
-use Rattle.fw_entry.specs.Rows.{event_form, has_tape}
-use Rattle.fw_entry.specs.declared.codes.outcome.TheConstants as Outcomes
-use Rattle.fw_entry.specs.declared.entry.EventEntry.{EventEntry}
-use Rattle.fw_explain.specs.Lines.{rcode_text, saying_text, tape_text, value_text}
-use Rattle.fw_names.specs.Names.{rcode_name, system_name}
+-- The texts of fw_log_explain, Lines: each keeps a page whole.
+use Rattle.fw_page_laws.proofs.Common.{EventEntry, List, None, Option, Some, codes, refl, ℕ, ◌==◌, Outside}
+use Rattle.fw_log_entry.specs.Rows.{event_form, has_tape}
+use Rattle.fw_log_entry.specs.declared.codes.outcome.TheConstants as Outcomes
+use Rattle.fw_log_explain.specs.Lines.{rcode_text, saying_text, tape_text, value_text}
+use Rattle.fw_log_names.specs.Names.{rcode_name, system_name}
 use Rattle.fw_page_laws.proofs.NamesNames.{rcode_name-outside, system_name-outside}
 use Rattle.fw_page_laws.proofs.NamesTexts.{named-outside, quadlet_text-outside}
-use Rattle.std.proofs.Common.{List, None, Option, Some, codes, refl, ℕ, ◌==◌, ◌||◌}
-use Rattle.fw_page_laws.specs.Markup.{Outside}
+use Rattle.std.proofs.Common.{◌||◌}
 use Rattle.fw_page_laws.proofs.Modes.{Goes, if-goes, lit-goes, more-goes, none-goes, number-goes}
 use Rattle.fw_page_laws.proofs.Names.{NamesGo}
 

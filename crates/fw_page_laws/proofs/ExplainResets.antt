@@ -1,12 +1,11 @@
--- The texts of fw_explain, Resets: each keeps a page whole.
-use Rattle.fw_entry.specs.declared.nodes.NodeRow.{NodeRow}
-use Rattle.fw_explain.specs.Resets.{contender_text, first_ports, flag_text, gap_text, link_text, manager_text, port_text, ports_text, row_text, self_text, speed_text}
-use Rattle.fw_names.specs.Names.{device_name, port_name, speed_name}
+-- The texts of fw_log_explain, Resets: each keeps a page whole.
+use Rattle.fw_page_laws.proofs.Common.{NodeRow, device_name, Bool, List, None, Option, Some, [], codes, length, refl, suc, zero, ℕ, ◌+◌, ◌==◌, Outside}
+use Rattle.fw_log_explain.specs.Resets.{contender_text, first_ports, flag_text, gap_text, link_text, manager_text, port_text, ports_text, row_text, self_text, speed_text}
+use Rattle.fw_log_names.specs.Names.{port_name, speed_name}
 use Rattle.fw_page_laws.proofs.NamesNames.{device_name-outside, port_name-outside, speed_name-outside}
 use Rattle.fw_page_laws.proofs.NamesTexts.{named-outside}
 use Rattle.fw_phy.specs.declared.packet.SelfId.{SelfId}
-use Rattle.std.proofs.Common.{Bool, List, None, Option, Some, [], codes, length, refl, slice_index, suc, zero, ℕ, ◌+◌, ◌==◌}
-use Rattle.fw_page_laws.specs.Markup.{Outside}
+use Rattle.std.proofs.Common.{slice_index}
 use Rattle.fw_page_laws.proofs.Modes.{Goes, IsWhole, if-goes, lit-goes, more-goes, none-goes, number-goes}
 
 pub manager_text-outside : (a0 : Option ℕ) → (outer : List (List ℕ)) → Goes (Outside outer) (manager_text a0) (Outside outer)

@@ -1,5 +1,5 @@
--- The texts of fw_frames, Frames: each keeps a page whole.
-use Rattle.fw_frames.specs.Frames.{
+-- The texts of fw_log_frames, Frames: each keeps a page whole.
+use Rattle.fw_log_frames.specs.Frames.{
   address_text,
   addressed_text,
   code_text,
@@ -26,13 +26,13 @@ use Rattle.fw_frames.specs.Frames.{
   time_code,
   unit_info,
 }
-use Rattle.fw_frames.specs.Names.{code_name, opcode_name, operand_name, subunit_name, tape_opcode_name, tape_operand_name}
-use Rattle.fw_frames.specs.declared.operands.OperandRow.{OperandRow}
-use Rattle.fw_frames.specs.declared.operands.OperandRow.TheVariants.{Company, Page, Plugs, TimeCode, UnitInfo, Word}
+use Rattle.fw_page_laws.proofs.Common.{List, None, Option, Some, [], codes, length, nat_lt, refl, ℕ, ◌++◌, ◌+◌, ◌/◌, ◌==◌, ◌∷◌, Outside}
+use Rattle.fw_log_frames.specs.Names.{code_name, opcode_name, operand_name, subunit_name, tape_opcode_name, tape_operand_name}
+use Rattle.fw_log_frames.specs.declared.operands.OperandRow.{OperandRow}
+use Rattle.fw_log_frames.specs.declared.operands.OperandRow.TheVariants.{Company, Page, Plugs, TimeCode, UnitInfo, Word}
 use Rattle.fw_page_laws.proofs.FramesNames.{code_name-outside, opcode_name-outside, operand_name-outside, subunit_name-outside, tape_opcode_name-outside, tape_operand_name-outside}
 use Rattle.fw_page_laws.proofs.NamesTexts.{blank_hex-outside, named-outside}
-use Rattle.std.proofs.Common.{List, None, Option, Some, [], codes, drop, length, nat_le, nat_lt, refl, slice_index, ℕ, ◌%◌, ◌++◌, ◌+◌, ◌/◌, ◌==◌, ◌||◌, ◌∷◌}
-use Rattle.fw_page_laws.specs.Markup.{Outside}
+use Rattle.std.proofs.Common.{drop, nat_le, slice_index, ◌%◌, ◌||◌}
 use Rattle.fw_page_laws.proofs.Modes.{Goes, IsWhole, byte-goes, if-goes, lit-goes, more-goes, none-goes, number-goes}
 use Rattle.fw_page_laws.proofs.Names.{NamesGo, first-goes}
 

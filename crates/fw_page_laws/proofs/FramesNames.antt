@@ -1,8 +1,7 @@
--- The texts of fw_frames, Names: each keeps a page whole.
-use Rattle.fw_frames.specs.Names.{code_name, connection_name, general_name, opcode_name, operand_name, state_name, subunit_name, tape_opcode_name, tape_operand_name}
-use Rattle.std.proofs.Common.{None, Some, codes, if◌then◌else◌, refl, ℕ, ◌&&◌, ◌==◌}
+-- The texts of fw_log_frames, Names: each keeps a page whole.
+use Rattle.fw_page_laws.proofs.Common.{None, Some, codes, if◌then◌else◌, refl, ℕ, ◌&&◌, ◌==◌, Outside}
+use Rattle.fw_log_frames.specs.Names.{code_name, connection_name, general_name, opcode_name, operand_name, state_name, subunit_name, tape_opcode_name, tape_operand_name}
 use Rattle.std.specs.Option.{option_or}
-use Rattle.fw_page_laws.specs.Markup.{Outside}
 use Rattle.fw_page_laws.proofs.Modes.{lit-goes}
 use Rattle.fw_page_laws.proofs.Names.{NamesGo, names-if, or-goes}
 

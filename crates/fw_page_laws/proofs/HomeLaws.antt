@@ -30,22 +30,17 @@ use Rattle.std.proofs.Common.{
   append_assoc,
   arith,
 }
-use Rattle.std.specs.List.{list_all}
+use Rattle.fw_page_laws.proofs.Common.{list_all, head_of, Packet, Timed, Request, State, Held, Nothing, Asks, Runs, piece, piece_of}
 use Rattle.std.proofs.lemmas.List.{length-append}
 use Rattle.std.proofs.lemmas.List.Folds.{list_all-append}
-use Rattle.fw_async.specs.Heads.{head_of}
-use Rattle.fw_async.specs.declared.packet.Packet.{Packet}
 use Rattle.fw_async.specs.declared.packet.Packet.TheVariants.{WriteQuadlet, WriteBlock, WriteReply, ReadQuadlet, ReadBlock, ReadQuadletReply, ReadBlockReply, CycleStart, Lock, LockReply}
-use Rattle.fw_entry.specs.declared.entry.Entry.{Entry}
-use Rattle.fw_entry.specs.declared.entry.Entry.TheVariants.{Reset, Async, Iso, Event, Outcome, Shown, End}
-use Rattle.fw_entry.specs.declared.entry.Timed.{Timed}
-use Rattle.fw_phrases.specs.Asking.{request_by}
-use Rattle.fw_phrases.specs.Made.{is_answer}
-use Rattle.fw_phrases.specs.declared.request.Request.{Request}
-use Rattle.fw_page.specs.State.{State, Held, Nothing, Asks, Runs, first_state}
-use Rattle.fw_content.specs.Counts.{next}
+use Rattle.fw_log_entry.specs.declared.entry.Entry.{Entry}
+use Rattle.fw_log_entry.specs.declared.entry.Entry.TheVariants.{Reset, Async, Iso, Event, Outcome, Shown, End}
+use Rattle.fw_page_phrases.specs.Asking.{request_by}
+use Rattle.fw_page_phrases.specs.Made.{is_answer}
+use Rattle.fw_page.specs.State.{first_state}
+use Rattle.fw_page_content.specs.Counts.{next}
 use Rattle.fw_page.specs.Streams.{start_joins, packet_joins}
-use Rattle.fw_page.specs.Pieces.{piece, piece_of}
 use Rattle.fw_page_laws.proofs.Numbers.{run_number, packet_home, home, homes_from}
 use Rattle.fw_page_laws.specs.Homes.{is_streamed, answers, IsHome, AreHomes}
 use Rattle.fw_page_laws.proofs.StepLaws.{IsClean}

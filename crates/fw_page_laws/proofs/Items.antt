@@ -1,13 +1,12 @@
 -- The items of a bus reset's nodes: one for each, since the packets of a node begin with its first.
-use Rattle.std.proofs.Common.{refl, ◌≡◌, ℕ, zero, suc, ◌+◌, ◌*◌, ◌≤◌, ◌∷◌, [], true, false, List, length, slice_get, codes, Option, Some, None, IsTrue, subst, sym, ◌∙◌, arith}
+use Rattle.fw_page_laws.proofs.Common.{refl, ◌≡◌, ℕ, zero, suc, ◌+◌, ◌*◌, ◌∷◌, [], true, false, List, length, slice_get, codes, Option, Some, None, IsTrue, subst, sym, ◌∙◌, arith, NodeRow, Outside}
+use Rattle.std.proofs.Common.{◌≤◌}
 use Rattle.std.proofs.lemmas.Bool.{ne_eqb}
 use Rattle.fw_phy.specs.declared.packet.PhyPacket.{PhyPacket}
 use Rattle.fw_phy.specs.declared.packet.PhyPacket.TheVariants.{SelfId as FirstPacket, SelfIdMore as FurtherPacket, Config, LinkOn}
-use Rattle.fw_entry.specs.Log.{ResetFits, are_ids}
-use Rattle.fw_entry.specs.declared.entry.ResetEntry.{ResetEntry}
-use Rattle.fw_entry.specs.declared.nodes.NodeRow.{NodeRow}
-use Rattle.fw_section.specs.Says.{item_front, item_at, items_below, items_text}
-use Rattle.fw_page_laws.specs.Markup.{Outside}
+use Rattle.fw_log_entry.specs.Log.{ResetFits, are_ids}
+use Rattle.fw_log_entry.specs.declared.entry.ResetEntry.{ResetEntry}
+use Rattle.fw_page_section.specs.Says.{item_front, item_at, items_below, items_text}
 use Rattle.fw_page_laws.proofs.Modes.{Goes, lit-goes, none-goes, more-goes, number-goes}
 use Rattle.fw_page_laws.proofs.ExplainResets.{ports_text-outside, row_text-outside, self_text-outside}
 use Rattle.fw_page_laws.proofs.MarksSmall.{plural-outside}

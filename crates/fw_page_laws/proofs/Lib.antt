@@ -1,3 +1,4 @@
+pub mod Common
 pub mod BaseDevices
 pub mod ContentExchanges
 pub mod ContentHeads

@@ -1,12 +1,11 @@
--- The texts of fw_marks, Arrows: each keeps a page whole.
-use Rattle.fw_marks.specs.Arrows.{arrow, cross, cross_shape, head_class, line_class, middle, turn}
-use Rattle.fw_marks.specs.declared.arrows.Line.{Line}
-use Rattle.fw_marks.specs.declared.arrows.Line.TheVariants.{Dashed, Whole}
-use Rattle.fw_marks.specs.declared.arrows.Told.{Told}
-use Rattle.fw_marks.specs.declared.arrows.Told.TheVariants.{Made, NotMade, Nothing}
+-- The texts of fw_page_marks, Arrows: each keeps a page whole.
+use Rattle.fw_page_laws.proofs.Common.{Bool, List, codes, nat_lt, refl, ℕ, ◌+◌, ◌-◌, ◌==◌, InValue, Outside}
+use Rattle.fw_page_marks.specs.Arrows.{arrow, cross, cross_shape, head_class, line_class, middle, turn}
+use Rattle.fw_page_marks.specs.declared.arrows.Line.{Line}
+use Rattle.fw_page_marks.specs.declared.arrows.Line.TheVariants.{Dashed, Whole}
+use Rattle.fw_page_marks.specs.declared.arrows.Told.{Told}
+use Rattle.fw_page_marks.specs.declared.arrows.Told.TheVariants.{Made, NotMade, Nothing}
 use Rattle.fw_page_laws.proofs.MarksShapes.{level_line-outside, mark-outside, there_and_back-outside}
-use Rattle.std.proofs.Common.{Bool, List, codes, nat_lt, refl, ℕ, ◌+◌, ◌-◌, ◌==◌}
-use Rattle.fw_page_laws.specs.Markup.{InValue, Outside}
 use Rattle.fw_page_laws.proofs.Modes.{Goes, if-goes, lit-goes, more-goes, none-goes}
 
 pub head_class-value : (a0 : Told) → (outer : List (List ℕ)) → Goes (InValue outer) (head_class a0) (InValue outer)

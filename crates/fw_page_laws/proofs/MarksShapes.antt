@@ -1,8 +1,7 @@
--- The texts of fw_marks, Shapes: each keeps a page whole.
-use Rattle.fw_marks.specs.Shapes.{halves, level_line, mark, path, path_front, rect, symbol_at, there_and_back}
-use Rattle.std.proofs.Common.{List, [], codes, refl, ℕ, ◌∷◌}
+-- The texts of fw_page_marks, Shapes: each keeps a page whole.
+use Rattle.fw_page_laws.proofs.Common.{List, [], codes, refl, ℕ, ◌∷◌, InValue, Outside}
+use Rattle.fw_page_marks.specs.Shapes.{halves, level_line, mark, path, path_front, rect, symbol_at, there_and_back}
 use Rattle.std.specs.Str.{bytes_eq}
-use Rattle.fw_page_laws.specs.Markup.{InValue, Outside}
 use Rattle.fw_page_laws.proofs.Modes.{Goes, IsValued, IsWhole, if-goes, lit-goes, more-goes, none-goes, number-goes}
 
 pub path_front-outside : (a0 : List ℕ) → IsValued a0 → (outer : List (List ℕ)) → Goes (Outside outer) (path_front a0) (InValue (codes "path" ∷ outer))

@@ -1,7 +1,7 @@
--- The texts of fw_marks, Small: each keeps a page whole.
-use Rattle.fw_marks.specs.Small.{millis, plural, seconds}
-use Rattle.std.proofs.Common.{List, codes, refl, ℕ, ◌%◌, ◌*◌, ◌/◌, ◌==◌}
-use Rattle.fw_page_laws.specs.Markup.{Outside}
+-- The texts of fw_page_marks, Small: each keeps a page whole.
+use Rattle.fw_page_laws.proofs.Common.{List, codes, refl, ℕ, ◌*◌, ◌/◌, ◌==◌, Outside}
+use Rattle.fw_page_marks.specs.Small.{millis, plural, seconds}
+use Rattle.std.proofs.Common.{◌%◌}
 use Rattle.fw_page_laws.proofs.Modes.{Goes, IsWhole, if-goes, lit-goes, more-goes, none-goes, number-goes, three-goes}
 
 pub plural-outside : (a0 : ℕ) (a1 : List ℕ) → IsWhole a1 → (outer : List (List ℕ)) → Goes (Outside outer) (plural a0 a1) (Outside outer)

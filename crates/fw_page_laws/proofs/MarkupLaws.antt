@@ -1,19 +1,19 @@
 -- No text of a log can put markup into a page.
-use Rattle.std.proofs.Common.{◌≡◌, ℕ, zero, suc, ◌++◌, Bool, true, false, List, [], ◌∷◌, codes, Option, Some, None, refl, ap, subst, sym, ◌∙◌, append_assoc, arith}
+use Rattle.fw_page_laws.proofs.Common.{◌≡◌, ℕ, zero, suc, ◌++◌, Bool, true, false, List, [], ◌∷◌, codes, Option, Some, None, refl, ap, subst, sym, ◌∙◌, arith, Timed, State, Step, then_do, plain}
+use Rattle.fw_page_laws.proofs.Common.{piece_of, piece, Mode, Outside, InValue, mode_of}
+use Rattle.std.proofs.Common.{append_assoc}
 use Rattle.std.specs.List.{All}
 use Rattle.std.proofs.lemmas.List.{append-nil}
-use Rattle.fw_entry.specs.Log.{Fits}
-use Rattle.fw_entry.specs.declared.entry.Timed.{Timed}
-use Rattle.fw_phrases.specs.Notes.{break_text}
-use Rattle.fw_phrases.specs.declared.note.Break.{Break}
-use Rattle.fw_page.specs.State.{State, Step, says, then_do, first_state}
-use Rattle.fw_page.specs.Rows.{before, plain}
-use Rattle.fw_page.specs.Pieces.{release, piece_of, piece}
+use Rattle.fw_log_entry.specs.Log.{Fits}
+use Rattle.fw_page_phrases.specs.Notes.{break_text}
+use Rattle.fw_page_phrases.specs.declared.note.Break.{Break}
+use Rattle.fw_page.specs.State.{says, first_state}
+use Rattle.fw_page.specs.Rows.{before}
+use Rattle.fw_page.specs.Pieces.{release}
 use Rattle.fw_page.specs.Page.{state_from, state_of, pieces, pieces_from}
 use Rattle.fw_page.specs.Ends.{why, section_end_text, closed, sum_text}
 use Rattle.fw_page.specs.declared.head.TheConstants.{HEAD}
 use Rattle.fw_page.specs.declared.tail.TheConstants.{TAIL}
-use Rattle.fw_page_laws.specs.Markup.{Mode, Outside, InValue, mode_of}
 use Rattle.fw_page_laws.specs.Laws.{NoLogIsMarkup, in_main}
 use Rattle.fw_page_laws.proofs.Modes.{Goes, IsWhole, lit-goes, none-goes, more-goes, mode_more}
 use Rattle.fw_page_laws.proofs.Tells.{Tells, tells-goes}

@@ -32,14 +32,14 @@ use Rattle.std.proofs.Common.{
   append_assoc,
   arith,
 }
+use Rattle.fw_page_laws.proofs.Common.{list_all, hex, Mode, Outside, InValue, mode_of, names_of}
 use Rattle.std.specs.Fmt.{digit_glyph, digits_onto, digits}
-use Rattle.std.specs.List.{list_all}
 use Rattle.std.proofs.lemmas.Bool.{ne_eqb}
 use Rattle.std.proofs.lemmas.Bool.Decides.{nat_tests}
-use Rattle.fw_names.specs.Digits.{byte_digits}
-use Rattle.fw_names.specs.Texts.{hex, hex_bytes}
-use Rattle.fw_marks.specs.Small.{digit, three}
-use Rattle.fw_page_laws.specs.Markup.{Mode, Outside, InElement, InTag, InValue, InLink, InName, Broken, is_plain, is_value, mode_behind, mode_of, name_at, names_of}
+use Rattle.fw_log_names.specs.Digits.{byte_digits}
+use Rattle.fw_log_names.specs.Texts.{hex_bytes}
+use Rattle.fw_page_marks.specs.Small.{digit, three}
+use Rattle.fw_page_laws.specs.Markup.{InElement, InTag, InLink, InName, Broken, is_plain, is_value, mode_behind, name_at}
 
 -- a text leads from a mode to a mode, and names nothing
 pub record Goes (m : Mode) (text : List ℕ) (n : Mode) : Type 0 where

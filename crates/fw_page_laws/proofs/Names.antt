@@ -1,11 +1,12 @@
 -- Quadlets without the space before the first, and names of tables.
-use Rattle.std.proofs.Common.{◌≡◌, ℕ, zero, suc, ◌*◌, ◌/◌, Bool, true, false, List, [], ◌∷◌, ◌++◌, drop, length, Option, Some, None, if◌then◌else◌, refl, ap, sym, ◌∙◌}
+use Rattle.fw_page_laws.proofs.Common.{◌≡◌, ℕ, zero, suc, ◌*◌, ◌/◌, Bool, true, false, List, [], ◌∷◌, ◌++◌, length, Option, Some, None, if◌then◌else◌, refl, ap, sym, ◌∙◌, hex, Mode, mode_of, names_of}
+use Rattle.std.proofs.Common.{drop}
 use Rattle.std.specs.Option.{option_map, option_or}
 use Rattle.fw_words.specs.Quadlet.{quadlet_at}
-use Rattle.fw_names.specs.Texts.{hex, first_quadlets, quadlets_text, quadlet_text}
-use Rattle.fw_frames.specs.Frames.{first_name}
-use Rattle.fw_phrases.specs.Asks.{wrapped}
-use Rattle.fw_page_laws.specs.Markup.{Mode, mode_behind, mode_of, name_at, names_of}
+use Rattle.fw_log_names.specs.Texts.{first_quadlets, quadlets_text, quadlet_text}
+use Rattle.fw_log_frames.specs.Frames.{first_name}
+use Rattle.fw_page_phrases.specs.Asks.{wrapped}
+use Rattle.fw_page_laws.specs.Markup.{mode_behind, name_at}
 use Rattle.fw_page_laws.proofs.Modes.{Goes, IsWhole, IsSteady, Kept, more-goes, none-goes, hex-goes, one-goes, plain_kept, space_plain}
 
 -- ---- quadlets, without the space before the first

@@ -1,10 +1,10 @@
--- The texts of fw_names, Names: each keeps a page whole.
-use Rattle.fw_base.specs.Devices.{kind_coded, name_of}
+-- The texts of fw_log_names, Names: each keeps a page whole.
+use Rattle.fw_page_laws.proofs.Common.{device_name, None, Some, codes, if◌then◌else◌, refl, ℕ, ◌/◌, ◌==◌, Outside}
+use Rattle.fw_terms.specs.Devices.{kind_coded, name_of}
 use Rattle.fw_cip.specs.declared.packet.CipHeader.{CipHeader}
-use Rattle.fw_names.specs.Names.{device_name, format_name, function_name, port_name, rate_name, rcode_name, speed_name, system_name}
+use Rattle.fw_log_names.specs.Names.{format_name, function_name, port_name, rate_name, rcode_name, speed_name, system_name}
 use Rattle.fw_page_laws.proofs.BaseDevices.{name_of-outside}
-use Rattle.std.proofs.Common.{None, Some, codes, if◌then◌else◌, refl, ℕ, ◌/◌, ◌==◌, ◌^◌}
-use Rattle.fw_page_laws.specs.Markup.{Outside}
+use Rattle.std.proofs.Common.{◌^◌}
 use Rattle.fw_page_laws.proofs.Modes.{lit-goes}
 use Rattle.fw_page_laws.proofs.Names.{NamesGo, mapped-goes, names-if}
 

@@ -1,7 +1,6 @@
--- The texts of fw_names, Texts: each keeps a page whole.
-use Rattle.fw_names.specs.Texts.{blank_hex, named, quadlet_text}
-use Rattle.std.proofs.Common.{List, None, Option, Some, [], codes, refl, ℕ, ◌∷◌}
-use Rattle.fw_page_laws.specs.Markup.{Outside}
+-- The texts of fw_log_names, Texts: each keeps a page whole.
+use Rattle.fw_page_laws.proofs.Common.{List, None, Option, Some, [], codes, refl, ℕ, ◌∷◌, Outside}
+use Rattle.fw_log_names.specs.Texts.{blank_hex, named, quadlet_text}
 use Rattle.fw_page_laws.proofs.Modes.{Goes, IsWhole, bytes-goes, hex-goes, lit-goes, more-goes, none-goes, number-goes}
 use Rattle.fw_page_laws.proofs.Names.{NamesGo}
 

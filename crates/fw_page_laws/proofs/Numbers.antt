@@ -1,15 +1,10 @@
 -- By which number the page tells an entry, by what is held back.
-use Rattle.std.proofs.Common.{ℕ, ◌==◌, ◌&&◌, Bool, List, [], ◌∷◌, if◌then◌else◌}
-use Rattle.fw_async.specs.Heads.{head_of}
-use Rattle.fw_async.specs.declared.packet.Packet.{Packet}
+use Rattle.fw_page_laws.proofs.Common.{ℕ, ◌==◌, ◌&&◌, Bool, List, [], ◌∷◌, if◌then◌else◌, head_of, Packet, Timed, State, Held, Nothing, Asks, Runs, piece}
 use Rattle.fw_async.specs.declared.packet.Packet.TheVariants.{CycleStart}
-use Rattle.fw_entry.specs.declared.entry.Entry.{Entry}
-use Rattle.fw_entry.specs.declared.entry.Entry.TheVariants.{Async, Iso}
-use Rattle.fw_entry.specs.declared.entry.Timed.{Timed}
-use Rattle.fw_phrases.specs.Made.{is_answer}
-use Rattle.fw_page.specs.State.{State, Held, Nothing, Asks, Runs}
+use Rattle.fw_log_entry.specs.declared.entry.Entry.{Entry}
+use Rattle.fw_log_entry.specs.declared.entry.Entry.TheVariants.{Async, Iso}
+use Rattle.fw_page_phrases.specs.Made.{is_answer}
 use Rattle.fw_page.specs.Streams.{start_joins, packet_joins}
-use Rattle.fw_page.specs.Pieces.{piece}
 
 -- the number of the run that an entry joins, or its own
 abbrev pub run_number : Bool → Held → ℕ → ℕ

@@ -1,27 +1,22 @@
 -- Packets and runs keep a page whole, and are told.
-use Rattle.std.proofs.Common.{refl, ◌≡◌, ℕ, zero, suc, ◌+◌, Bool, true, false, List, [], ◌∷◌, ◌++◌, codes, Option, Some, None, ap, subst}
+use Rattle.fw_page_laws.proofs.Common.{refl, ◌≡◌, ℕ, zero, suc, ◌+◌, Bool, true, false, List, [], ◌∷◌, ◌++◌, codes, Option, Some, None, ap, subst, head_of, Packet, Request, Run, Standing, State, Step}
+use Rattle.fw_page_laws.proofs.Common.{Held, Nothing, Asks, Runs, then_do, InValue}
 use Rattle.std.specs.Option.{option_map}
-use Rattle.fw_async.specs.Heads.{head_of}
-use Rattle.fw_async.specs.declared.packet.Packet.{Packet}
-use Rattle.fw_entry.specs.Network.{first_id}
-use Rattle.fw_marks.specs.Places.{device_of}
-use Rattle.fw_phrases.specs.Asking.{kind_of, class_of, request_by}
-use Rattle.fw_phrases.specs.Cycles.{cycles_text, flow_text}
-use Rattle.fw_phrases.specs.Made.{answer_of, told_of}
-use Rattle.fw_phrases.specs.Runs.{flow_at, run_from}
-use Rattle.fw_phrases.specs.Standing.{standing_for}
-use Rattle.fw_phrases.specs.declared.request.Request.{Request}
-use Rattle.fw_phrases.specs.declared.run.Flow.{Flow}
-use Rattle.fw_phrases.specs.declared.run.Run.{Run}
-use Rattle.fw_phrases.specs.declared.standing.Standing.{Standing}
-use Rattle.fw_page.specs.State.{State, Step, Held, Nothing, Asks, Runs, becomes, then_do}
+use Rattle.fw_log_entry.specs.Network.{first_id}
+use Rattle.fw_page_marks.specs.Places.{device_of}
+use Rattle.fw_page_phrases.specs.Asking.{kind_of, class_of, request_by}
+use Rattle.fw_page_phrases.specs.Cycles.{cycles_text, flow_text}
+use Rattle.fw_page_phrases.specs.Made.{answer_of, told_of}
+use Rattle.fw_page_phrases.specs.Runs.{flow_at, run_from}
+use Rattle.fw_page_phrases.specs.Standing.{standing_for}
+use Rattle.fw_page_phrases.specs.declared.run.Flow.{Flow}
+use Rattle.fw_page.specs.State.{becomes}
 use Rattle.fw_page.specs.Rows.{before, row}
-use Rattle.fw_content.specs.Heads.{classes_of, devices_of, own_front, request_front}
+use Rattle.fw_page_content.specs.Heads.{classes_of, devices_of, own_front, request_front}
 use Rattle.fw_page.specs.Requests.{asked, alone, exchange, answered, answer_to, answer}
-use Rattle.fw_content.specs.Exchanges.{alone_marks, alone_words, exchange_marks, exchange_words, answer_kind, request_of, answer_marks, answer_words}
+use Rattle.fw_page_content.specs.Exchanges.{alone_marks, alone_words, exchange_marks, exchange_words, answer_kind, request_of, answer_marks, answer_words}
 use Rattle.fw_page.specs.Streams.{starter, starts_marks, starts, flow_marks, channel_row, channel_rows, cycles, held_run, taken}
 use Rattle.fw_page.specs.Pieces.{released, release, released_in_section, run_begun, begun_run, streamed, asked_or_answer}
-use Rattle.fw_page_laws.specs.Markup.{InValue}
 use Rattle.fw_page_laws.proofs.Modes.{IsWhole, IsValued, lit-goes, none-goes}
 use Rattle.fw_page_laws.proofs.StepLaws.{
   IsClean,

@@ -1,7 +1,7 @@
 -- The texts of fw_page, Rows: each keeps a page whole.
-use Rattle.fw_marks.specs.Small.{millis}
-use Rattle.fw_page.specs.Rows.{before_text, due_words, gap_class, gap_text, lanes_now, lines_now, plain, plain_back, strip_front, strip_text}
-use Rattle.fw_page.specs.State.{State}
+use Rattle.fw_page_laws.proofs.Common.{plain, State, Bool, List, None, Option, Some, [], codes, decimal, nat_lt, refl, ℕ, ◌++◌, ◌∷◌, InValue, Outside}
+use Rattle.fw_page_marks.specs.Small.{millis}
+use Rattle.fw_page.specs.Rows.{before_text, due_words, gap_class, gap_text, lanes_now, lines_now, plain_back, strip_front, strip_text}
 use Rattle.fw_page_laws.proofs.ContentHeads.{edge_text-value}
 use Rattle.fw_page_laws.proofs.MarksShapes.{halves-outside}
 use Rattle.fw_page_laws.proofs.MarksSmall.{millis-outside}
@@ -9,10 +9,9 @@ use Rattle.fw_page_laws.proofs.PhrasesNotes.{stop_text-outside}
 use Rattle.fw_page_laws.proofs.SceneLines.{lines-outside}
 use Rattle.fw_page_laws.proofs.StripLabels.{dot_text-outside, labels-outside}
 use Rattle.fw_page_laws.proofs.StripLanes.{lanes-outside}
-use Rattle.fw_phrases.specs.declared.note.AccountStop.{AccountStop}
-use Rattle.std.proofs.Common.{Bool, List, None, Option, Some, [], codes, decimal, nat_lt, not, refl, ℕ, ◌++◌, ◌∷◌}
+use Rattle.fw_page_phrases.specs.declared.note.AccountStop.{AccountStop}
+use Rattle.std.proofs.Common.{not}
 use Rattle.std.specs.Option.{is_some}
-use Rattle.fw_page_laws.specs.Markup.{InValue, Outside}
 use Rattle.fw_page_laws.proofs.Modes.{Goes, IsValued, IsWhole, if-goes, lit-goes, more-goes, none-goes, number-goes}
 
 pub gap_class-value : (a0 : ℕ) → (outer : List (List ℕ)) → Goes (InValue outer) (gap_class a0) (InValue outer)

@@ -1,13 +1,9 @@
 -- The texts of fw_page, Streams: each keeps a page whole.
-use Rattle.fw_account.specs.Account.{Account}
-use Rattle.fw_entry.specs.declared.nodes.NodeRow.{NodeRow}
-use Rattle.fw_marks.specs.Places.{place_of, place_of_id, right}
+use Rattle.fw_page_laws.proofs.Common.{Account, NodeRow, Run, Bool, List, Option, codes, length, nat_lt, refl, suc, zero, ℕ, ◌+◌, ◌-◌, ◌==◌, InValue, Outside}
+use Rattle.fw_page_marks.specs.Places.{place_of, place_of_id, right}
 use Rattle.fw_page.specs.Streams.{ear, ear_if, ears_below, end_of, flow_marks, heard, reach_below, starts_marks}
 use Rattle.fw_page_laws.proofs.MarksShapes.{level_line-outside, mark-outside, path-outside}
-use Rattle.fw_phrases.specs.declared.run.Flow.{Flow}
-use Rattle.fw_phrases.specs.declared.run.Run.{Run}
-use Rattle.std.proofs.Common.{Bool, List, Option, codes, length, nat_lt, refl, suc, zero, ℕ, ◌+◌, ◌-◌, ◌==◌}
-use Rattle.fw_page_laws.specs.Markup.{InValue, Outside}
+use Rattle.fw_page_phrases.specs.declared.run.Flow.{Flow}
 use Rattle.fw_page_laws.proofs.Modes.{Goes, if-goes, lit-goes, more-goes, none-goes, number-goes}
 
 pub starts_marks-outside : (a0 : List NodeRow) (a1 : Run) → (outer : List (List ℕ)) → Goes (Outside outer) (starts_marks a0 a1) (Outside outer)

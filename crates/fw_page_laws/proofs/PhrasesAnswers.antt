@@ -1,23 +1,17 @@
--- The texts of fw_phrases, Answers: each keeps a page whole.
-use Rattle.fw_async.specs.declared.packet.Packet.{Packet}
+-- The texts of fw_page_phrases, Answers: each keeps a page whole.
+use Rattle.fw_page_laws.proofs.Common.{Packet, hex, Request, Standing, place_of, List, None, Option, Some, codes, refl, ℕ, ◌==◌, ◌∷◌, InValue, Outside}
 use Rattle.fw_async.specs.declared.packet.Packet.TheVariants.{LockReply, ReadBlockReply, ReadQuadletReply}
-use Rattle.fw_names.specs.Names.{rcode_name}
-use Rattle.fw_names.specs.Texts.{hex}
+use Rattle.fw_log_names.specs.Names.{rcode_name}
 use Rattle.fw_page_laws.proofs.NamesNames.{rcode_name-outside}
 use Rattle.fw_page_laws.proofs.NamesTexts.{named-outside}
 use Rattle.fw_page_laws.proofs.PhrasesAsking.{subject-outside}
 use Rattle.fw_page_laws.proofs.PhrasesAsks.{code-outside, code_quadlets-outside, code_word-outside, sized-outside}
 use Rattle.fw_page_laws.proofs.RegistersTold.{told_text-outside}
-use Rattle.fw_phrases.specs.Answers.{answer_text, change, change_of, complete, completed, got, link_text, made_text, read_text, refused}
-use Rattle.fw_phrases.specs.Asks.{told}
-use Rattle.fw_phrases.specs.Made.{changed_by, found, is_made, rcode_of}
-use Rattle.fw_phrases.specs.declared.request.Request.{Request}
-use Rattle.fw_phrases.specs.declared.standing.Standing.{Standing}
-use Rattle.fw_registers.specs.Places.{place_of}
-use Rattle.fw_registers.specs.Words.{told_text}
+use Rattle.fw_page_phrases.specs.Answers.{answer_text, change, change_of, complete, completed, got, link_text, made_text, read_text, refused}
+use Rattle.fw_page_phrases.specs.Asks.{told}
+use Rattle.fw_page_phrases.specs.Made.{changed_by, found, is_made, rcode_of}
+use Rattle.fw_log_registers.specs.Words.{told_text}
 use Rattle.fw_words.specs.declared.swap.Swap.{Swap}
-use Rattle.std.proofs.Common.{List, None, Option, Some, codes, refl, ℕ, ◌==◌, ◌∷◌}
-use Rattle.fw_page_laws.specs.Markup.{InValue, Outside}
 use Rattle.fw_page_laws.proofs.Modes.{Goes, hex-goes, if-goes, lit-goes, more-goes, none-goes, number-goes}
 use Rattle.fw_page_laws.proofs.Names.{wrapped-goes}
 

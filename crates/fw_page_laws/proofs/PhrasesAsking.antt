@@ -1,18 +1,15 @@
--- The texts of fw_phrases, Asking: each keeps a page whole.
-use Rattle.fw_names.specs.Names.{function_name}
+-- The texts of fw_page_phrases, Asking: each keeps a page whole.
+use Rattle.fw_page_laws.proofs.Common.{Request, place_of, List, None, Option, Some, codes, refl, ℕ, ◌∷◌, InValue, Outside}
+use Rattle.fw_log_names.specs.Names.{function_name}
 use Rattle.fw_page_laws.proofs.NamesNames.{function_name-outside}
 use Rattle.fw_page_laws.proofs.NamesTexts.{named-outside}
 use Rattle.fw_page_laws.proofs.RegistersWords.{place_text-outside}
-use Rattle.fw_phrases.specs.Asking.{bar_class, class_of, lock_verb, subject, verb, verb_by}
-use Rattle.fw_phrases.specs.declared.request.Kind.{Kind}
-use Rattle.fw_phrases.specs.declared.request.Kind.TheVariants.{Bid, Lock, Read, Write}
-use Rattle.fw_phrases.specs.declared.request.Request.{Request}
-use Rattle.fw_registers.specs.Places.{place_of}
-use Rattle.fw_requests.specs.declared.asked.Answer.{Answer}
-use Rattle.fw_requests.specs.declared.asked.Answer.TheVariants.{Lock as LockResponse, ReadBlock as ReadBlockResponse, ReadQuadlet as ReadQuadletResponse, Write as WriteResponse}
+use Rattle.fw_page_phrases.specs.Asking.{bar_class, class_of, lock_verb, subject, verb, verb_by}
+use Rattle.fw_page_phrases.specs.declared.request.Kind.{Kind}
+use Rattle.fw_page_phrases.specs.declared.request.Kind.TheVariants.{Bid, Lock, Read, Write}
+use Rattle.fw_log_requests.specs.declared.asked.Answer.{Answer}
+use Rattle.fw_log_requests.specs.declared.asked.Answer.TheVariants.{Lock as LockResponse, ReadBlock as ReadBlockResponse, ReadQuadlet as ReadQuadletResponse, Write as WriteResponse}
 use Rattle.fw_words.specs.declared.swap.Swap.{Swap}
-use Rattle.std.proofs.Common.{List, None, Option, Some, codes, refl, ℕ, ◌∷◌}
-use Rattle.fw_page_laws.specs.Markup.{InValue, Outside}
 use Rattle.fw_page_laws.proofs.Modes.{Goes, lit-goes, more-goes}
 
 pub lock_verb-outside : (a0 : ℕ) (a1 : Option Swap) → (outer : List (List ℕ)) → Goes (Outside outer) (lock_verb a0 a1) (Outside outer)

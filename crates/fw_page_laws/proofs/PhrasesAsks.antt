@@ -1,23 +1,20 @@
--- The texts of fw_phrases, Asks: each keeps a page whole.
-use Rattle.fw_async.specs.declared.packet.Packet.{Packet}
+-- The texts of fw_page_phrases, Asks: each keeps a page whole.
+use Rattle.fw_page_laws.proofs.Common.{Packet, hex, Request, place_of, List, None, Option, Some, codes, length, refl, ℕ, ◌-◌, ◌==◌, ◌∷◌, Outside}
 use Rattle.fw_async.specs.declared.packet.Packet.TheVariants.{Lock, ReadBlock, WriteBlock, WriteQuadlet}
-use Rattle.fw_entry.specs.Network.{first_id}
-use Rattle.fw_explain.specs.Lines.{takes_frames}
-use Rattle.fw_names.specs.Texts.{hex, hex_bytes, quadlets_text}
+use Rattle.fw_log_entry.specs.Network.{first_id}
+use Rattle.fw_log_explain.specs.Lines.{takes_frames}
+use Rattle.fw_log_names.specs.Texts.{hex_bytes, quadlets_text}
 use Rattle.fw_page_laws.proofs.FramesFrames.{frame_text-outside}
 use Rattle.fw_page_laws.proofs.PhrasesAsking.{subject-outside}
 use Rattle.fw_page_laws.proofs.RegistersTold.{told_text-outside}
-use Rattle.fw_phrases.specs.Asks.{ask, block_written, brought, code, code_data, code_quadlets, code_word, end_text, framed, label_text, lock_asked, quadlet_written, sized, swap_asked, told, who}
-use Rattle.fw_phrases.specs.declared.request.Request.{Request}
-use Rattle.fw_registers.specs.Places.{place_of}
-use Rattle.fw_registers.specs.Words.{told_text}
-use Rattle.fw_registers.specs.declared.place.Place.{Place}
-use Rattle.fw_registers.specs.declared.told.Told.TheVariants.{Word}
+use Rattle.fw_page_phrases.specs.Asks.{ask, block_written, brought, code, code_data, code_quadlets, code_word, end_text, framed, label_text, lock_asked, quadlet_written, sized, swap_asked, told, who}
+use Rattle.fw_log_registers.specs.Words.{told_text}
+use Rattle.fw_log_registers.specs.declared.place.Place.{Place}
+use Rattle.fw_log_registers.specs.declared.told.Told.TheVariants.{Word}
 use Rattle.fw_words.specs.Swaps.{quadlet_swap}
 use Rattle.fw_words.specs.declared.swap.Swap.{Swap}
-use Rattle.std.proofs.Common.{List, None, Option, Some, codes, drop, length, nat_le, refl, ℕ, ◌-◌, ◌==◌, ◌∷◌}
+use Rattle.std.proofs.Common.{drop, nat_le}
 use Rattle.std.specs.Int.{to_be_bytes, w32}
-use Rattle.fw_page_laws.specs.Markup.{Outside}
 use Rattle.fw_page_laws.proofs.Modes.{Goes, IsWhole, bytes-goes, hex-goes, if-goes, lit-goes, more-goes, none-goes, number-goes}
 use Rattle.fw_page_laws.proofs.Names.{spaced-goes, wrapped-goes}
 

@@ -1,15 +1,13 @@
--- The texts of fw_phrases, Cycles: each keeps a page whole.
+-- The texts of fw_page_phrases, Cycles: each keeps a page whole.
+use Rattle.fw_page_laws.proofs.Common.{Run, List, None, Option, Some, codes, refl, ℕ, ◌==◌, ◌∷◌, Outside}
 use Rattle.fw_cip.specs.declared.packet.CipHeader.{CipHeader}
-use Rattle.fw_names.specs.Names.{format_name}
+use Rattle.fw_log_names.specs.Names.{format_name}
 use Rattle.fw_page_laws.proofs.MarksSmall.{plural-outside}
 use Rattle.fw_page_laws.proofs.NamesNames.{format_name-outside}
 use Rattle.fw_page_laws.proofs.PhrasesAsks.{end_text-outside}
-use Rattle.fw_phrases.specs.Cycles.{carried_text, carrier_text, cycles_text, due_text, flow_text, format_by, gaps_text, span_text, starts_text}
-use Rattle.fw_phrases.specs.Runs.{fdf_of}
-use Rattle.fw_phrases.specs.declared.run.Flow.{Flow}
-use Rattle.fw_phrases.specs.declared.run.Run.{Run}
-use Rattle.std.proofs.Common.{List, None, Option, Some, codes, refl, ℕ, ◌==◌, ◌∷◌}
-use Rattle.fw_page_laws.specs.Markup.{Outside}
+use Rattle.fw_page_phrases.specs.Cycles.{carried_text, carrier_text, cycles_text, due_text, flow_text, format_by, gaps_text, span_text, starts_text}
+use Rattle.fw_page_phrases.specs.Runs.{fdf_of}
+use Rattle.fw_page_phrases.specs.declared.run.Flow.{Flow}
 use Rattle.fw_page_laws.proofs.Modes.{Goes, byte-goes, if-goes, lit-goes, more-goes, none-goes, number-goes}
 use Rattle.fw_page_laws.proofs.Names.{NamesGo}
 

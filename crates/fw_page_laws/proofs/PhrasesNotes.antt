@@ -1,15 +1,14 @@
--- The texts of fw_phrases, Notes: each keeps a page whole.
-use Rattle.fw_faults.specs.declared.fault.AuditFault.{AuditFault}
-use Rattle.fw_faults.specs.declared.fault.AuditFault.TheVariants.{NoEvent, NoMove, NoNode, NotAllowed, Orphan, Overlap, WrongWord}
+-- The texts of fw_page_phrases, Notes: each keeps a page whole.
+use Rattle.fw_page_laws.proofs.Common.{List, codes, refl, ℕ, Outside}
+use Rattle.fw_model_audit.specs.declared.fault.AuditFault.{AuditFault}
+use Rattle.fw_model_audit.specs.declared.fault.AuditFault.TheVariants.{NoEvent, NoMove, NoNode, NotAllowed, Orphan, Overlap, WrongWord}
 use Rattle.fw_log.specs.declared.LogWhy.{LogWhy}
 use Rattle.fw_log.specs.declared.LogWhy.TheVariants.{AfterEnd, BadBody, BadEpoch, BadHeader, BadKind, BadLength, Cut, NoEnd, TimeBack}
 use Rattle.fw_page_laws.proofs.NamesTexts.{quadlet_text-outside}
-use Rattle.fw_phrases.specs.Notes.{break_text, fault_name, fault_values, fault_words, stop_text, why_text}
-use Rattle.fw_phrases.specs.declared.note.AccountStop.{AccountStop}
-use Rattle.fw_phrases.specs.declared.note.Break.{Break}
-use Rattle.fw_phrases.specs.declared.note.Break.TheVariants.{NoLog, TooLong}
-use Rattle.std.proofs.Common.{List, codes, refl, ℕ}
-use Rattle.fw_page_laws.specs.Markup.{Outside}
+use Rattle.fw_page_phrases.specs.Notes.{break_text, fault_name, fault_values, fault_words, stop_text, why_text}
+use Rattle.fw_page_phrases.specs.declared.note.AccountStop.{AccountStop}
+use Rattle.fw_page_phrases.specs.declared.note.Break.{Break}
+use Rattle.fw_page_phrases.specs.declared.note.Break.TheVariants.{NoLog, TooLong}
 use Rattle.fw_page_laws.proofs.Modes.{Goes, lit-goes, more-goes, number-goes}
 
 pub fault_name-outside : (a0 : AuditFault) → (outer : List (List ℕ)) → Goes (Outside outer) (fault_name a0) (Outside outer)

@@ -1,23 +1,20 @@
 -- Each piece keeps a page whole, and tells its entry.
-use Rattle.std.proofs.Common.{◌≡◌, ◌⊎◌, inl, inr, ℕ, ◌==◌, ◌&&◌, IsTrue, Bool, true, false, List, [], ◌∷◌, ◌++◌, Option, Some, None, if◌then◌else◌, refl, subst, sym}
-use Rattle.fw_async.specs.Heads.{head_of}
-use Rattle.fw_async.specs.declared.packet.Packet.{Packet}
+use Rattle.fw_page_laws.proofs.Common.{◌≡◌, ℕ, ◌==◌, ◌&&◌, IsTrue, Bool, true, false, List, [], ◌∷◌, ◌++◌, Option, Some, None, if◌then◌else◌, refl, subst, sym, head_of, Packet, Request, Run, State}
+use Rattle.fw_page_laws.proofs.Common.{Step, Held, Nothing, Asks, Runs, then_do, piece_of}
+use Rattle.std.proofs.Common.{◌⊎◌, inl, inr}
 use Rattle.fw_async.specs.declared.packet.Packet.TheVariants.{WriteQuadlet, WriteBlock, WriteReply, ReadQuadlet, ReadBlock, ReadQuadletReply, ReadBlockReply, CycleStart, Lock, LockReply}
 use Rattle.fw_cip.specs.declared.packet.IsoPacket.{IsoPacket}
-use Rattle.fw_entry.specs.declared.entry.Entry.{Entry}
-use Rattle.fw_entry.specs.declared.entry.Entry.TheVariants.{Reset, Async, Iso, Event, Outcome, Shown, End}
-use Rattle.fw_entry.specs.Log.{Fits}
-use Rattle.fw_phrases.specs.Asking.{request_by}
-use Rattle.fw_phrases.specs.Made.{is_answer}
-use Rattle.fw_phrases.specs.Runs.{run_from, with_start, with_packet}
-use Rattle.fw_phrases.specs.declared.request.Request.{Request}
-use Rattle.fw_phrases.specs.declared.run.Run.{Run}
-use Rattle.fw_page.specs.State.{State, Step, Held, Nothing, Asks, Runs, then_do}
+use Rattle.fw_log_entry.specs.declared.entry.Entry.{Entry}
+use Rattle.fw_log_entry.specs.declared.entry.Entry.TheVariants.{Reset, Async, Iso, Event, Outcome, Shown, End}
+use Rattle.fw_log_entry.specs.Log.{Fits}
+use Rattle.fw_page_phrases.specs.Asking.{request_by}
+use Rattle.fw_page_phrases.specs.Made.{is_answer}
+use Rattle.fw_page_phrases.specs.Runs.{run_from, with_start, with_packet}
 use Rattle.fw_page.specs.Requests.{exchange}
 use Rattle.fw_page.specs.Streams.{start_joins, packet_joins, taken}
 use Rattle.fw_page.specs.Events.{event_row, outcome_row, shown_row, end_row}
 use Rattle.fw_page.specs.Resets.{reset}
-use Rattle.fw_page.specs.Pieces.{release, released_in_section, streamed, asked_or_answer, lone_packet, packet_by, piece_of}
+use Rattle.fw_page.specs.Pieces.{release, released_in_section, streamed, asked_or_answer, lone_packet, packet_by}
 use Rattle.fw_page_laws.proofs.Numbers.{run_number, packet_home, home}
 use Rattle.fw_page_laws.specs.Homes.{is_streamed}
 use Rattle.fw_page_laws.proofs.CountLaws.{Accounted, fresh_own, fresh_held, again_told, again_held}

@@ -1,11 +1,11 @@
 -- What is told of a register keeps a page whole.
-use Rattle.std.proofs.Common.{refl, ◌==◌, ◌&&◌, Bool, true, false, List, [], ◌∷◌, flat_map, IsTrue}
-use Rattle.std.specs.List.{list_all}
+use Rattle.fw_page_laws.proofs.Common.{refl, ◌==◌, ◌&&◌, Bool, true, false, List, [], ◌∷◌, IsTrue, list_all, Outside}
+use Rattle.std.proofs.Common.{flat_map}
 use Rattle.fw_words.specs.Quadlet.{field}
-use Rattle.fw_registers.specs.declared.place.Place.{Place}
-use Rattle.fw_registers.specs.declared.place.Place.TheVariants.{Named, Unnamed}
-use Rattle.fw_registers.specs.declared.register.Register.{Register}
-use Rattle.fw_registers.specs.declared.register.Register.TheVariants.{
+use Rattle.fw_log_registers.specs.declared.place.Place.{Place}
+use Rattle.fw_log_registers.specs.declared.place.Place.TheVariants.{Named, Unnamed}
+use Rattle.fw_log_registers.specs.declared.register.Register.{Register}
+use Rattle.fw_log_registers.specs.declared.register.Register.TheVariants.{
   StateClear,
   StateSet,
   NodeIds,
@@ -35,10 +35,10 @@ use Rattle.fw_registers.specs.declared.register.Register.TheVariants.{
   FcpResponse,
   TopologyMap,
 }
-use Rattle.fw_registers.specs.declared.told.Told.{Told}
-use Rattle.fw_registers.specs.declared.told.Told.TheVariants.{Word, Swap}
-use Rattle.fw_registers.specs.Words.{Field, fields_of, told_field, told_register, told_text}
-use Rattle.fw_page_laws.specs.Markup.{Outside, is_plain}
+use Rattle.fw_log_registers.specs.declared.told.Told.{Told}
+use Rattle.fw_log_registers.specs.declared.told.Told.TheVariants.{Word, Swap}
+use Rattle.fw_log_registers.specs.Words.{Field, fields_of, told_field, told_register, told_text}
+use Rattle.fw_page_laws.specs.Markup.{is_plain}
 use Rattle.fw_page_laws.proofs.Modes.{IsWhole, plain-goes, more-goes, none-goes, if-goes}
 use Rattle.fw_page_laws.proofs.RegistersWords.{field_text-outside, change_text-outside, told_channels-outside}
 

@@ -1,8 +1,9 @@
--- The texts of fw_registers, Words: each keeps a page whole.
-use Rattle.fw_names.specs.Names.{rate_name}
+-- The texts of fw_log_registers, Words: each keeps a page whole.
+use Rattle.fw_page_laws.proofs.Common.{List, codes, nat_lt, refl, suc, zero, ℕ, ◌+◌, ◌-◌, ◌==◌, Outside}
+use Rattle.fw_log_names.specs.Names.{rate_name}
 use Rattle.fw_page_laws.proofs.NamesNames.{rate_name-outside}
 use Rattle.fw_page_laws.proofs.NamesTexts.{named-outside}
-use Rattle.fw_registers.specs.Words.{
+use Rattle.fw_log_registers.specs.Words.{
   amount_text,
   change_text,
   channel_text,
@@ -22,10 +23,10 @@ use Rattle.fw_registers.specs.Words.{
   told_channels,
   value_text,
 }
-use Rattle.fw_registers.specs.declared.place.Place.{Place}
-use Rattle.fw_registers.specs.declared.place.Place.TheVariants.{Named, Unnamed}
-use Rattle.fw_registers.specs.declared.register.Register.{Register}
-use Rattle.fw_registers.specs.declared.register.Register.TheVariants.{
+use Rattle.fw_log_registers.specs.declared.place.Place.{Place}
+use Rattle.fw_log_registers.specs.declared.place.Place.TheVariants.{Named, Unnamed}
+use Rattle.fw_log_registers.specs.declared.register.Register.{Register}
+use Rattle.fw_log_registers.specs.declared.register.Register.TheVariants.{
   BandwidthAvailable,
   BroadcastChannel,
   BusManagerId,
@@ -55,15 +56,14 @@ use Rattle.fw_registers.specs.declared.register.Register.TheVariants.{
   StateSet,
   TopologyMap,
 }
-use Rattle.fw_registers.specs.declared.shown.Amount.{Amount}
-use Rattle.fw_registers.specs.declared.shown.Amount.TheVariants.{BroadcastConnections, PointToPointConnections, Units}
-use Rattle.fw_registers.specs.declared.shown.Shown.{Shown}
-use Rattle.fw_registers.specs.declared.shown.Shown.TheVariants.{Company, Counted, Decimal, Node, Rate}
-use Rattle.fw_registers.specs.declared.told.Told.{Told}
-use Rattle.fw_registers.specs.declared.told.Told.TheVariants.{Swap, Word}
+use Rattle.fw_log_registers.specs.declared.shown.Amount.{Amount}
+use Rattle.fw_log_registers.specs.declared.shown.Amount.TheVariants.{BroadcastConnections, PointToPointConnections, Units}
+use Rattle.fw_log_registers.specs.declared.shown.Shown.{Shown}
+use Rattle.fw_log_registers.specs.declared.shown.Shown.TheVariants.{Company, Counted, Decimal, Node, Rate}
+use Rattle.fw_log_registers.specs.declared.told.Told.{Told}
+use Rattle.fw_log_registers.specs.declared.told.Told.TheVariants.{Swap, Word}
 use Rattle.fw_words.specs.Quadlet.{field}
-use Rattle.std.proofs.Common.{List, bit_and, codes, nat_lt, refl, suc, zero, ℕ, ◌+◌, ◌-◌, ◌==◌}
-use Rattle.fw_page_laws.specs.Markup.{Outside}
+use Rattle.std.proofs.Common.{bit_and}
 use Rattle.fw_page_laws.proofs.Modes.{Goes, IsWhole, hex-goes, if-goes, lit-goes, more-goes, none-goes, number-goes}
 
 pub register_name-outside : (a0 : Register) → (outer : List (List ℕ)) → Goes (Outside outer) (register_name a0) (Outside outer)

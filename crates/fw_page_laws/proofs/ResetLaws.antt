@@ -1,21 +1,21 @@
 -- A bus reset keeps a page whole, and is told by its heading.
-use Rattle.std.proofs.Common.{Result, Ok, Err, Some, refl, ◌≡◌, ℕ, ◌==◌, ◌++◌, Bool, true, false, List, [], ◌∷◌, codes, None, if◌then◌else◌, subst, sym, ◌∙◌}
-use Rattle.fw_entry.specs.Log.{ResetFits}
-use Rattle.fw_entry.specs.declared.entry.ResetEntry.{ResetEntry}
+use Rattle.fw_page_laws.proofs.Common.{Some, refl, ◌≡◌, ℕ, ◌==◌, ◌++◌, Bool, true, false, List, [], ◌∷◌, codes, None, if◌then◌else◌, subst, sym, ◌∙◌, Subject, Standing, State, Step, then_do, Outside}
+use Rattle.fw_page_laws.proofs.Common.{InValue}
+use Rattle.std.proofs.Common.{Result, Ok, Err}
+use Rattle.fw_log_entry.specs.Log.{ResetFits}
+use Rattle.fw_log_entry.specs.declared.entry.ResetEntry.{ResetEntry}
 use Rattle.fw_map.specs.Rebuilt.{rebuilt}
 use Rattle.fw_map.specs.declared.MapFault.{MapFault}
 use Rattle.fw_map.specs.declared.tree.Tree.{Tree}
-use Rattle.fw_section.specs.Sections.{section_by, section_over}
-use Rattle.fw_section.specs.Subject.{Subject}
-use Rattle.fw_phrases.specs.Asking.{kind_of, class_of}
-use Rattle.fw_phrases.specs.declared.standing.Standing.{Standing}
-use Rattle.fw_page.specs.State.{State, Step, says, becomes, then_do}
+use Rattle.fw_page_section.specs.Sections.{section_by, section_over}
+use Rattle.fw_page_phrases.specs.Asking.{kind_of, class_of}
+use Rattle.fw_page.specs.State.{says, becomes}
 use Rattle.fw_page.specs.Rows.{gap}
-use Rattle.fw_content.specs.Heads.{classes_of, devices_of, request_front}
+use Rattle.fw_page_content.specs.Heads.{classes_of, devices_of, request_front}
 use Rattle.fw_page.specs.Resets.{drop_row, drop_by, drops, closed, reset_state, section_step, reset_row, reset}
-use Rattle.fw_content.specs.Exchanges.{dropped_marks, dropped_words}
-use Rattle.fw_content.specs.Kept.{account_text, orphans}
-use Rattle.fw_page_laws.specs.Markup.{Outside, InValue, told_as}
+use Rattle.fw_page_content.specs.Exchanges.{dropped_marks, dropped_words}
+use Rattle.fw_page_content.specs.Kept.{account_text, orphans}
+use Rattle.fw_page_laws.specs.Markup.{told_as}
 use Rattle.fw_page_laws.proofs.Modes.{Goes, IsWhole, lit-goes, more-goes, none-goes}
 use Rattle.fw_page_laws.proofs.StepLaws.{
   IsClean,

@@ -1,17 +1,13 @@
--- The texts of fw_scene, Lines: each keeps a page whole.
-use Rattle.fw_account.specs.Account.{Account}
-use Rattle.fw_entry.specs.declared.nodes.NodeRow.{NodeRow}
-use Rattle.fw_marks.specs.Places.{number_of, place_of}
+-- The texts of fw_page_scene, Lines: each keeps a page whole.
+use Rattle.fw_page_laws.proofs.Common.{Account, NodeRow, Standing, List, None, Option, Some, [], codes, length, refl, slice_get, suc, zero, ℕ, ◌++◌, ◌+◌, ◌-◌, ◌∷◌, InValue, Outside}
+use Rattle.fw_page_marks.specs.Places.{number_of, place_of}
 use Rattle.fw_page_laws.proofs.MarksShapes.{mark-outside, path-outside, rect-value}
 use Rattle.fw_page_laws.proofs.PhrasesAsking.{bar_class-value}
-use Rattle.fw_phrases.specs.Asking.{bar_class, kind_of}
-use Rattle.fw_phrases.specs.declared.standing.Standing.{Standing}
-use Rattle.fw_scene.specs.Lines.{bar_at, bar_by, bar_of, bars, holds, lines, nodes_text, spot_of, spot_shape, spots, spots_below, waiting}
-use Rattle.fw_scene.specs.declared.lines.Spot.{Spot}
-use Rattle.fw_scene.specs.declared.lines.Spot.TheVariants.{Dead, Deaf, Hears, Lingers, Talks}
-use Rattle.fw_scene.specs.declared.lives.Lives.{Lives}
-use Rattle.std.proofs.Common.{List, None, Option, Some, [], codes, length, refl, slice_get, suc, zero, ℕ, ◌++◌, ◌+◌, ◌-◌, ◌∷◌}
-use Rattle.fw_page_laws.specs.Markup.{InValue, Outside}
+use Rattle.fw_page_phrases.specs.Asking.{bar_class, kind_of}
+use Rattle.fw_page_scene.specs.Lines.{bar_at, bar_by, bar_of, bars, holds, lines, nodes_text, spot_of, spot_shape, spots, spots_below, waiting}
+use Rattle.fw_page_scene.specs.declared.lines.Spot.{Spot}
+use Rattle.fw_page_scene.specs.declared.lines.Spot.TheVariants.{Dead, Deaf, Hears, Lingers, Talks}
+use Rattle.fw_page_scene.specs.declared.lives.Lives.{Lives}
 use Rattle.fw_page_laws.proofs.Modes.{Goes, IsValued, if-goes, lit-goes, more-goes, none-goes}
 
 pub spot_shape-value : (a0 : Spot) (a1 : ℕ) → (outer : List (List ℕ)) → Goes (InValue outer) (spot_shape a0 a1) (InValue outer)

@@ -1,14 +1,15 @@
--- The texts of fw_section, Pictures: each keeps a page whole.
-use Rattle.fw_entry.specs.declared.nodes.NodeRow.{NodeRow}
+-- The texts of fw_page_section, Pictures: each keeps a page whole.
+use Rattle.fw_page_laws.proofs.Common.{NodeRow, Subject, List, None, Option, Some, codes, decimal, length, nat_lt, refl, slice_get, suc, zero, ℕ, ◌&&◌, ◌++◌, ◌+◌, ◌-◌, ◌/◌, ◌==◌, ◌∷◌, InValue}
+use Rattle.fw_page_laws.proofs.Common.{Outside}
 use Rattle.fw_map.specs.Trees.{speed_at}
 use Rattle.fw_map.specs.declared.tree.Tree.{Tree}
-use Rattle.fw_marks.specs.Places.{node_of, pitch_of, place_of}
-use Rattle.fw_names.specs.Names.{speed_name}
+use Rattle.fw_page_marks.specs.Places.{node_of, pitch_of, place_of}
+use Rattle.fw_log_names.specs.Names.{speed_name}
 use Rattle.fw_page_laws.proofs.MarksShapes.{symbol_at-outside}
 use Rattle.fw_page_laws.proofs.NamesNames.{speed_name-outside}
 use Rattle.fw_page_laws.proofs.NamesTexts.{named-outside}
 use Rattle.fw_page_laws.proofs.SectionSigns.{sign-outside, tags-outside, text_at-outside}
-use Rattle.fw_section.specs.Pictures.{
+use Rattle.fw_page_section.specs.Pictures.{
   begun,
   cable,
   cable_by,
@@ -29,11 +30,9 @@ use Rattle.fw_section.specs.Pictures.{
   stem,
   stems_below,
 }
-use Rattle.fw_section.specs.Signs.{is_wide, tags}
-use Rattle.fw_section.specs.Subject.{Subject}
+use Rattle.fw_page_section.specs.Signs.{is_wide, tags}
 use Rattle.fw_tree.specs.Numbers.{number_at}
-use Rattle.std.proofs.Common.{List, None, Option, Some, codes, decimal, length, min, nat_le, nat_lt, not, refl, slice_get, suc, zero, ℕ, ◌&&◌, ◌++◌, ◌+◌, ◌-◌, ◌/◌, ◌==◌, ◌∷◌}
-use Rattle.fw_page_laws.specs.Markup.{InValue, Outside}
+use Rattle.std.proofs.Common.{min, nat_le, not}
 use Rattle.fw_page_laws.proofs.Modes.{Goes, IsWhole, if-goes, lit-goes, more-goes, none-goes, number-goes}
 
 pub speed_text-outside : (a0 : ℕ) → (outer : List (List ℕ)) → Goes (Outside outer) (speed_text a0) (Outside outer)

@@ -1,16 +1,12 @@
--- The texts of fw_section, Says: each keeps a page whole.
-use Rattle.fw_entry.specs.declared.nodes.NodeRow.{NodeRow}
+-- The texts of fw_page_section, Says: each keeps a page whole.
+use Rattle.fw_page_laws.proofs.Common.{NodeRow, device_name, Subject, Bool, List, None, Option, Some, [], codes, false, length, nat_lt, refl, slice_get, suc, true, zero, ℕ, ◌==◌, ◌∷◌, Outside}
 use Rattle.fw_map.specs.declared.MapFault.{MapFault}
 use Rattle.fw_map.specs.declared.MapWhy.{MapWhy}
 use Rattle.fw_map.specs.declared.MapWhy.TheVariants.{Left, Missing, Parents, Root}
-use Rattle.fw_names.specs.Names.{device_name}
 use Rattle.fw_page_laws.proofs.ExplainResets.{manager_text-outside}
 use Rattle.fw_page_laws.proofs.NamesNames.{device_name-outside}
 use Rattle.fw_page_laws.proofs.NamesTexts.{named-outside}
-use Rattle.fw_section.specs.Says.{apart, apart_text, device_at, device_text, devices_below, devices_text, fault_text, gone, joined, row_device, says, why_name}
-use Rattle.fw_section.specs.Subject.{Subject}
-use Rattle.std.proofs.Common.{Bool, List, None, Option, Some, [], codes, false, length, nat_lt, refl, slice_get, suc, true, zero, ℕ, ◌==◌, ◌∷◌}
-use Rattle.fw_page_laws.specs.Markup.{Outside}
+use Rattle.fw_page_section.specs.Says.{apart, apart_text, device_at, device_text, devices_below, devices_text, fault_text, gone, joined, row_device, says, why_name}
 use Rattle.fw_page_laws.proofs.Modes.{Goes, IsWhole, if-goes, lit-goes, more-goes, none-goes, number-goes}
 
 pub why_name-outside : (a0 : MapWhy) → (outer : List (List ℕ)) → Goes (Outside outer) (why_name a0) (Outside outer)

@@ -1,10 +1,7 @@
--- The texts of fw_section, Sections: each keeps a page whole.
-use Rattle.fw_entry.specs.declared.nodes.NodeRow.{NodeRow}
-use Rattle.fw_marks.specs.Places.{pitch_of}
-use Rattle.fw_section.specs.Sections.{number_at, numbers_below, section_front}
-use Rattle.fw_section.specs.Subject.{Subject}
-use Rattle.std.proofs.Common.{List, None, Option, Some, codes, length, refl, slice_get, suc, zero, ℕ, ◌==◌, ◌∷◌}
-use Rattle.fw_page_laws.specs.Markup.{InValue, Outside}
+-- The texts of fw_page_section, Sections: each keeps a page whole.
+use Rattle.fw_page_laws.proofs.Common.{NodeRow, Subject, List, None, Option, Some, codes, length, refl, slice_get, suc, zero, ℕ, ◌==◌, ◌∷◌, InValue, Outside}
+use Rattle.fw_page_marks.specs.Places.{pitch_of}
+use Rattle.fw_page_section.specs.Sections.{number_at, numbers_below, section_front}
 use Rattle.fw_page_laws.proofs.Modes.{Goes, if-goes, lit-goes, more-goes, none-goes, number-goes}
 
 pub number_at-value : (a0 : ℕ) (a1 : Option NodeRow) → (outer : List (List ℕ)) → Goes (InValue outer) (number_at a0 a1) (InValue outer)

@@ -1,11 +1,11 @@
--- The texts of fw_section, Signs: each keeps a page whole.
-use Rattle.fw_entry.specs.declared.nodes.NodeRow.{NodeRow}
-use Rattle.fw_marks.specs.Places.{pitch_of, place_of}
-use Rattle.fw_names.specs.Names.{device_name}
-use Rattle.fw_names.specs.Texts.{named}
+-- The texts of fw_page_section, Signs: each keeps a page whole.
+use Rattle.fw_page_laws.proofs.Common.{NodeRow, device_name, Subject, Bool, List, None, Option, Some, [], codes, decimal, if◌then◌else◌, length, refl, slice_get, suc, zero, ℕ, ◌*◌, ◌++◌, ◌+◌, ◌-◌}
+use Rattle.fw_page_laws.proofs.Common.{◌==◌, ◌∷◌, InValue, Outside}
+use Rattle.fw_page_marks.specs.Places.{pitch_of, place_of}
+use Rattle.fw_log_names.specs.Texts.{named}
 use Rattle.fw_page_laws.proofs.NamesNames.{device_name-outside}
 use Rattle.fw_page_laws.proofs.NamesTexts.{named-outside}
-use Rattle.fw_section.specs.Signs.{
+use Rattle.fw_page_section.specs.Signs.{
   axis,
   axis_words,
   column_of,
@@ -27,9 +27,7 @@ use Rattle.fw_section.specs.Signs.{
   text_front,
   tick,
 }
-use Rattle.fw_section.specs.Subject.{Subject}
-use Rattle.std.proofs.Common.{Bool, List, None, Option, Some, [], codes, decimal, if◌then◌else◌, length, refl, slice_get, suc, zero, ℕ, ◌*◌, ◌++◌, ◌+◌, ◌-◌, ◌==◌, ◌∷◌}
-use Rattle.fw_page_laws.specs.Markup.{InTag, InValue, Outside}
+use Rattle.fw_page_laws.specs.Markup.{InTag}
 use Rattle.fw_page_laws.proofs.Modes.{Goes, IsValued, IsWhole, if-goes, lit-goes, more-goes, none-goes, number-goes}
 
 pub text_front-outside : (a0 : List ℕ) (a1 : ℕ) (a2 : ℕ) → IsValued a0 → (outer : List (List ℕ)) → Goes (Outside outer) (text_front a0 a1 a2) (Outside (codes "text" ∷ outer))

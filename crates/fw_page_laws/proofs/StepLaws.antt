@@ -1,12 +1,14 @@
 -- Steps keep a page whole, and tell entries by the numbers of rows: each by what is held back and the number of the present entry.
-use Rattle.std.proofs.Common.{◌≡◌, ℕ, ◌-◌, ◌==◌, slice_index, Bool, true, false, List, [], ◌∷◌, ◌++◌, map, codes, Option, if◌then◌else◌, refl, ap, subst, sym, ◌∙◌}
+use Rattle.fw_page_laws.proofs.Common.{◌≡◌, ℕ, ◌-◌, ◌==◌, Bool, true, false, List, [], ◌∷◌, ◌++◌, codes, Option, if◌then◌else◌, refl, ap, subst, sym, ◌∙◌, State, Step, Held, then_do, plain, Mode}
+use Rattle.fw_page_laws.proofs.Common.{Outside, mode_of, names_of}
+use Rattle.std.proofs.Common.{slice_index, map}
 use Rattle.std.specs.List.{filter}
 use Rattle.std.proofs.lemmas.List.{map-append}
 use Rattle.std.proofs.lemmas.List.Elements.{filter-append}
-use Rattle.fw_page.specs.State.{State, Step, Held, becomes, then_do}
-use Rattle.fw_page.specs.Rows.{plain, gap, bare_row, row, before, before_text, due, due_words}
-use Rattle.fw_content.specs.Heads.{Front}
-use Rattle.fw_page_laws.specs.Markup.{Mode, Outside, mode_of, names_of, told_as, told_names}
+use Rattle.fw_page.specs.State.{becomes}
+use Rattle.fw_page.specs.Rows.{gap, bare_row, row, before, before_text, due, due_words}
+use Rattle.fw_page_content.specs.Heads.{Front}
+use Rattle.fw_page_laws.specs.Markup.{told_as, told_names}
 use Rattle.fw_page_laws.proofs.Modes.{Goes, IsWhole, IsValued, mode_more, names_more, none-goes}
 use Rattle.fw_page_laws.proofs.Tells.{Tells, anchor_names, row-tells, stop-tells}
 use Rattle.fw_page_laws.proofs.PageRows.{gap_text-outside, before_text-outside, due_words-outside, lines_now-outside, lanes_now-outside}

@@ -1,13 +1,10 @@
--- The texts of fw_strip, Labels: each keeps a page whole.
-use Rattle.fw_account.specs.Account.{Account}
-use Rattle.fw_strip.specs.Labels.{change_of, changed_below, changes, channel_label, dot_text, label_front, label_text, labels, owner_in, owner_text, taken, units_label}
-use Rattle.fw_strip.specs.Owners.{owners}
-use Rattle.fw_strip.specs.declared.labels.Change.{Change}
-use Rattle.fw_strip.specs.declared.labels.Change.TheVariants.{More, Nothing, One}
-use Rattle.fw_strip.specs.declared.owner.Owner.{Owner}
-use Rattle.fw_strip.specs.declared.owner.Owner.TheVariants.{Bus, Nobody, Plug}
-use Rattle.std.proofs.Common.{List, None, Option, Some, codes, nat_lt, refl, ℕ, ◌*◌, ◌+◌, ◌-◌, ◌==◌, ◌∷◌}
-use Rattle.fw_page_laws.specs.Markup.{InValue, Outside}
+-- The texts of fw_page_strip, Labels: each keeps a page whole.
+use Rattle.fw_page_laws.proofs.Common.{Account, Owner, Plug, List, None, Option, Some, codes, nat_lt, refl, ℕ, ◌*◌, ◌+◌, ◌-◌, ◌==◌, ◌∷◌, InValue, Outside}
+use Rattle.fw_page_strip.specs.Labels.{change_of, changed_below, changes, channel_label, dot_text, label_front, label_text, labels, owner_in, owner_text, taken, units_label}
+use Rattle.fw_page_strip.specs.Owners.{owners}
+use Rattle.fw_page_strip.specs.declared.labels.Change.{Change}
+use Rattle.fw_page_strip.specs.declared.labels.Change.TheVariants.{More, Nothing, One}
+use Rattle.fw_page_strip.specs.declared.owner.Owner.TheVariants.{Bus, Nobody}
 use Rattle.fw_page_laws.proofs.Modes.{Goes, if-goes, lit-goes, more-goes, none-goes, number-goes}
 
 pub label_front-outside : (a0 : ℕ) → (outer : List (List ℕ)) → Goes (Outside outer) (label_front a0) (InValue (codes "text" ∷ outer))

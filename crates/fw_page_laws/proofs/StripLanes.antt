@@ -1,15 +1,13 @@
--- The texts of fw_strip, Lanes: each keeps a page whole.
-use Rattle.fw_account.specs.Account.{Account}
-use Rattle.fw_base.specs.Tables.{sum_to}
+-- The texts of fw_page_strip, Lanes: each keeps a page whole.
+use Rattle.fw_page_laws.proofs.Common.{Account, owner, Owner, List, None, Option, Some, suc, zero, ℕ, ◌*◌, ◌+◌, ◌-◌, ◌==◌, InValue, Outside}
+use Rattle.fw_terms.specs.Tables.{sum_to}
 use Rattle.fw_page_laws.proofs.MarksShapes.{path-outside, rect-value}
 use Rattle.fw_page_laws.proofs.StripOwners.{path_class-value}
-use Rattle.fw_strip.specs.Lanes.{bar, bar_below, bar_part, bar_place, channels_below, class_path, class_shapes, lane, lanes}
-use Rattle.fw_strip.specs.Owners.{amount, is_class, owner, owner_class, path_class, units_before, units_of_class}
-use Rattle.fw_strip.specs.declared.owner.Class.{Class}
-use Rattle.fw_strip.specs.declared.owner.Class.TheVariants.{Connected, Kept, Orphaned, Pending, Withheld}
-use Rattle.fw_strip.specs.declared.owner.Owner.{Owner}
-use Rattle.std.proofs.Common.{List, None, Option, Some, max, suc, zero, ℕ, ◌*◌, ◌+◌, ◌-◌, ◌==◌}
-use Rattle.fw_page_laws.specs.Markup.{InValue, Outside}
+use Rattle.fw_page_strip.specs.Lanes.{bar, bar_below, bar_part, bar_place, channels_below, class_path, class_shapes, lane, lanes}
+use Rattle.fw_page_strip.specs.Owners.{amount, is_class, owner_class, path_class, units_before, units_of_class}
+use Rattle.fw_page_strip.specs.declared.owner.Class.{Class}
+use Rattle.fw_page_strip.specs.declared.owner.Class.TheVariants.{Connected, Kept, Orphaned, Pending, Withheld}
+use Rattle.std.proofs.Common.{max}
 use Rattle.fw_page_laws.proofs.Modes.{Goes, if-goes, more-goes, none-goes}
 
 pub bar_part-value : (a0 : ℕ) (a1 : ℕ) → (outer : List (List ℕ)) → Goes (InValue outer) (bar_part a0 a1) (InValue outer)

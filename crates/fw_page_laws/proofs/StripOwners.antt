@@ -1,9 +1,8 @@
--- The texts of fw_strip, Owners: each keeps a page whole.
-use Rattle.fw_strip.specs.Owners.{class_name, path_class}
-use Rattle.fw_strip.specs.declared.owner.Class.{Class}
-use Rattle.fw_strip.specs.declared.owner.Class.TheVariants.{Connected, Kept, Orphaned, Pending, Withheld}
-use Rattle.std.proofs.Common.{List, codes, refl, ℕ}
-use Rattle.fw_page_laws.specs.Markup.{InValue, Outside}
+-- The texts of fw_page_strip, Owners: each keeps a page whole.
+use Rattle.fw_page_laws.proofs.Common.{List, codes, refl, ℕ, InValue, Outside}
+use Rattle.fw_page_strip.specs.Owners.{class_name, path_class}
+use Rattle.fw_page_strip.specs.declared.owner.Class.{Class}
+use Rattle.fw_page_strip.specs.declared.owner.Class.TheVariants.{Connected, Kept, Orphaned, Pending, Withheld}
 use Rattle.fw_page_laws.proofs.Modes.{Goes, lit-goes}
 
 pub path_class-value : (a0 : Class) → (outer : List (List ℕ)) → Goes (InValue outer) (path_class a0) (InValue outer)

@@ -1,7 +1,6 @@
 -- Names of tables whose rows are constant.
-use Rattle.std.proofs.Common.{ℕ, ◌==◌, ◌&&◌, Bool, true, false, List, [], ◌∷◌, Some, IsTrue, refl}
-use Rattle.std.specs.List.{list_all}
-use Rattle.fw_names.specs.Names.{EventWords, event_word, event_words, event_name, event_saying, name_in, outcome_names, outcome_name}
+use Rattle.fw_page_laws.proofs.Common.{ℕ, ◌==◌, ◌&&◌, Bool, true, false, List, [], ◌∷◌, Some, IsTrue, refl, list_all}
+use Rattle.fw_log_names.specs.Names.{EventWords, event_word, event_words, event_name, event_saying, name_in, outcome_names, outcome_name}
 use Rattle.fw_page_laws.specs.Markup.{is_plain}
 use Rattle.fw_page_laws.proofs.Modes.{plain-goes}
 use Rattle.fw_page_laws.proofs.Names.{NamesGo, names-if}

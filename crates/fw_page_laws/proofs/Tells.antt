@@ -1,15 +1,15 @@
 -- Texts that name something: rows, and the headings of bus resets.
-use Rattle.std.proofs.Common.{◌≡◌, ℕ, zero, suc, ◌/◌, ◌%◌, ◌==◌, Bool, true, false, List, [], ◌∷◌, ◌++◌, codes, decimal, Option, if◌then◌else◌, refl, ap, sym, ◌∙◌, append_assoc, arith}
+use Rattle.fw_page_laws.proofs.Common.{◌≡◌, ℕ, zero, suc, ◌/◌, ◌==◌, Bool, true, false, List, [], ◌∷◌, ◌++◌, codes, decimal, Option, if◌then◌else◌, refl, ap, sym, ◌∙◌, arith, Subject, State, plain}
+use Rattle.fw_page_laws.proofs.Common.{Mode, Outside, InValue, mode_of, names_of}
+use Rattle.std.proofs.Common.{◌%◌, append_assoc}
 use Rattle.std.specs.Fmt.{digit_glyph, digits_onto, digits}
 use Rattle.std.proofs.lemmas.List.{append-nil}
 use Rattle.fw_map.specs.declared.MapFault.{MapFault}
 use Rattle.fw_map.specs.declared.tree.Tree.{Tree}
-use Rattle.fw_section.specs.Sections.{heading, section_over}
-use Rattle.fw_section.specs.Subject.{Subject}
-use Rattle.fw_page.specs.State.{State}
-use Rattle.fw_page.specs.Rows.{lines_now, row_text, plain}
-use Rattle.fw_content.specs.Heads.{Front, anchor_text, head_text}
-use Rattle.fw_page_laws.specs.Markup.{Mode, Outside, InElement, InTag, InValue, InName, mode_behind, mode_of, name_at, names_of, told_as}
+use Rattle.fw_page_section.specs.Sections.{heading, section_over}
+use Rattle.fw_page.specs.Rows.{lines_now, row_text}
+use Rattle.fw_page_content.specs.Heads.{Front, anchor_text, head_text}
+use Rattle.fw_page_laws.specs.Markup.{InElement, InTag, InName, mode_behind, name_at, told_as}
 use Rattle.fw_page_laws.proofs.Modes.{Goes, IsWhole, IsValued, IsPlain, mode_more, names_more, lit-goes, more-goes, number-goes, glyph_plain}
 use Rattle.fw_page_laws.proofs.Items.{IsOfNode, items_text-in-div}
 use Rattle.fw_page_laws.proofs.MarksShapes.{halves-outside}

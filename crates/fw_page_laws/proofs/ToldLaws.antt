@@ -1,14 +1,12 @@
 -- Each entry is told.
-use Rattle.std.proofs.Common.{◌≡◌, ℕ, ◌+◌, ◌^◌, ◌<◌, List, [], ◌∷◌, ◌++◌, length, ap, subst, sym, ◌∙◌, append_assoc, arith}
+use Rattle.fw_page_laws.proofs.Common.{◌≡◌, ℕ, ◌+◌, List, [], ◌∷◌, ◌++◌, length, ap, subst, sym, ◌∙◌, arith, Timed, State, Held, piece_of, piece, Outside}
+use Rattle.std.proofs.Common.{◌^◌, ◌<◌, append_assoc}
 use Rattle.std.proofs.lemmas.List.{append-nil}
-use Rattle.fw_entry.specs.declared.entry.Timed.{Timed}
-use Rattle.fw_page.specs.State.{State, Held, first_state}
-use Rattle.fw_content.specs.Counts.{next}
-use Rattle.fw_page.specs.Pieces.{piece_of, piece}
+use Rattle.fw_page.specs.State.{first_state}
+use Rattle.fw_page_content.specs.Counts.{next}
 use Rattle.fw_page.specs.Page.{state_from, state_of, pieces_from}
 use Rattle.fw_page.specs.Ends.{closed, sum_text}
 use Rattle.fw_page_laws.proofs.Numbers.{home, homes_from}
-use Rattle.fw_page_laws.specs.Markup.{Outside}
 use Rattle.fw_page_laws.specs.Laws.{EachEntryIsTold, in_main}
 use Rattle.fw_page_laws.proofs.CountLaws.{IsOnce, none_yet, one_more, all_told}
 use Rattle.fw_page_laws.proofs.StepLaws.{IsClean, IsTold, Keeps, between, nothing_more, told-more, none-clean}

@@ -4,12 +4,12 @@ use Rattle.std.specs.List.{list_all}
 use Rattle.fw_async.specs.Heads.{head_of}
 use Rattle.fw_async.specs.declared.packet.Packet.{Packet}
 use Rattle.fw_async.specs.declared.packet.Packet.TheVariants.{CycleStart}
-use Rattle.fw_entry.specs.declared.entry.Entry.{Entry}
-use Rattle.fw_entry.specs.declared.entry.Entry.TheVariants.{Async, Iso}
-use Rattle.fw_entry.specs.declared.entry.Timed.{Timed}
-use Rattle.fw_phrases.specs.Asking.{request_by}
-use Rattle.fw_phrases.specs.Made.{is_answer}
-use Rattle.fw_phrases.specs.declared.request.Request.{Request}
+use Rattle.fw_log_entry.specs.declared.entry.Entry.{Entry}
+use Rattle.fw_log_entry.specs.declared.entry.Entry.TheVariants.{Async, Iso}
+use Rattle.fw_log_entry.specs.declared.entry.Timed.{Timed}
+use Rattle.fw_page_phrases.specs.Asking.{request_by}
+use Rattle.fw_page_phrases.specs.Made.{is_answer}
+use Rattle.fw_page_phrases.specs.declared.request.Request.{Request}
 
 -- an entry of a stream of cycles: a cycle start, or an isochronous packet
 abbrev pub is_streamed : Entry → Bool

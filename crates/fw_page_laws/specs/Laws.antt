@@ -1,9 +1,9 @@
 -- What holds of each page, whoever made the log: the laws that functions of this crate promise.
 use Rattle.std.specs.Prelude.{◌≡◌, ℕ, ◌+◌, ◌^◌, ◌<◌, ◌==◌, List, [], ◌∷◌, ◌++◌, codes, count_by, length, map, Option, if◌then◌else◌}
 use Rattle.std.specs.List.{All, list_any}
-use Rattle.fw_entry.specs.Log.{Fits}
-use Rattle.fw_entry.specs.declared.entry.Timed.{Timed}
-use Rattle.fw_phrases.specs.declared.note.Break.{Break}
+use Rattle.fw_log_entry.specs.Log.{Fits}
+use Rattle.fw_log_entry.specs.declared.entry.Timed.{Timed}
+use Rattle.fw_page_phrases.specs.declared.note.Break.{Break}
 use Rattle.fw_page.specs.Page.{pieces, state_of, page_text}
 use Rattle.fw_page.specs.Ends.{closed, sum_text}
 use Rattle.fw_page.specs.declared.head.TheConstants.{HEAD}

@@ -21,7 +21,8 @@ pub found_of : (r : Result PhyPacket PhyFault) (q : ℕ) (bytes : List ℕ) → 
 found_of (Ok p) q bytes e h = (h.0, e ∙ ap twice (sym h.1))
 found_of (Err f) q bytes e h = tt
 
-pub only_of : (r : Result PhyPacket PhyFault) (q : ℕ) (bytes : List ℕ) → q < 2 ^ 32 → bytes ≡ twice q → result_err r ≡ option_map Reserved (reserved_bit q) → IfOk r (λ p. Fits p × (quadlet_of p ≡ q)) → (p : PhyPacket) → Fits p → bytes ≡ spelling p → r ≡ Ok p
+pub only_of : (r : Result PhyPacket PhyFault) (q : ℕ) (bytes : List ℕ) → q < 2 ^ 32 → bytes ≡ twice q → result_err r ≡ option_map Reserved (reserved_bit q) → IfOk r (λ p. Fits p × (quadlet_of p ≡ q))
+    → (p : PhyPacket) → Fits p → bytes ≡ spelling p → r ≡ Ok p
 only_of (Ok p') q bytes small e fault found p fits spelled =
     let same : q ≡ quadlet_of p = same_twice q (quadlet_of p) small (below p fits) (sym e ∙ spelled) in
     ap Ok (same_packet p' p found.0 fits (found.1 ∙ same))

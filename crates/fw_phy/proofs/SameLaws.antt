@@ -72,7 +72,8 @@ same_more s t f g e =
     let more : s.more ≡ t.more = same_bit _ _ (at 14) in
     cc (more_of s, more_of t)
 
-same_config : (root gap root' gap' : ℕ) (r t r' t' : Bool) → Fits (Config root r t gap) → Fits (Config root' r' t' gap') → quadlet_of (Config root r t gap) ≡ quadlet_of (Config root' r' t' gap') → Config root r t gap ≡ Config root' r' t' gap'
+same_config : (root gap root' gap' : ℕ) (r t r' t' : Bool) → Fits (Config root r t gap) → Fits (Config root' r' t' gap') → quadlet_of (Config root r t gap) ≡ quadlet_of (Config root' r' t' gap')
+    → Config root r t gap ≡ Config root' r' t' gap'
 same_config root gap root' gap' r t r' t' f g e =
     let h = (packed-same (layout (Config root r t gap)) (layout (Config root' r' t' gap')) 0 0 refl f.fields g.fields e).fields in
     let at = λ (i : ℕ). ap (λ fs. get_or (values fs) i 0) h in

@@ -1,5 +1,6 @@
 -- The table of reserved bits names the first bit at which no packet goes on.
-use Rattle.std.proofs.Common.{rules, mul_assoc, mod-lt, ◌≡◌, ◌≢◌, ℕ, zero, suc, ◌+◌, ◌-◌, ◌*◌, ◌/◌, ◌%◌, ◌^◌, ◌≤◌, ◌<◌, ◌==◌, ◌⊎◌, inl, inr, Bool, true, false, Option, Some, None, Result, Ok, Err, IfOk, nat_le, ◌↔◌, subst, List, [], ◌∷◌, if◌then◌else◌, arith, refl, ap, sym, ◌∙◌}
+use Rattle.std.proofs.Common.{rules, mul_assoc, mod-lt, ◌≡◌, ◌≢◌, ℕ, zero, suc, ◌+◌, ◌-◌, ◌*◌, ◌/◌, ◌%◌, ◌^◌, ◌≤◌, ◌<◌, ◌==◌, ◌⊎◌, inl, inr, Bool}
+use Rattle.std.proofs.Common.{true, false, Option, Some, None, Result, Ok, Err, IfOk, nat_le, ◌↔◌, subst, List, [], ◌∷◌, if◌then◌else◌, arith, refl, ap, sym, ◌∙◌}
 use Rattle.std.proofs.lemmas.Nat.{mod-pow-add, pow_pos, pow-add, shr-shr, shr_high, shr_split, shl-shr}
 use Rattle.std.proofs.lemmas.Bool.{cases_eq, cases_lt}
 use Rattle.std.proofs.lemmas.Bool.Decides.{nat_tests}
@@ -14,7 +15,7 @@ use Rattle.fw_phy.specs.declared.packet.PhyPacket.TheVariants.{SelfId, SelfIdMor
 use Rattle.fw_phy.specs.Phy.{reserved_bit, Fits, quadlet_of, bit, front, GoesOn, StopsAt, IsTwice}
 use Rattle.fw_phy.proofs.TagLaws.{tag_self, tag_more, zeros_more, tag_config, tag_link_on}
 
--- where the first bits are the same, so are the fields within them
+-- if the first bits are the same, so are the fields within them
 same_field : (p q at i j : ℕ) → at ≤ 31 → j ≤ at → front p (at + 1) ≡ front q (at + 1) → field p i j ≡ field q i j
 same_field p q at i j within low e =
     let split : 31 - j ≡ (32 - (at + 1)) + (at - j) = omega arith in
@@ -52,7 +53,7 @@ first_of q at (suc n) b whole h = elim (cases_eq (field q at at) 1) [
       record { low = omega arith; high = w.high; set = w.set; clear = rw (bits, same) (rw fewer at w.clear) }
 ]
 
--- where none of the bits is 1, this one is not
+-- if none of the bits is 1, this one is not
 none_set : (q at n b : ℕ) → first_set q at n ≡ None → at ≤ b → b < at + n → field q b b ≢ 1
 none_set q at zero b h low high one = absurd (let z : ⊥ = omega arith in z)
 none_set q at (suc n) b h low high one = elim (cases_eq (field q at at) 1) [
@@ -121,7 +122,10 @@ unfolding config_at
 config_fits q =
     let r : bit (field q 8 8 == 1) ≡ field q 8 8 = bit_of (field q 8 8) (omega arith) in
     let t : bit (field q 9 9 == 1) ≡ field q 9 9 = bit_of (field q 9 9) (omega arith) in
-    record { fields = (omega arith, omega arith, (omega arith, omega arith, (omega arith, omega arith, (omega arith, omega arith, (omega arith, omega arith, (omega arith, omega arith, tt)))))); shape = tt }
+    record {
+      fields = (omega arith, omega arith, (omega arith, omega arith, (omega arith, omega arith, (omega arith, omega arith, (omega arith, omega arith, (omega arith, omega arith, tt))))));
+      shape = tt;
+    }
 
 config_is : (q : ℕ) → q < 2 ^ 32 → field q 0 1 ≡ 0 → quadlet_of (config_at q) ≡ q / 2 ^ (32 - 16) * 2 ^ (32 - 16)
 unfolding config_at
@@ -296,7 +300,8 @@ stops_at q b small h = elim (pick (field q 0 1 == 3) _ _ b h) [
       ]
 ]
   where
-    tail : (q b : ℕ) → q < 2 ^ 32 → field q 0 1 ≡ 2 → field q 8 8 ≡ 1 → field q 9 11 ≤ 2 → (if field q 12 12 == 1 then Some 12 else if field q 13 13 == 1 then Some 13 else if field q 30 30 == 1 then Some 30 else None) ≡ Some b → StopsAt q b
+    tail : (q b : ℕ) → q < 2 ^ 32 → field q 0 1 ≡ 2 → field q 8 8 ≡ 1 → field q 9 11 ≤ 2
+        → (if field q 12 12 == 1 then Some 12 else if field q 13 13 == 1 then Some 13 else if field q 30 30 == 1 then Some 30 else None) ≡ Some b → StopsAt q b
     tail q b small kind one low h = elim (pick (field q 12 12 == 1) _ _ b h) [
       | inl u ↦ at_bit q 12 b (stop_12 q small kind one low (is_equal (field q 12 12) 1 u.0)) u.1
       | inr u ↦
@@ -314,7 +319,8 @@ stops_at q b small h = elim (pick (field q 0 1 == 3) _ _ b h) [
           ]
     ]
 
-    more : (q b : ℕ) → q < 2 ^ 32 → field q 0 1 ≡ 2 → (if field q 8 8 == 0 then None else if nat_le 4 (field q 9 11) then Some 9 else if field q 9 11 == 3 then Some 11 else if field q 12 12 == 1 then Some 12 else if field q 13 13 == 1 then Some 13 else if field q 30 30 == 1 then Some 30 else None) ≡ Some b → StopsAt q b
+    more : (q b : ℕ) → q < 2 ^ 32 → field q 0 1 ≡ 2 → (if field q 8 8 == 0 then None else if nat_le 4 (field q 9 11) then Some 9 else if field q 9 11 == 3 then Some 11 else if field q 12 12 == 1
+        then Some 12 else if field q 13 13 == 1 then Some 13 else if field q 30 30 == 1 then Some 30 else None) ≡ Some b → StopsAt q b
     more q b small kind h = elim (pick (field q 8 8 == 0) _ _ b h) [
       | inl u ↦ absurd (let e = u.1 in let x : ⊥ = cc in x)
       | inr u ↦
@@ -347,7 +353,8 @@ one_stop q a b s t =
     ]
 
 -- what is no packet stops at a bit, and what is one at none
-pub reserved_of : (r : Result PhyPacket PhyFault) (bytes : List ℕ) (q : ℕ) → q < 2 ^ 32 → IsTwice bytes → q ≡ quadlet_at bytes 0 → result_err r ≡ option_map Reserved (reserved_bit q) → IfOk r (λ p. Fits p × (quadlet_of p ≡ q)) → (b : ℕ) → (r ≡ Err (Reserved b)) ↔ (IsTwice bytes × StopsAt (quadlet_at bytes 0) b)
+pub reserved_of : (r : Result PhyPacket PhyFault) (bytes : List ℕ) (q : ℕ) → q < 2 ^ 32 → IsTwice bytes → q ≡ quadlet_at bytes 0 → result_err r ≡ option_map Reserved (reserved_bit q)
+    → IfOk r (λ p. Fits p × (quadlet_of p ≡ q)) → (b : ℕ) → (r ≡ Err (Reserved b)) ↔ (IsTwice bytes × StopsAt (quadlet_at bytes 0) b)
 reserved_of r bytes q small twice at fault found b = (
   λ e. (twice, rw (← at) (stops_at q b small (bit_is (reserved_bit q) b (sym fault ∙ ap result_err e)))),
   λ w. stopped r q b small fault found (rw (← at) at w.1),
@@ -365,9 +372,11 @@ reserved_of r bytes q small twice at fault found b = (
     no_bit (Ok p) q b t e found = absurd (t.stops (record { packet = p; fits = found.0; alike = ap (λ n. front n (b + 1)) found.1 }))
     no_bit (Err f) q b t e found = absurd (let z : ⊥ = cc in z)
 
-    go : (r : Result PhyPacket PhyFault) (q b : ℕ) (o : Option ℕ) → q < 2 ^ 32 → reserved_bit q ≡ o → result_err r ≡ option_map Reserved o → IfOk r (λ p. Fits p × (quadlet_of p ≡ q)) → StopsAt q b → r ≡ Err (Reserved b)
+    go : (r : Result PhyPacket PhyFault) (q b : ℕ) (o : Option ℕ) → q < 2 ^ 32 → reserved_bit q ≡ o → result_err r ≡ option_map Reserved o → IfOk r (λ p. Fits p × (quadlet_of p ≡ q)) → StopsAt q b
+        → r ≡ Err (Reserved b)
     go r q b None small o e found t = no_bit r q b t e found
     go r q b (Some a) small o e found t = of_bit r q a b (stops_at q a small o) t e
 
-    stopped : (r : Result PhyPacket PhyFault) (q b : ℕ) → q < 2 ^ 32 → result_err r ≡ option_map Reserved (reserved_bit q) → IfOk r (λ p. Fits p × (quadlet_of p ≡ q)) → StopsAt q b → r ≡ Err (Reserved b)
+    stopped : (r : Result PhyPacket PhyFault) (q b : ℕ) → q < 2 ^ 32 → result_err r ≡ option_map Reserved (reserved_bit q) → IfOk r (λ p. Fits p × (quadlet_of p ≡ q)) → StopsAt q b
+        → r ≡ Err (Reserved b)
     stopped r q b small e found t = go r q b (reserved_bit q) small refl e found t

@@ -1,4 +1,4 @@
--- What stands at the front of each kind of packet.
+-- What stands at the beginning of each kind of packet.
 use Rattle.std.proofs.Common.{◌≡◌, ℕ, ◌%◌, ◌^◌, ◌≤◌, Bool, None, arith, refl}
 use Rattle.std.proofs.lemmas.Bool.Decides.{nat_tests}
 use Rattle.fw_words.specs.Quadlet.{field, first_set}
@@ -9,14 +9,14 @@ use Rattle.fw_phy.specs.declared.packet.PhyPacket.{PhyPacket}
 use Rattle.fw_phy.specs.declared.packet.PhyPacket.TheVariants.{SelfId, SelfIdMore, Config, LinkOn}
 use Rattle.fw_phy.specs.Phy.{reserved_bit, Fits, quadlet_of}
 
--- where none of the last bits is 1, they are 0
+-- if none of the last bits is 1, they are 0
 pub low_16 : (q : ℕ) → first_set q 16 16 ≡ None → q % 65536 ≡ 0
 low_16 q h = low_zero q 16 16 refl h
 
 pub low_24 : (q : ℕ) → first_set q 8 24 ≡ None → q % 16777216 ≡ 0
 low_24 q h = low_zero q 8 24 refl h
 
--- what stands where the kinds of packet differ
+-- what stands if the kinds of packet differ
 pub tag_self : (s : Self) → Fits (SelfId s) → (field (quadlet_of (SelfId s)) 0 1 ≡ 2) × (field (quadlet_of (SelfId s)) 8 8 ≡ 0)
 tag_self s fits = (omega (arith, fits.fields), omega (arith, fits.fields))
 

@@ -54,7 +54,7 @@ twice q = to_be_bytes w32 q ++ to_be_bytes w32 (2 ^ 32 - 1 - q)
 abbrev pub spelling : PhyPacket → List ℕ
 spelling p = twice (quadlet_of p)
 
--- the first bit at which no packet goes on, where the quadlet is none
+-- the first bit at which no packet goes on, if the quadlet is none
 abbrev pub reserved_bit : ℕ → Option ℕ
 reserved_bit q =
     if field q 0 1 == 3 then Some 1

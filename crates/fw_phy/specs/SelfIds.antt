@@ -2,7 +2,7 @@
 use Rattle.std.specs.Prelude.{ℕ, ◌+◌, ◌-◌, ◌*◌, ◌==◌, ◌&&◌, Bool, if◌then◌else◌}
 use Rattle.fw_words.specs.Quadlet.{field}
 
--- The quadlet has the first bits of the self-ID packet of this node behind so many others of it: packet zero has the kind 10,
+-- The quadlet has the first bits of the self-ID packet of this node after so many others of it: packet zero has the kind 10,
 -- the node's number and a 0; a further one has a 1 there, its own number and two zeros, and a 0 as bit 30.
 abbrev pub begins_self_id : ℕ → ℕ → ℕ → Bool
 begins_self_id q node met =

@@ -11,7 +11,7 @@ const ZERO: u32 = 0b10_000000_0;
 /// Bits 0 to 13 of the first further packet of node 0: the kind 10, the node's number, a 1, the packet's own number, and two zeros.
 const MORE: u32 = 0b10_000000_1_000_00;
 
-/// Whether the quadlet begins as the self-ID packet of this node does that comes behind `met` others of it.
+/// Whether the quadlet begins as the self-ID packet of this node does that comes after `met` others of it.
 pub fn begins_self_id(q: Quadlet, node: u32, met: u32) -> bool
     requires node { node < 64 }
     requires met { met ≤ 3 }

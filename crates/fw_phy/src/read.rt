@@ -84,7 +84,7 @@ fn link_on_of(q: Quadlet) -> PhyPacket
     }
 }
 
-// The self-ID packet that the quadlet is, or the fault at the first bit where none goes on.
+// The self-ID packet that the quadlet is, or the fault at the first bit if none goes on.
 fn self_id_packet_of(q: Quadlet) -> Result<PhyPacket, PhyFault>
     requires { field q.0 0 1 ≡ 2 }
     ensures fault { result_err result ≡ option_map PhyFault.Reserved (reserved_bit q.0) }
@@ -111,7 +111,7 @@ fn self_id_packet_of(q: Quadlet) -> Result<PhyPacket, PhyFault>
     Ok(PhyPacket::SelfIdMore(self_id_more_of(q)))
 }
 
-// The packet that the quadlet is, or the fault at the first bit where no packet goes on.
+// The packet that the quadlet is, or the fault at the first bit if no packet goes on.
 fn packet_of(q: Quadlet) -> Result<PhyPacket, PhyFault>
     ensures fault { result_err result ≡ option_map PhyFault.Reserved (reserved_bit q.0) }
     ensures found { IfOk result (λ p. Fits p × (quadlet_of p ≡ q.0)) }
@@ -130,7 +130,7 @@ fn packet_of(q: Quadlet) -> Result<PhyPacket, PhyFault>
     }
 }
 
-// The two quadlets at the front.
+// The two quadlets at the beginning.
 fn quadlets_of(b: &[u8]) -> Option<(Quadlet, Quadlet)>
     ensures variant { IsSome result ↔ (8 ≤ length b.now) }
     ensures values { IfSome result (λ p. (p.0.0 ≡ quadlet_at b.now 0) × (p.1.0 ≡ quadlet_at b.now 4)) }
@@ -143,7 +143,7 @@ fn quadlets_of(b: &[u8]) -> Option<(Quadlet, Quadlet)>
 
 /// The packet that the first eight bytes spell; bytes after them are not read.
 ///
-/// The first fault that holds is answered: `Short` where fewer than eight bytes are there, `NotInverse` where the
+/// The first fault that holds is answered: `Short` if fewer than eight bytes are there, `NotInverse` if the
 /// second quadlet is not the inverse of the first, and `Reserved` at the first bit at which no packet goes on.
 pub fn read_phy(b: &[u8]) -> Result<PhyPacket, PhyFault>
     ensures fault { result_err result ≡ phy_fault b.now }

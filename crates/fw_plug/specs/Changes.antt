@@ -1,8 +1,8 @@
 -- What the words of plug control registers show (IEC 61883-1, 7), and the words with a field changed.
 use Rattle.std.specs.Prelude.{ℕ, ◌+◌, ◌-◌, ◌*◌, ◌^◌, ◌==◌, nat_lt, Bool}
 use Rattle.fw_words.specs.Quadlet.{field}
-use Rattle.fw_base.specs.declared.plug.ConnectionKind.{ConnectionKind}
-use Rattle.fw_base.specs.declared.plug.ConnectionKind.TheVariants.{PointToPoint, Broadcast}
+use Rattle.fw_terms.specs.declared.plug.ConnectionKind.{ConnectionKind}
+use Rattle.fw_terms.specs.declared.plug.ConnectionKind.TheVariants.{PointToPoint, Broadcast}
 
 -- the broadcast connection counter, bit 1
 abbrev pub has_broadcast : ℕ → Bool

@@ -1,5 +1,6 @@
 -- A device's plugs: their registers by offset (IEC 61883-1, plug control registers), which plugs talk and hear, and which linger.
-use Rattle.std.specs.Prelude.{ℕ, ◌+◌, ◌-◌, ◌*◌, ◌/◌, ◌^◌, ◌==◌, ◌&&◌, ◌||◌, nat_lt, Bool, false, List, [], ◌∷◌, length, slice_index, slice_index_or, slice_set, replicate, map, Option, Some, None, if◌then◌else◌}
+use Rattle.std.specs.Prelude.{ℕ, ◌+◌, ◌-◌, ◌*◌, ◌/◌, ◌^◌, ◌==◌, ◌&&◌, ◌||◌, nat_lt, Bool, false, List}
+use Rattle.std.specs.Prelude.{[], ◌∷◌, length, slice_index, slice_index_or, slice_set, replicate, map, Option, Some, None, if◌then◌else◌}
 use Rattle.fw_words.specs.Quadlet.{field}
 use Rattle.fw_words.specs.Layout.{packed}
 use Rattle.fw_csr.specs.declared.offset.TheConstants.{OMPR, OPCR, IMPR, IPCR}
@@ -19,7 +20,7 @@ pub record PlugWords : Type 0 where
   pub lingering_outputs : List Bool
   pub lingering_inputs : List Bool
 
--- an output plug talks, and an input plug hears, where it is connected, and where it lingers: it goes on since a bus reset
+-- an output plug talks, and an input plug hears, if it is connected, and where it lingers: it goes on since a bus reset
 abbrev pub is_active : ℕ → Bool → Bool
 is_active word lingers = is_connected word || lingers
 
@@ -46,7 +47,13 @@ first_in_word = packed ((1, 1) ∷ (1, 0) ∷ (6, 0) ∷ (2, 0) ∷ (6, 63) ∷ 
 
 -- the plugs of a device at first: none is connected, and none lingers
 abbrev pub first_words : ℕ → ℕ → ℕ → PlugWords
-first_words outs ins rate = record { rate = rate; outputs = replicate outs (first_out_word rate); inputs = replicate ins first_in_word; lingering_outputs = replicate outs false; lingering_inputs = replicate ins false }
+first_words outs ins rate = record {
+  rate = rate;
+  outputs = replicate outs (first_out_word rate);
+  inputs = replicate ins first_in_word;
+  lingering_outputs = replicate outs false;
+  lingering_inputs = replicate ins false;
+}
 
 -- the registers as requests see them: the data rate, how many plugs there are, and the word of each
 pub record PlugTable : Type 0 where
@@ -117,7 +124,7 @@ words_after p r = record p {
 abbrev pub disconnected : ℕ → ℕ
 disconnected w = field w 0 0 * 2 ^ 31 + field w 8 31
 
--- a plug after a bus reset: not connected, and lingering where it was active
+-- a plug after a bus reset: not connected, and lingering if it was active
 abbrev pub plug_after_reset : Plug → Plug
 plug_after_reset p = record { word = disconnected p.word; lingers = is_active p.word p.lingers }
 

@@ -5,7 +5,7 @@ ghost use Rattle.fw_plug.specs.Plugs.{disconnected};
 ghost use Rattle.fw_plug.specs.Changes.{is_full, shows_connection, connection_value, one_more, one_less};
 
 use crate::OutWord;
-use fw_base::ConnectionKind;
+use fw_terms::ConnectionKind;
 use fw_words::{Quadlet, with_field};
 
 /// Whether a plug with this word takes no further connection of the kind: 63 are counted, or it has the broadcast connection.

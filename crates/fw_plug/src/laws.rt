@@ -1,12 +1,12 @@
 ghost use Rattle.std.specs.Prelude.{◌≡◌, ◌<◌, ◌+◌, ◌-◌, ◌==◌, ◌||◌, ℕ, not, false, true};
-ghost use Rattle.fw_base.specs.declared.plug.ConnectionKind.TheVariants.{PointToPoint, Broadcast};
+ghost use Rattle.fw_terms.specs.declared.plug.ConnectionKind.TheVariants.{PointToPoint, Broadcast};
 ghost use Rattle.fw_plug.specs.Changes.{has_broadcast, counter_of, channel_of, overhead_of, one_more, one_less, with_channel, with_overhead};
 ghost use Rattle.fw_plug.specs.Words.{OutFields, InFields, FitsRegister, out_word, out_fields, in_word, in_fields, units_of, is_connected};
 ghost use Rattle.fw_plug.specs.Units.{units, units_with};
 ghost use Rattle.fw_plug.specs.Plugs.{disconnected, first_out_word, first_in_word};
 
 /// What an output plug's register says of the fields that it is made of: they are its fields, it takes the units of its
-/// settings, and a connection stands where one is counted. A bus reset leaves the settings; at first the channel is 63
+/// settings, and a connection stands if one is counted. A bus reset leaves the settings; at first the channel is 63
 /// and the overhead_ID 0.
 pub fn output_words_are_their_fields()
     ensures fields { (f : OutFields) → f.counter < 64 → FitsRegister f.settings → out_fields (out_word f) ≡ f }

@@ -56,7 +56,7 @@ impl Plug {
         reply
     }
 
-    /// The plug after a bus reset: it is not connected, and it lingers where it was active.
+    /// The plug after a bus reset: it is not connected, and it lingers if it was active.
     pub fn after_reset(self) -> Plug
         ensures { result ≡ plug_after_reset self }
     {

@@ -43,7 +43,7 @@ impl Row {
         self.plugs.len()
     }
 
-    /// The register at `offset` where the registers begin at `first`, if there is one.
+    /// The register at `offset` if the registers begin at `first`, if there is one.
     pub fn register(&self, first: u64, offset: u64) -> Option<Register>
         ensures { result ≡ plug_register (slice_index self.now.words) (plug_at first (length self.now.words) offset) }
     {
@@ -51,7 +51,7 @@ impl Row {
         Some(Register::ReadSwap(self.plugs[n].word.get()))
     }
 
-    /// Carries a request out where the registers begin at `first`.
+    /// Carries a request out if the registers begin at `first`.
     pub fn answer<R: RegisterRequest>(&mut self, first: u64, r: &R) -> Reply
         ensures reply { result ≡ reply (plug_register (slice_index self.old.words) (plug_at first (length self.old.words) (offset_of (R.request r.now)))) (R.request r.now) }
         ensures words { self.new.words ≡ after_at (plug_at first (length self.old.words) (offset_of (R.request r.now))) (R.request r.now) self.old.words }

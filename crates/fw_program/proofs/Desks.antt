@@ -1,7 +1,7 @@
 -- The program's desk is a function: its two formulas leave no choice.
 use Rattle.std.proofs.Common.{◌≡◌, ℕ, ◌∙◌, ◌<◌, List, arith, sym}
 use Rattle.std.proofs.lemmas.List.{ext_get_or}
-use Rattle.fw_run.specs.Desks.{IsFunction}
+use Rattle.fw_model_run.specs.Desks.{IsFunction}
 use Rattle.fw_program.specs.Blocks.{IsBlock, program_desk}
 
 -- two blocks of a place have the same bytes

@@ -1,17 +1,18 @@
 -- Calls of a reader, one after the other.
-use Rattle.std.proofs.Common.{◌≡◌, ◌≢◌, ℕ, ◌+◌, ◌≤◌, [], ◌∷◌, ◌++◌, List, length, drop, length-drop, length-append, true, false, Bool, Option, Some, None, Ok, Err, arith, refl, ap, sym, ◌∙◌, subst, append_assoc}
+use Rattle.std.proofs.Common.{◌≡◌, ◌≢◌, ℕ, ◌+◌, ◌≤◌, [], ◌∷◌, ◌++◌, List, length, drop, length-drop, length-append, true}
+use Rattle.std.proofs.Common.{false, Bool, Option, Some, None, Ok, Err, arith, refl, ap, sym, ◌∙◌, subst, append_assoc}
 use Rattle.std.proofs.lemmas.List.{append-nil, drop-append-le, drop-drop}
 use Rattle.fw_outside.specs.Outside.{Takes, IsAtEnd}
 use Rattle.fw_outside.proofs.Parts.{Takes-Takes, Takes-nothing}
-use Rattle.fw_command.specs.Pieces.{IsFree}
+use Rattle.fw_script_command.specs.Pieces.{IsFree}
 use Rattle.fw_script.specs.Reading.{Reading, Answer, GivesFirst, GivesNext, Advances, IsLine, IsHeld, behind, with_taken, unread}
 use Rattle.fw_script.specs.Reading.GivesFirst.{skipped, command, end_line, bad_line, long_line, too_long, end_of_input, no_end, read_fault}
 use Rattle.fw_script.specs.Script.{Refusal, Says, IsScript, Tells, begun}
 use Rattle.fw_script.specs.Leading.{Leads, HasRead, LinesSay, IsReadOf}
 use Rattle.fw_script.specs.Leading.Leads.{nothing, and_then}
 use Rattle.fw_script.specs.Script.Says.{ends, refuses}
-use Rattle.fw_command.specs.declared.command.Command.{Command}
-use Rattle.fw_command.specs.declared.command.Command.TheVariants.{End}
+use Rattle.fw_script_command.specs.declared.command.Command.{Command}
+use Rattle.fw_script_command.specs.declared.command.Command.TheVariants.{End}
 use Rattle.fw_script.specs.declared.ScriptFault.{ScriptFault}
 use Rattle.fw_script.specs.declared.ScriptFault.TheVariants.{ReadFault}
 use Rattle.fw_script.specs.declared.stage.Stage.{Stage}
@@ -35,7 +36,7 @@ module _ (old new : Reading) (mid left' : Option (List ℕ)) (r : Answer) (some 
   pub known_whole : new.whole ≡ a.known.whole
   known_whole = gives_whole gave
 
-  -- where the end was met nothing more is left
+  -- if the end was met nothing more is left
   more_none : (more : List ℕ) → (new.whole ≡ true → more ≡ []) → a.known.whole ≡ true → more ≡ []
   more_none more none w = none (known_whole ∙ w)
 
@@ -48,14 +49,14 @@ module _ (old new : Reading) (mid left' : Option (List ℕ)) (r : Answer) (some 
   pub gave_all : (more : List ℕ) → (new.whole ≡ true → more ≡ []) → GivesFirst (with_taken old (a.takes.taken ++ more) true) r (with_taken new more true)
   gave_all more none = gave_by more true (λ w. (none w, refl))
 
-  -- where the end was met before, nothing more was left
+  -- if the end was met before, nothing more was left
   pub before_by : (more : List ℕ) (whole : Bool) → (new.whole ≡ true → (more ≡ []) × (whole ≡ true)) → old.whole ≡ true → (a.takes.taken ++ more ≡ []) × (whole ≡ true)
   before_by more whole none w =
       let k = a.takes.kept w in
       let n = none (known_whole ∙ k.1) in
       (ap (λ (l : List ℕ). l ++ more) k.0 ∙ n.0, n.1)
 
-  -- nothing more was left before, where the end was met before
+  -- nothing more was left before, if the end was met before
   pub before_none : (more : List ℕ) → (new.whole ≡ true → more ≡ []) → old.whole ≡ true → a.takes.taken ++ more ≡ []
   before_none more none w =
       let k = a.takes.kept w in
@@ -131,7 +132,8 @@ read_command left mid left' given old new c so a other = record {
   leads = leads_more;
 }
   where
-    leads_more : (more : List ℕ) (whole : Bool) → (new.whole ≡ true → (more ≡ []) × (whole ≡ true)) → Leads (begun ((so.taken ++ a.takes.taken) ++ more) whole) (given ++ c ∷ []) (with_taken new more whole)
+    leads_more : (more : List ℕ) (whole : Bool) → (new.whole ≡ true → (more ≡ []) × (whole ≡ true))
+        → Leads (begun ((so.taken ++ a.takes.taken) ++ more) whole) (given ++ c ∷ []) (with_taken new more whole)
     leads_more more whole none =
         let l = so.leads (a.takes.taken ++ more) whole (before_by old new mid left' (Ok (Some c)) (some_something c) a more whole none) in
         subst (λ (bytes : List ℕ). Leads (begun bytes whole) (given ++ c ∷ []) (with_taken new more whole)) (sym (append_assoc so.taken a.takes.taken more))
@@ -159,15 +161,17 @@ read_failed left mid left' given old new so a held =
     )
 
 -- what is read so far, over all bytes that are left
-pub read_first : {left left' : Option (List ℕ)} {given : List Command} {now : Reading} → (so : HasRead left left' given now) → (more : List ℕ) (cs : List Command) (r : Option Refusal) → (now.whole ≡ true → more ≡ [])
+pub read_first : {left left' : Option (List ℕ)} {given : List Command} {now : Reading} → (so : HasRead left left' given now) → (more : List ℕ) (cs : List Command) (r : Option Refusal)
+    → (now.whole ≡ true → more ≡ [])
     → Says (with_taken now more true) cs r → IsScript (so.taken ++ more) (given ++ cs) r
 read_first so more cs r none h = says_from (so.leads more true (λ w. (none w, refl))) cs r h
 
-pub read_rest : {left left' : Option (List ℕ)} {given : List Command} {now : Reading} → (so : HasRead left left' given now) → (more : List ℕ) (ds : List Command) (r : Option Refusal) → (now.whole ≡ true → more ≡ [])
+pub read_rest : {left left' : Option (List ℕ)} {given : List Command} {now : Reading} → (so : HasRead left left' given now) → (more : List ℕ) (ds : List Command) (r : Option Refusal)
+    → (now.whole ≡ true → more ≡ [])
     → IsScript (so.taken ++ more) ds r → (cs : List Command) × (ds ≡ given ++ cs) × Says (with_taken now more true) cs r
 read_rest so more ds r none h = says_behind (so.leads more true (λ w. (none w, refl))) ds r h
 
--- where the end was given, the input was read to its end
+-- if the end was given, the input was read to its end
 gives_end_whole : {p : Reading} {r : Answer} {q : Reading} → GivesFirst p r q → r ≡ Ok (Some End) → q.whole ≡ true
 gives_end_whole (skipped t n a k g) e = gives_end_whole g e
 gives_end_whole (command c t n a k i f o) e = absurd (o (let h : c ≡ End = cc in h))

@@ -1,19 +1,20 @@
--- What lines give is one only, and stays so where more bytes are known.
+-- What lines give is one only, and stays so if more bytes are known.
 use Rattle.std.proofs.Common.{◌≡◌, ◌≢◌, ◌⊎◌, inl, inr, ℕ, [], List, Bool, true, false, Some, Ok, Err, refl, ap, sym, subst, take, ◌++◌}
 use Rattle.std.proofs.lemmas.List.{take-append-le}
 use Rattle.fw_script.specs.Line.{is_skipped}
-use Rattle.fw_command.specs.Form.{HasForm}
+use Rattle.fw_script_command.specs.Form.{HasForm}
 use Rattle.fw_script.specs.Reading.{Reading, Answer, GivesFirst, IsLine, IsAtEndOfInput, IsLongLine, PassesLimit, behind, at_stage, refused, with_taken}
 use Rattle.fw_script.specs.Reading.GivesFirst.{skipped, command, end_line, bad_line, long_line, too_long, end_of_input, no_end, read_fault}
-use Rattle.fw_command.specs.declared.command.Command.{Command}
-use Rattle.fw_command.specs.declared.command.Command.TheVariants.{End}
+use Rattle.fw_script_command.specs.declared.command.Command.{Command}
+use Rattle.fw_script_command.specs.declared.command.Command.TheVariants.{End}
 use Rattle.fw_script.specs.declared.ScriptFault.TheVariants.{BadLine, LineTooLong, NoEnd, ReadFault, TooLong}
 use Rattle.fw_script.specs.declared.stage.Stage.{Stage}
 use Rattle.fw_script.specs.declared.stage.Stage.TheVariants.{Commands, AfterEnd, Done, Failed}
 use Rattle.fw_script.specs.Reader.{IsCut, PassesOver}
 use Rattle.fw_script.specs.Reader.PassesOver.{nowhere, over_skipped, over_end}
-use Rattle.fw_command.proofs.FormLaws.{one_form}
-use Rattle.fw_script.proofs.LineLaws.{IsMore, line_once, line_not_long, line_not_limit, line_not_end, long_not_limit, long_not_end, limit_not_end, line_more, long_more, limit_more, end_more, behind_more, cut_not_line, cut_not_long, cut_not_limit, cut_not_end}
+use Rattle.fw_script_command.proofs.FormLaws.{one_form}
+use Rattle.fw_script.proofs.LineLaws.{IsMore, line_once, line_not_long, line_not_limit, line_not_end, long_not_limit, long_not_end, limit_not_end, line_more}
+use Rattle.fw_script.proofs.LineLaws.{long_more, limit_more, end_more, behind_more, cut_not_line, cut_not_long, cut_not_limit, cut_not_end}
 use Rattle.fw_script.proofs.ReadingLaws.{gives_at}
 
 -- why a line is refused
@@ -85,7 +86,8 @@ at_end p a told read_fault = absurd (told refl)
 abbrev pub Same : Answer → Reading → Answer → Reading → Type 0
 Same r q s z = (r ≡ s) × (q ≡ z)
 
-after_skipped : {p : Reading} {t : List ℕ} {n : ℕ} {s : Answer} {z : Reading} (r : Answer) (q : Reading) → is_skipped t ≡ true → (GivesFirst (behind p t n) s z → Same r q s z) → Leads p t n s z → Same r q s z
+after_skipped : {p : Reading} {t : List ℕ} {n : ℕ} {s : Answer} {z : Reading} (r : Answer) (q : Reading) → is_skipped t ≡ true → (GivesFirst (behind p t n) s z → Same r q s z) → Leads p t n s z
+    → Same r q s z
 after_skipped r q k f (on h g) = f g
 after_skipped r q k f (said c h i j l) = absurd cc
 after_skipped r q k f (ended h i j g) = absurd cc
@@ -95,13 +97,15 @@ not_refused : (p : Reading) (t : List ℕ) (c : Command) {A : Type 0} → p.stag
 not_refused p t c i f (inl e) = absurd cc
 not_refused p t c i f (inr h) = absurd (h c f)
 
-after_command : {p : Reading} {t : List ℕ} {n : ℕ} {s : Answer} {z : Reading} (c : Command) → is_skipped t ≡ false → p.stage ≡ Commands → HasForm c t → c ≢ End → Leads p t n s z → Same (Ok (Some c)) (behind p t n) s z
+after_command : {p : Reading} {t : List ℕ} {n : ℕ} {s : Answer} {z : Reading} (c : Command) → is_skipped t ≡ false → p.stage ≡ Commands → HasForm c t → c ≢ End → Leads p t n s z
+    → Same (Ok (Some c)) (behind p t n) s z
 after_command c k i f o (on h g) = absurd cc
 after_command {t = t} c k i f o (said d h j e l) = (ap (λ (a : Command). Ok (Some a)) (one_form c d t f e), refl)
 after_command {t = t} c k i f o (ended h j e g) = absurd (o (one_form c End t f e))
 after_command {p = p} {t = t} c k i f o (bad h w) = not_refused p t c i f w
 
-after_end_line : {p : Reading} {t : List ℕ} {n : ℕ} {s : Answer} {z : Reading} (r : Answer) (q : Reading) → is_skipped t ≡ false → p.stage ≡ Commands → HasForm End t → (GivesFirst (at_stage (behind p t n) AfterEnd) s z → Same r q s z) → Leads p t n s z → Same r q s z
+after_end_line : {p : Reading} {t : List ℕ} {n : ℕ} {s : Answer} {z : Reading} (r : Answer) (q : Reading) → is_skipped t ≡ false → p.stage ≡ Commands → HasForm End t
+    → (GivesFirst (at_stage (behind p t n) AfterEnd) s z → Same r q s z) → Leads p t n s z → Same r q s z
 after_end_line r q k i f go (on h g) = absurd cc
 after_end_line {t = t} r q k i f go (said d h j e l) = absurd (l (one_form d End t e f))
 after_end_line r q k i f go (ended h j e g) = go g
@@ -132,14 +136,16 @@ gives_once {p = p} (end_of_input a i) h m o = after_input i (at_end p a o h)
 gives_once {p = p} (no_end a i) h m o = after_no_end i (at_end p a o h)
 gives_once read_fault h m o = absurd (m refl)
 
--- more bytes behind leave what lines give as it is
+-- more bytes after leave what lines give as it is
 pub gives_with : {p : Reading} {r : Answer} {q : Reading} → (more : List ℕ) (whole : Bool) → IsMore p more whole → GivesFirst p r q → GivesFirst (with_taken p more whole) r (with_taken q more whole)
 gives_with {p = p} {r = r} {q = q} more whole none (skipped t n a k g) =
     skipped t n (line_more p t more whole n none a) k (subst (λ (z : Reading). GivesFirst z r (with_taken q more whole)) (sym (behind_more p t more whole n a)) (gives_with more whole none g))
 gives_with {p = p} more whole none (command c t n a k i f o) =
-    gives_at (with_taken p more whole) (behind (with_taken p more whole) t n) (with_taken (behind p t n) more whole) (Ok (Some c)) (sym (behind_more p t more whole n a)) (command c t n (line_more p t more whole n none a) k i f o)
+    gives_at (with_taken p more whole) (behind (with_taken p more whole) t n) (with_taken (behind p t n) more whole) (Ok (Some c)) (sym (behind_more p t more whole n a))
+    (command c t n (line_more p t more whole n none a) k i f o)
 gives_with {p = p} {r = r} {q = q} more whole none (end_line t n a k i f g) =
-    end_line t n (line_more p t more whole n none a) k i f (subst (λ (z : Reading). GivesFirst (at_stage z AfterEnd) r (with_taken q more whole)) (sym (behind_more p t more whole n a)) (gives_with more whole none g))
+    end_line t n (line_more p t more whole n none a) k i f (subst (λ (z : Reading). GivesFirst (at_stage z AfterEnd) r (with_taken q more whole)) (sym (behind_more p t more whole n a))
+    (gives_with more whole none g))
 gives_with {p = p} more whole none (bad_line t n a k w) =
     gives_at (with_taken p more whole) (at_stage (behind (with_taken p more whole) t n) Failed) (at_stage (with_taken (behind p t n) more whole) Failed) (Err BadLine)
     (ap (λ (z : Reading). at_stage z Failed) (sym (behind_more p t more whole n a))) (bad_line t n (line_more p t more whole n none a) k w)
@@ -163,7 +169,7 @@ gives_whole (end_of_input a i) = refl
 gives_whole (no_end a i) = refl
 gives_whole read_fault = refl
 
--- where a front of a line is held, and not its end, lines give nothing
+-- if a prefix of a line is held, and not its end, lines give nothing
 pub cut_gives : {p : Reading} {r : Answer} {q : Reading} → IsCut p → GivesFirst p r q → r ≢ Err ReadFault → ⊥
 cut_gives {p = p} c (skipped t n a k g) told = cut_not_line p t n c a
 cut_gives {p = p} c (command d t n a k i f o) told = cut_not_line p t n c a
@@ -175,14 +181,15 @@ cut_gives {p = p} c (end_of_input a i) told = cut_not_end p c a
 cut_gives {p = p} c (no_end a i) told = cut_not_end p c a
 cut_gives c read_fault told = told refl
 
--- what is given from here on is given behind the lines that are passed over
+-- what is given from here on is given after the lines that are passed over
 skipped_gives : {p : Reading} {t : List ℕ} {n : ℕ} {r : Answer} {z : Reading} → is_skipped t ≡ true → Leads p t n r z → GivesFirst (behind p t n) r z
 skipped_gives k (on h g) = g
 skipped_gives k (said c h i j l) = absurd cc
 skipped_gives k (ended h i j g) = absurd cc
 skipped_gives k (bad h w) = absurd cc
 
-end_gives : {p : Reading} {t : List ℕ} {n : ℕ} {r : Answer} {z : Reading} → is_skipped t ≡ false → p.stage ≡ Commands → HasForm End t → Leads p t n r z → GivesFirst (at_stage (behind p t n) AfterEnd) r z
+end_gives : {p : Reading} {t : List ℕ} {n : ℕ} {r : Answer} {z : Reading} → is_skipped t ≡ false → p.stage ≡ Commands → HasForm End t → Leads p t n r z
+    → GivesFirst (at_stage (behind p t n) AfterEnd) r z
 end_gives k i f (on h g) = absurd cc
 end_gives {t = t} k i f (said d h j e l) = absurd (l (one_form d End t e f))
 end_gives k i f (ended h j e g) = g
@@ -213,4 +220,5 @@ goes_with more whole none nowhere = nowhere
 goes_with {p = p} {q = q} more whole none (over_skipped t n a k h) =
     over_skipped t n (line_more p t more whole n none a) k (subst (λ (z : Reading). PassesOver z (with_taken q more whole)) (sym (behind_more p t more whole n a)) (goes_with more whole none h))
 goes_with {p = p} {q = q} more whole none (over_end t n a k i f h) =
-    over_end t n (line_more p t more whole n none a) k i f (subst (λ (z : Reading). PassesOver (at_stage z AfterEnd) (with_taken q more whole)) (sym (behind_more p t more whole n a)) (goes_with more whole none h))
+    over_end t n (line_more p t more whole n none a) k i f (subst (λ (z : Reading). PassesOver (at_stage z AfterEnd) (with_taken q more whole)) (sym (behind_more p t more whole n a))
+    (goes_with more whole none h))

@@ -1,9 +1,10 @@
--- The next line is one only, and stays so where more bytes are known.
-use Rattle.std.proofs.Common.{◌≡◌, ◌⊎◌, inl, inr, ℕ, zero, suc, [], ◌∷◌, ◌++◌, ◌+◌, ◌-◌, ◌<◌, ◌≤◌, List, length, slice_index, take, drop, Bool, true, arith, refl, ap, sym, ◌∙◌, subst, length-drop, length-append, append_assoc}
+-- The next line is one only, and stays so if more bytes are known.
+use Rattle.std.proofs.Common.{◌≡◌, ◌⊎◌, inl, inr, ℕ, zero, suc, [], ◌∷◌, ◌++◌, ◌+◌, ◌-◌, ◌<◌, ◌≤◌, List}
+use Rattle.std.proofs.Common.{length, slice_index, take, drop, Bool, true, arith, refl, ap, sym, ◌∙◌, subst, length-drop, length-append, append_assoc}
 use Rattle.std.proofs.lemmas.List.{append-nil, take-append-le, drop-append-le, get_or-take}
 use Rattle.std.proofs.Math.Seq.{get_or-append_seam, take-append_seam, drop-append_seam}
 use Rattle.std.proofs.lemmas.Bool.{cases_lt}
-use Rattle.fw_command.specs.Pieces.{IsFree}
+use Rattle.fw_script_command.specs.Pieces.{IsFree}
 use Rattle.fw_script.specs.Reader.{IsCut, IsNear, StandsNext}
 use Rattle.fw_script.specs.Line.{IsFront, IsEnded}
 use Rattle.fw_script.specs.declared.line.Front.{Front}
@@ -93,11 +94,11 @@ line_there p t n a = by_end a.ends
     by_end (inl e) = omega (arith, e.1, ap (λ (l : List ℕ). length l) e.0, length-append t (10 ∷ drop n p.rest))
     by_end (inr e) = omega (arith, e.2, ap (λ (l : List ℕ). length l) e.0)
 
--- more bytes may be known, and the end may be met; not where it was met before
+-- more bytes may be known, and the end may be met; not if it was met before
 abbrev pub IsMore : Reading → List ℕ → Bool → Type 0
 IsMore p more whole = p.whole ≡ true → (more ≡ []) × (whole ≡ true)
 
--- more bytes behind it leave the line as it is
+-- more bytes after it leave the line as it is
 pub line_more : (p : Reading) (t more : List ℕ) (whole : Bool) (n : ℕ) → IsMore p more whole → IsLine p t n → IsLine (with_taken p more whole) t n
 line_more p t more whole n none a = record { ends = by_end a.ends; free = a.free; short = a.short; within = a.within }
   where
@@ -137,7 +138,7 @@ behind_more p t more whole n a =
 pub behind_total : (p : Reading) (t : List ℕ) (n : ℕ) → IsLine p t n → (p.before + n) + length (drop n p.rest) ≡ p.before + length p.rest
 behind_total p t n a = omega (arith, length-drop n p.rest, line_there p t n a)
 
--- where a front of a line is held, and not its end, nothing is decided
+-- if a prefix of a line is held, and not its end, nothing is decided
 pub cut_not_line : (p : Reading) (t : List ℕ) (n : ℕ) → IsCut p → IsLine p t n → ⊥
 cut_not_line p t n c a = by_end a.ends
   where
@@ -154,7 +155,7 @@ cut_not_limit p c a = omega (arith, c.within, a.more)
 pub cut_not_end : (p : Reading) → IsCut p → IsAtEndOfInput p → ⊥
 cut_not_end p c a = let w = c.on in let v = a.1 in absurd cc
 
--- behind a line few bytes are held
+-- after a line few bytes are held
 pub near_few : (xs : List ℕ) → length xs ≤ 4096 → IsNear xs
 near_few xs few = record { few = omega arith; free = λ k h. absurd (none (length xs - 4096) xs (omega arith) k h) }
   where
@@ -174,7 +175,7 @@ line_near p t n near a = by_end a.ends
     by_end (inl e) = by_count e.0 e.1 (cases_lt 4096 (length (drop n p.rest)))
     by_end (inr e) = omega (arith, length-drop n p.rest, e.2, ap (λ (l : List ℕ). length l) e.0)
 
--- behind a front of a line a piece more is held
+-- after a prefix of a line a piece more is held
 pub near_taken : (p : Reading) (piece : List ℕ) → IsCut p → length piece ≤ 4096 → IsNear (p.rest ++ piece)
 near_taken p piece c few =
     let long = length-append p.rest piece in
@@ -190,14 +191,14 @@ near_taken p piece c few =
     free_front (suc n) (x ∷ xs) free zero h = free zero (omega arith)
     free_front (suc n) (x ∷ xs) free (suc k) h = free_front n xs (λ j i. free (suc j) (omega arith)) k (omega arith)
 
--- a text stands before a front and a piece
+-- a text stands before a prefix and a piece
 pub kept_text : (text front piece : List ℕ) → take (length text) (text ++ front ++ piece) ≡ text
 kept_text text front piece = ap (λ (l : List ℕ). take (length text) l) (append_assoc text front piece) ∙ take-append_seam text (front ++ piece)
 
 pub kept_rest : (text front piece : List ℕ) → drop (length text) (text ++ front ++ piece) ≡ front ++ piece
 kept_rest text front piece = ap (λ (l : List ℕ). drop (length text) l) (append_assoc text front piece) ∙ drop-append_seam text (front ++ piece)
 
--- what stands in front of the bytes that are held stands next
+-- what stands before the bytes that are held stands next
 pub stands_next : (p : Reading) (f : Front) → p.before ≤ 1048576 → IsFront p.rest (1048576 - p.before) p.whole f → StandsNext p f
 stands_next p (Line n size) low h =
     record {

@@ -10,7 +10,7 @@ use Rattle.fw_script.specs.Reader.PassesOver.{nowhere, over_skipped, over_end}
 use Rattle.fw_script.specs.Reading.{Reading, Answer, GivesFirst, TakesMore, Advances, behind, at_stage, with_taken}
 use Rattle.fw_script.specs.Reading.GivesFirst.{command, bad_line}
 use Rattle.fw_script.specs.Script.{begun}
-use Rattle.fw_command.specs.declared.command.Command.{Command}
+use Rattle.fw_script_command.specs.declared.command.Command.{Command}
 use Rattle.fw_script.specs.declared.ScriptFault.TheVariants.{BadLine, ReadFault}
 use Rattle.fw_script.specs.declared.reader.passing.Said.TheVariants.{Nothing, Command as ACommand, Refused}
 use Rattle.fw_script.specs.declared.stage.Stage.TheVariants.{Failed}
@@ -18,7 +18,7 @@ use Rattle.fw_script.proofs.CallLaws.{gave_by, known_whole, taken_more}
 use Rattle.fw_script.proofs.GivesLaws.{gives_once, gives_with}
 use Rattle.fw_script.proofs.StepLaws.{at_end_still, with_with}
 
--- bytes were taken behind what was read
+-- bytes were taken after what was read
 pub read_taken : (left mid left' : Option (List ℕ)) (given : List Command) (old new : Reading)
     → HasRead left mid given old → TakesMore old new mid left' → HasRead left left' given new
 read_taken left mid left' given old new so t = record {

@@ -3,14 +3,14 @@ use Rattle.std.proofs.Common.{◌≤◌, ◌≡◌, ◌≢◌, ◌⊎◌, ◌↔
 use Rattle.std.proofs.lemmas.List.{append-nil}
 use Rattle.fw_outside.proofs.Parts.{Takes-nothing}
 use Rattle.fw_script.specs.Line.{is_skipped}
-use Rattle.fw_command.specs.Form.{HasForm}
+use Rattle.fw_script_command.specs.Form.{HasForm}
 use Rattle.fw_script.specs.Reader.{ReadsLine, HoldsLine, IsNear, IsOpen, to_read}
 use Rattle.fw_script.proofs.LineLaws.{line_near}
 use Rattle.fw_script.specs.Reader.PassesOver.{nowhere, over_skipped, over_end}
 use Rattle.fw_script.specs.Reading.{Reading, Answer, GivesFirst, IsLine, IsAtEndOfInput, IsLongLine, PassesLimit, behind, at_stage, refused, TakesMore, Advances, GivesNext, IsStageAfter}
 use Rattle.fw_script.specs.Reading.GivesFirst.{skipped, command, end_line, bad_line, long_line, too_long, end_of_input, no_end, read_fault}
-use Rattle.fw_command.specs.declared.command.Command.{Command}
-use Rattle.fw_command.specs.declared.command.Command.TheVariants.{End}
+use Rattle.fw_script_command.specs.declared.command.Command.{Command}
+use Rattle.fw_script_command.specs.declared.command.Command.TheVariants.{End}
 use Rattle.fw_script.specs.declared.ScriptFault.TheVariants.{BadLine, LineTooLong, NoEnd, TooLong}
 use Rattle.fw_script.specs.declared.stage.Stage.{Stage}
 use Rattle.fw_script.specs.declared.stage.Stage.TheVariants.{Commands, AfterEnd, Done, Failed}
@@ -22,31 +22,36 @@ gives_at p q new r e g = subst (λ (z : Reading). GivesFirst p r z) (sym e) g
 line_of : (p : Reading) (n size : ℕ) (text : List ℕ) → text ≡ take n p.rest → HoldsLine p n size → IsLine p text size
 line_of p n size text e h = subst (λ (t : List ℕ). IsLine p t size) (sym e) h.line
 
--- behind a line, told by its text
+-- after a line, told by its text
 behind_text : (p new : Reading) (n size : ℕ) (text : List ℕ) → text ≡ take n p.rest → new ≡ behind p (take n p.rest) size → new ≡ behind p text size
 behind_text p new n size text e is = is ∙ ap (λ (t : List ℕ). behind p t size) (sym e)
 
--- behind a line less is to be read
+-- after a line less is to be read
 less_behind : (p : Reading) (n size : ℕ) (text : List ℕ) → IsNear p.rest → HoldsLine p n size → to_read (behind p text size) < to_read p
 less_behind p n size text near h = omega (arith, length-drop size p.rest, h.all, h.some, h.line.within, near.few)
 
-pub reads_skipped : (p new : Reading) (n size : ℕ) (text : List ℕ) → text ≡ take n p.rest → HoldsLine p n size → new ≡ behind p (take n p.rest) size → IsNear p.rest → IsOpen p.stage → is_skipped text ≡ true → ReadsLine p (Ok None) new
+pub reads_skipped : (p new : Reading) (n size : ℕ) (text : List ℕ) → text ≡ take n p.rest → HoldsLine p n size → new ≡ behind p (take n p.rest) size → IsNear p.rest → IsOpen p.stage
+    → is_skipped text ≡ true → ReadsLine p (Ok None) new
 reads_skipped p new n size text e h is near stage skip =
     subst (λ (z : Reading). ReadsLine p (Ok None) z) (sym (behind_text p new n size text e is))
     (over_skipped text size (line_of p n size text e h) skip nowhere, stage, less_behind p n size text near h)
 
-pub reads_command : (p new : Reading) (n size : ℕ) (text : List ℕ) (c : Command) → text ≡ take n p.rest → HoldsLine p n size → new ≡ behind p (take n p.rest) size → is_skipped text ≡ false → p.stage ≡ Commands → HasForm c text → c ≢ End → GivesFirst p (Ok (Some c)) new
+pub reads_command : (p new : Reading) (n size : ℕ) (text : List ℕ) (c : Command) → text ≡ take n p.rest → HoldsLine p n size → new ≡ behind p (take n p.rest) size → is_skipped text ≡ false
+    → p.stage ≡ Commands → HasForm c text → c ≢ End → GivesFirst p (Ok (Some c)) new
 reads_command p new n size text c e h is skip stage form other =
     gives_at p (behind p text size) new (Ok (Some c)) (behind_text p new n size text e is) (command c text size (line_of p n size text e h) skip stage form other)
 
-pub reads_end_line : (p mid new : Reading) (n size : ℕ) (text : List ℕ) → text ≡ take n p.rest → HoldsLine p n size → mid ≡ behind p (take n p.rest) size → new ≡ at_stage mid AfterEnd → IsNear p.rest → is_skipped text ≡ false → p.stage ≡ Commands → HasForm End text → ReadsLine p (Ok None) new
+pub reads_end_line : (p mid new : Reading) (n size : ℕ) (text : List ℕ) → text ≡ take n p.rest → HoldsLine p n size → mid ≡ behind p (take n p.rest) size → new ≡ at_stage mid AfterEnd → IsNear p.rest
+    → is_skipped text ≡ false → p.stage ≡ Commands → HasForm End text → ReadsLine p (Ok None) new
 reads_end_line p mid new n size text e h is then near skip stage form =
     subst (λ (z : Reading). ReadsLine p (Ok None) z) (sym (then ∙ ap (λ (m : Reading). at_stage m AfterEnd) (behind_text p mid n size text e is)))
     (over_end text size (line_of p n size text e h) skip stage form nowhere, tt, less_behind p n size text near h)
 
-pub reads_bad_line : (p mid new : Reading) (n size : ℕ) (text : List ℕ) → text ≡ take n p.rest → HoldsLine p n size → mid ≡ behind p (take n p.rest) size → new ≡ at_stage mid Failed → is_skipped text ≡ false → (p.stage ≡ AfterEnd) ⊎ ((c : Command) → HasForm c text → ⊥) → GivesFirst p (Err BadLine) new
+pub reads_bad_line : (p mid new : Reading) (n size : ℕ) (text : List ℕ) → text ≡ take n p.rest → HoldsLine p n size → mid ≡ behind p (take n p.rest) size → new ≡ at_stage mid Failed
+    → is_skipped text ≡ false → (p.stage ≡ AfterEnd) ⊎ ((c : Command) → HasForm c text → ⊥) → GivesFirst p (Err BadLine) new
 reads_bad_line p mid new n size text e h is then skip why =
-    gives_at p (at_stage (behind p text size) Failed) new (Err BadLine) (then ∙ ap (λ (m : Reading). at_stage m Failed) (behind_text p mid n size text e is)) (bad_line text size (line_of p n size text e h) skip why)
+    gives_at p (at_stage (behind p text size) Failed) new (Err BadLine) (then ∙ ap (λ (m : Reading). at_stage m Failed) (behind_text p mid n size text e is))
+    (bad_line text size (line_of p n size text e h) skip why)
 
 pub reads_long_line : (p new : Reading) → IsLongLine p → new ≡ refused p (take 257 p.rest) → GivesFirst p (Err LineTooLong) new
 reads_long_line p new h is = gives_at p (refused p (take 257 p.rest)) new (Err LineTooLong) is (long_line h)
@@ -61,7 +66,8 @@ pub reads_no_end : (p new : Reading) → IsAtEndOfInput p → p.stage ≡ Comman
 reads_no_end p new h stage is = gives_at p (refused p []) new (Err NoEnd) is (no_end h stage)
 
 -- why a line is refused
-pub refused_stage : (p : Reading) (commands : Bool) (text : List ℕ) → (commands ≡ false → p.stage ≡ AfterEnd) → (commands ≡ false) ⊎ ((c : Command) → HasForm c text → ⊥) → (p.stage ≡ AfterEnd) ⊎ ((c : Command) → HasForm c text → ⊥)
+pub refused_stage : (p : Reading) (commands : Bool) (text : List ℕ) → (commands ≡ false → p.stage ≡ AfterEnd) → (commands ≡ false) ⊎ ((c : Command) → HasForm c text → ⊥)
+    → (p.stage ≡ AfterEnd) ⊎ ((c : Command) → HasForm c text → ⊥)
 refused_stage p commands text after (inl e) = inl (after e)
 refused_stage p commands text after (inr h) = inr h
 
@@ -123,7 +129,7 @@ gives_open AfterEnd p q r o g = g
 gives_open Done p q r o g = absurd o
 gives_open Failed p q r o g = absurd o
 
--- behind a line few bytes are held
+-- after a line few bytes are held
 pub few_behind : (p new : Reading) (n size : ℕ) → IsNear p.rest → HoldsLine p n size → new ≡ behind p (take n p.rest) size → length new.rest ≤ 4096
 few_behind p new n size near h is = subst (λ (q : Reading). length q.rest ≤ 4096) (sym is) (line_near p (take n p.rest) size near h.line)
 

@@ -6,8 +6,8 @@ use Rattle.fw_script.specs.Script.{Refusal, Says, IsScript, FitsLimit}
 use Rattle.fw_script.specs.Leading.{Leads, BeginsWith}
 use Rattle.fw_script.specs.Leading.Leads.{nothing, and_then}
 use Rattle.fw_script.specs.Script.Says.{ends, refuses, goes_on}
-use Rattle.fw_command.specs.declared.command.Command.{Command}
-use Rattle.fw_command.specs.declared.command.Command.TheVariants.{End}
+use Rattle.fw_script_command.specs.declared.command.Command.{Command}
+use Rattle.fw_script_command.specs.declared.command.Command.TheVariants.{End}
 use Rattle.fw_script.specs.declared.ScriptFault.{ScriptFault}
 use Rattle.fw_script.specs.declared.ScriptFault.TheVariants.{NoEnd, ReadFault, TooLong}
 use Rattle.fw_script.specs.declared.stage.Stage.TheVariants.{AfterEnd}

@@ -10,7 +10,7 @@ use Rattle.fw_script.specs.Reading.{Reading, Answer, GivesFirst, TakesMore, Adva
 use Rattle.fw_script.specs.Reading.GivesFirst.{read_fault}
 use Rattle.fw_script.specs.declared.stage.Stage.{Stage}
 use Rattle.fw_script.specs.declared.stage.Stage.TheVariants.{Failed}
-use Rattle.fw_command.specs.declared.command.Command.{Command}
+use Rattle.fw_script_command.specs.declared.command.Command.{Command}
 use Rattle.fw_script.specs.declared.ScriptFault.{ScriptFault}
 use Rattle.fw_script.specs.declared.ScriptFault.TheVariants.{ReadFault}
 use Rattle.fw_script.proofs.LineLaws.{IsMore}
@@ -72,7 +72,7 @@ goes_in_turn p q z left mid left' a b =
 pub advances_by : (p q new : Reading) (left left' : Option (List ℕ)) (r : Answer) → IsOpen p.stage → ReadsOn p q left left' → GivesFirst q r new → Advances p new left left' r
 advances_by p q new left left' r o a g = record { known = a.known; takes = a.takes; gives = gives_open p.stage a.known new r o (goes_gives a.goes g) }
 
--- an answer that is held is still held behind what is passed over
+-- an answer that is held is still held after what is passed over
 pub holds_behind : (p q : Reading) → PassesOver p q → HoldsAnswer p → HoldsAnswer q
 holds_behind p q g h = (h.0, h.1, goes_answer g h.2 h.3, h.3)
 
@@ -116,7 +116,8 @@ pub command_given : (p new : Reading) (left left' : Option (List ℕ)) (b : Bool
 command_given p new left left' b c e h = subst (λ (x : Bool). Steps p left left' (answer_of (Ok x) c) new) e h
 
 -- the source failed after bytes were taken
-pub take_failed : (p q new : Reading) (left mid left' : Option (List ℕ)) (f : ScriptFault) → IsOpen p.stage → TakesMore p q left mid → Fills q mid left' (Err f) new → Advances p new left left' (Err ReadFault)
+pub take_failed : (p q new : Reading) (left mid left' : Option (List ℕ)) (f : ScriptFault) → IsOpen p.stage → TakesMore p q left mid → Fills q mid left' (Err f) new
+    → Advances p new left left' (Err ReadFault)
 take_failed p q new left mid left' f o t h =
     advances_by p q new left left' (Err ReadFault) o (goes_taken p q left left' (takes_then p q q left mid left' t h.1))
     (gives_at q (at_stage q Failed) new (Err ReadFault) h.2 read_fault)

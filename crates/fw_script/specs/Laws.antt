@@ -1,15 +1,15 @@
 -- What holds of every script.
 use Rattle.std.specs.Prelude.{◌≡◌, ◌≢◌, ℕ, List, [], ◌∷◌, ◌++◌, length, take, Option, Some, None, Ok, Err}
 use Rattle.fw_outside.specs.Outside.{Takes, IsAtEnd}
-use Rattle.fw_command.specs.Pieces.{pieces, parted, AreFree}
-use Rattle.fw_command.specs.Form.{HasForm}
+use Rattle.fw_script_command.specs.Pieces.{pieces, parted, AreFree}
+use Rattle.fw_script_command.specs.Form.{HasForm}
 use Rattle.fw_script.specs.Passing.{Passes}
 use Rattle.fw_script.specs.Reader.{HoldsLine, PassesOver}
 use Rattle.fw_script.specs.Reading.{Reading, Answer, GivesFirst, Advances, TakesMore, IsHeld, behind, at_stage, with_taken, unread}
 use Rattle.fw_script.specs.Script.{Refusal, IsScript, Tells, FitsLimit}
 use Rattle.fw_script.specs.Leading.{HasRead, BeginsWith, LinesSay, IsReadOf}
-use Rattle.fw_command.specs.declared.command.Command.{Command}
-use Rattle.fw_command.specs.declared.command.Command.TheVariants.{End}
+use Rattle.fw_script_command.specs.declared.command.Command.{Command}
+use Rattle.fw_script_command.specs.declared.command.Command.TheVariants.{End}
 use Rattle.fw_script.specs.declared.ScriptFault.{ScriptFault}
 use Rattle.fw_script.specs.declared.ScriptFault.TheVariants.{BadLine, ReadFault}
 use Rattle.fw_script.specs.declared.reader.passing.Said.TheVariants.{Nothing, Command as ACommand, Refused}
@@ -49,19 +49,19 @@ abbrev pub GivenComesFirst : Type 0
 GivenComesFirst = (script : List ℕ) (left' : Option (List ℕ)) (given ds : List Command) (now : Reading) (r : Option Refusal)
     → HasRead (Some script) left' given now → IsScript script ds r → (cs : List Command) × (ds ≡ given ++ cs)
 
--- where the end is given, the input was a script, and was read to its end
+-- if the end is given, the input was a script, and was read to its end
 abbrev pub EndIsLast : Type 0
 EndIsLast = (left mid left' : Option (List ℕ)) (given : List Command) (old new : Reading)
     → HasRead left mid given old → Advances old new mid left' (Ok (Some End))
     → (script : List ℕ) × Takes left left' script × IsAtEnd left' × IsScript script (given ++ End ∷ []) None
 
--- where a fault is answered that is not the source's, it is the script's
+-- if a fault is answered that is not the source's, it is the script's
 abbrev pub FaultIsTheScripts : Type 0
 FaultIsTheScripts = (left mid left' : Option (List ℕ)) (given : List Command) (old new : Reading) (f : ScriptFault)
     → HasRead left mid given old → Advances old new mid left' (Err f) → f ≢ ReadFault
     → (script : List ℕ) × Tells left script × IsScript script given (Some (record { fault = f; line = new.line }))
 
--- where the source failed, the commands that were given are exactly those of the lines whose line feed was taken before
+-- if the source failed, the commands that were given are exactly those of the lines whose line feed was taken before
 abbrev pub WholeLinesWereGiven : Type 0
 WholeLinesWereGiven = (left mid left' : Option (List ℕ)) (given : List Command) (old new : Reading)
     → HasRead left mid given old → Advances old new mid left' (Err ReadFault) → IsHeld (Err ReadFault) new
@@ -72,7 +72,7 @@ abbrev pub TakenIsHeld : Type 0
 TakenIsHeld = (left mid left' : Option (List ℕ)) (given : List Command) (old new : Reading) (r : Answer)
     → HasRead left mid given old → Advances old new mid left' r → (taken : List ℕ) × Takes left left' taken × IsReadOf taken new
 
--- where a script gives these commands first, they come first in all that it says
+-- if a script gives these commands first, they come first in all that it says
 abbrev pub BeginningIsFirst : Type 0
 BeginningIsFirst = (script : List ℕ) (commands ds : List Command) (r : Option Refusal)
     → BeginsWith script commands → IsScript script ds r → (cs : List Command) × (ds ≡ commands ++ cs)
@@ -82,7 +82,7 @@ abbrev pub FirstIsBeginning : Type 0
 FirstIsBeginning = (script : List ℕ) (commands ds : List Command) (c : Command) (r : Option Refusal)
     → IsScript script (commands ++ c ∷ ds) r → BeginsWith script commands
 
--- bytes that are taken behind what was read leave it read
+-- bytes that are taken after what was read leave it read
 abbrev pub TakingGoesOn : Type 0
 TakingGoesOn = (left mid left' : Option (List ℕ)) (given : List Command) (old new : Reading)
     → HasRead left mid given old → TakesMore old new mid left' → HasRead left left' given new

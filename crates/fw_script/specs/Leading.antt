@@ -1,14 +1,14 @@
 -- The commands of a script, one after another: what they lead through, and what of it was read.
 use Rattle.std.specs.Prelude.{◌≡◌, ◌≢◌, ℕ, ◌+◌, ◌≤◌, List, [], ◌∷◌, ◌++◌, length, drop, Bool, true, false, Option, Some, Ok, Err}
 use Rattle.fw_outside.specs.Outside.{Takes, IsAtEnd}
-use Rattle.fw_command.specs.Pieces.{IsFree}
+use Rattle.fw_script_command.specs.Pieces.{IsFree}
 use Rattle.fw_script.specs.Reading.{Reading, GivesFirst, with_taken}
 use Rattle.fw_script.specs.Script.{Tells, begun, start_of}
-use Rattle.fw_command.specs.declared.command.Command.{Command}
-use Rattle.fw_command.specs.declared.command.Command.TheVariants.{End}
+use Rattle.fw_script_command.specs.declared.command.Command.{Command}
+use Rattle.fw_script_command.specs.declared.command.Command.TheVariants.{End}
 use Rattle.fw_script.specs.declared.ScriptFault.TheVariants.{ReadFault}
 
--- from one reading on the lines give these commands, one after another, and the other stands behind the last line
+-- from one reading on the lines give these commands, one after another, and the other stands after the last line
 pub data Leads (p : Reading) : List Command → Reading → Type 0 where
   nothing : Leads p [] p
   and_then : {commands : List Command} {q : Reading} → Leads p commands q → (c : Command) → c ≢ End → (next : Reading) → GivesFirst q (Ok (Some c)) next → Leads p (commands ++ c ∷ []) next
@@ -26,7 +26,7 @@ pub record IsOnLine (script : List ℕ) (commands : List Command) (c : Command) 
   pub gives : GivesFirst before (Ok (Some c)) after
   pub number : line ≡ after.line
 
--- Bytes of the script were taken, and others may be behind them. A source that tells what it has told the whole script.
+-- Bytes of the script were taken, and others may be after them. A source that tells what it has told the whole script.
 pub record TakesFrom (left left' : Option (List ℕ)) (script : List ℕ) : Type 0 where
   pub taken : List ℕ
   pub behind : List ℕ
@@ -50,7 +50,7 @@ pub record IsReadOf (taken : List ℕ) (now : Reading) : Type 0 where
   pub within : now.before ≤ length taken
   pub held : drop now.before taken ≡ now.rest
 
--- What calls have read of a script, from when the reader was new: whatever more is left, where the input's end was not met,
+-- What calls have read of a script, from when the reader was new: whatever more is left, if the input's end was not met,
 -- the script leads through the commands that they gave to where the reading stands.
 pub record HasRead (left left' : Option (List ℕ)) (given : List Command) (now : Reading) : Type 0 where
   pub taken : List ℕ

@@ -1,9 +1,9 @@
 -- The next line of some bytes, and what it means.
 use Rattle.std.specs.Prelude.{◌≡◌, ◌≢◌, ◌⊎◌, ℕ, ◌+◌, ◌<◌, ◌≤◌, ◌==◌, nat_lt, List, [], ◌∷◌, ◌++◌, length, take, drop, Bool, true, false, not, if◌then◌else◌}
-use Rattle.fw_command.specs.Pieces.{IsFree}
-use Rattle.fw_command.specs.Form.{HasForm}
-use Rattle.fw_command.specs.declared.command.Command.{Command}
-use Rattle.fw_command.specs.declared.command.Command.TheVariants as Commands
+use Rattle.fw_script_command.specs.Pieces.{IsFree}
+use Rattle.fw_script_command.specs.Form.{HasForm}
+use Rattle.fw_script_command.specs.declared.command.Command.{Command}
+use Rattle.fw_script_command.specs.declared.command.Command.TheVariants as Commands
 use Rattle.fw_script.specs.declared.line.Front.{Front}
 use Rattle.fw_script.specs.declared.line.Front.TheVariants.{Line, LongLine, Limit, Cut, Nothing}
 use Rattle.fw_script.specs.declared.line.Meaning.{Meaning}
@@ -14,7 +14,7 @@ abbrev pub is_skipped : List ℕ → Bool
 is_skipped [] = true
 is_skipped (b ∷ text) = b == 35
 
--- what stands next, where the first bytes have no line feed: as many as are there, within the script's limit or fit a line and one more
+-- what stands next, if the first bytes have no line feed: as many as are there, within the script's limit or fit a line and one more
 abbrev pub unfed_of : ℕ → ℕ → Bool → Front
 unfed_of total count whole =
     if nat_lt 256 count then LongLine
@@ -23,13 +23,13 @@ unfed_of total count whole =
     else if count == 0 then Nothing
     else Line count count
 
--- the line ends with a line feed, or with all bytes, where no others follow
+-- the line ends with a line feed, or with all bytes, if no others follow
 abbrev pub IsEnded : List ℕ → Bool → ℕ → ℕ → Type 0
 IsEnded rest whole n size =
     ((rest ≡ take n rest ++ 10 ∷ drop size rest) × (size ≡ n + 1))
     ⊎ ((rest ≡ take n rest) × (whole ≡ true) × (drop size rest ≡ []) × (size ≡ n) × (0 < n))
 
--- what stands next, where the first bytes, as many as there is room, are within the script's limit
+-- what stands next, if the first bytes, as many as there is room, are within the script's limit
 abbrev pub IsFront : List ℕ → ℕ → Bool → Front → Type 0
 IsFront rest room whole (Line n size) = (n ≤ 256) × (size ≤ room) × (size ≤ length rest) × IsFree 10 (take n rest) × (n ≡ length (take n rest)) × IsEnded rest whole n size
 IsFront rest room whole LongLine = (257 ≤ length rest) × (257 ≤ room) × IsFree 10 (take 257 rest)
@@ -37,7 +37,7 @@ IsFront rest room whole Limit = (room < length rest) × (room ≤ 256) × IsFree
 IsFront rest room whole Cut = (whole ≡ false) × (length rest ≤ 256) × (length rest ≤ room) × IsFree 10 rest
 IsFront rest room whole Nothing = (rest ≡ []) × (whole ≡ true)
 
--- what a line means, where commands may stand or only skipped lines, with its command, if it is one
+-- what a line means, if commands may stand or only skipped lines, with its command, if it is one
 abbrev pub IsMeaning : List ℕ → Bool → Meaning → Command → Type 0
 IsMeaning text commands Skipped c = is_skipped text ≡ true
 IsMeaning text commands Said c = (is_skipped text ≡ false) × (commands ≡ true) × HasForm c text × (c ≢ Commands.End)

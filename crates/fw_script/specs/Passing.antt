@@ -1,8 +1,8 @@
 -- Lines that are looked at before they are read, and read one by one if they say nothing.
 use Rattle.std.specs.Prelude.{◌≡◌, ◌≢◌, ◌⊎◌, ℕ, List, take, true, false, Option, Some, None}
-use Rattle.fw_command.specs.Form.{HasForm}
-use Rattle.fw_command.specs.declared.command.Command.{Command}
-use Rattle.fw_command.specs.declared.command.Command.TheVariants.{End}
+use Rattle.fw_script_command.specs.Form.{HasForm}
+use Rattle.fw_script_command.specs.declared.command.Command.{Command}
+use Rattle.fw_script_command.specs.declared.command.Command.TheVariants.{End}
 use Rattle.fw_script.specs.Line.{is_skipped}
 use Rattle.fw_script.specs.Reader.{HoldsLine}
 use Rattle.fw_script.specs.Reading.{Reading, IsLongLine, PassesLimit, IsAtEndOfInput, TakesMore, behind, at_stage}

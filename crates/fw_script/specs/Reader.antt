@@ -1,11 +1,11 @@
 -- What a reader keeps between its steps.
 use Rattle.std.specs.Prelude.{◌≡◌, ℕ, ◌+◌, ◌*◌, ◌-◌, ◌<◌, ◌≤◌, List, length, take, Bool, true, false, Option, Some, None, Result, Ok, Err, if◌then◌else◌}
-use Rattle.fw_command.specs.Pieces.{IsFree}
+use Rattle.fw_script_command.specs.Pieces.{IsFree}
 use Rattle.fw_script.specs.Line.{is_skipped}
-use Rattle.fw_command.specs.Form.{HasForm}
+use Rattle.fw_script_command.specs.Form.{HasForm}
 use Rattle.fw_script.specs.Reading.{Reading, Answer, GivesFirst, IsLine, IsLongLine, PassesLimit, IsAtEndOfInput, TakesMore, at_stage, behind}
-use Rattle.fw_command.specs.declared.command.Command.{Command}
-use Rattle.fw_command.specs.declared.command.Command.TheVariants.{End}
+use Rattle.fw_script_command.specs.declared.command.Command.{Command}
+use Rattle.fw_script_command.specs.declared.command.Command.TheVariants.{End}
 use Rattle.fw_script.specs.declared.ScriptFault.{ScriptFault}
 use Rattle.fw_script.specs.declared.ScriptFault.TheVariants.{ReadFault}
 use Rattle.fw_script.specs.declared.line.Front.{Front}
@@ -74,7 +74,7 @@ pub record HoldsLine (p : Reading) (n size : ℕ) : Type 0 where
   pub some : 0 < size
   pub all : size ≤ length p.rest
 
--- a front of the next line is held, and not its end
+-- a prefix of the next line is held, and not its end
 pub record IsCut (p : Reading) : Type 0 where
   pub on : p.whole ≡ false
   pub short : length p.rest ≤ 256

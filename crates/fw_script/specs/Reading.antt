@@ -1,11 +1,11 @@
 -- How a script is read, line by line.
 use Rattle.std.specs.Prelude.{◌≡◌, ◌≢◌, ◌⊎◌, ◌↔◌, ℕ, ◌+◌, ◌<◌, ◌≤◌, ◌-◌, List, [], ◌∷◌, ◌++◌, length, take, drop, Bool, true, false, Option, Some, None, Result, Ok, Err}
 use Rattle.fw_outside.specs.Outside.{Takes, IsAtEnd}
-use Rattle.fw_command.specs.Pieces.{IsFree}
+use Rattle.fw_script_command.specs.Pieces.{IsFree}
 use Rattle.fw_script.specs.Line.{is_skipped}
-use Rattle.fw_command.specs.Form.{HasForm}
-use Rattle.fw_command.specs.declared.command.Command.{Command}
-use Rattle.fw_command.specs.declared.command.Command.TheVariants.{End}
+use Rattle.fw_script_command.specs.Form.{HasForm}
+use Rattle.fw_script_command.specs.declared.command.Command.{Command}
+use Rattle.fw_script_command.specs.declared.command.Command.TheVariants.{End}
 use Rattle.fw_script.specs.declared.ScriptFault.{ScriptFault}
 use Rattle.fw_script.specs.declared.ScriptFault.TheVariants.{BadLine, LineTooLong, NoEnd, ReadFault, TooLong}
 use Rattle.fw_script.specs.declared.stage.Stage.{Stage}
@@ -16,7 +16,7 @@ abbrev pub Answer : Type 0
 Answer = Result (Option Command) ScriptFault
 
 -- where a reading stands: the bytes from the next line on, as far as they were taken from the source, which is all that
--- is held; whether its end was met behind them; how many bytes of the script stand before them; the number of the line last read or
+-- is held; whether its end was met after them; how many bytes of the script stand before them; the number of the line last read or
 -- refused; what is read next; the text of the line last read or refused, of one that is too long its first 257 bytes; and the number of
 -- the line `end`, 0 before it was read
 pub record Reading : Type 0 where
@@ -51,7 +51,7 @@ at_stage p stage = record { rest = p.rest; whole = p.whole; before = p.before; l
 abbrev pub refused : Reading → List ℕ → Reading
 refused p text = record { rest = p.rest; whole = p.whole; before = p.before; line = p.line + 1; stage = Failed; text = text; end = p.end }
 
--- behind a line of this text that takes so many bytes
+-- after a line of this text that takes so many bytes
 abbrev pub behind : Reading → List ℕ → ℕ → Reading
 behind p text size = record { rest = drop size p.rest; whole = p.whole; before = p.before + size; line = p.line + 1; stage = p.stage; text = text; end = p.end }
 
@@ -104,15 +104,15 @@ pub data GivesFirst : Reading → Answer → Reading → Type 0 where
       → GivesFirst p (Err BadLine) (at_stage (behind p text size) Failed)
   -- a line of more than 256 bytes
   long_line : {p : Reading} → IsLongLine p → GivesFirst p (Err LineTooLong) (refused p (take 257 p.rest))
-  -- a line that ends behind the script's limit
+  -- a line that ends after the script's limit
   too_long : {p : Reading} → PassesLimit p → GivesFirst p (Err TooLong) (at_stage p Failed)
-  -- the input's end, behind `end` or without it
+  -- the input's end, after `end` or without it
   end_of_input : {p : Reading} → IsAtEndOfInput p → p.stage ≡ AfterEnd → GivesFirst p (Ok (Some End)) (at_stage p Done)
   no_end : {p : Reading} → IsAtEndOfInput p → p.stage ≡ Commands → GivesFirst p (Err NoEnd) (refused p [])
   -- the source failed
   read_fault : {p : Reading} → GivesFirst p (Err ReadFault) (at_stage p Failed)
 
--- nothing is given behind the end
+-- nothing is given after the end
 abbrev pub GivesNext : Stage → Reading → Answer → Reading → Type 0
 GivesNext Commands p r q = GivesFirst p r q
 GivesNext AfterEnd p r q = GivesFirst p r q
@@ -143,8 +143,8 @@ IsStageAfter old (Err f) new = (old ≢ Done) × (new ≡ Failed)
 abbrev pub HoldsAnswer : Reading → Type 0
 HoldsAnswer p = (r : Answer) × (q : Reading) × GivesFirst p r q × (r ≢ Err ReadFault)
 
--- How many bytes are held behind an answer: at most 4,096 behind the line of a command or of a refused one, of a line that is too
--- long at most 4,096 behind its first 257. If the source failed no whole line is held, nor more than a line may have, nor what passes the
+-- How many bytes are held after an answer: at most 4,096 after the line of a command or of a refused one, of a line that is too
+-- long at most 4,096 after its first 257. If the source failed no whole line is held, nor more than a line may have, nor what passes the
 -- script's limit.
 abbrev pub IsHeld : Answer → Reading → Type 0
 IsHeld (Ok None) q = Unit {0}

@@ -28,7 +28,7 @@ pub enum ScriptFault {
     /// The source failed.
     #[error("ReadFault")]
     ReadFault,
-    /// The script has more than 1,048,576 bytes, and no line within them is refused. A line is within them where
+    /// The script has more than 1,048,576 bytes, and no line within them is refused. A line is within them if
     /// its line feed is; one whose 257th byte is counts too.
     #[error("TooLong")]
     TooLong,

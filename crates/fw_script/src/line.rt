@@ -2,9 +2,9 @@
 
 ghost use Rattle.std.specs.Prelude.{◌≡◌, ◌≤◌, IfSome, IfNone};
 ghost use Rattle.fw_script.specs.Line.{IsFront, IsMeaning, is_skipped, unfed_of};
-ghost use Rattle.fw_command.specs.Pieces.{IsFirstAt, IsFree};
+ghost use Rattle.fw_script_command.specs.Pieces.{IsFirstAt, IsFree};
 
-use fw_command::{Command, command_of};
+use fw_script_command::{Command, command_of};
 use memchr::memchr;
 
 /// The most bytes of a line, without its line feed.
@@ -20,9 +20,9 @@ pub(crate) enum Front {
     Line { length: usize, size: usize },
     /// A line that is too long.
     LongLine,
-    /// A line that ends behind the script's limit.
+    /// A line that ends after the script's limit.
     Limit,
-    /// The front of a line, whose end is not held yet, or no byte of it.
+    /// The beginning of a line, whose end is not held yet, or no byte of it.
     Cut,
     /// No byte, at the input's end.
     Nothing,
@@ -36,7 +36,7 @@ fn line_feed(bytes: &[u8]) -> Option<usize>
     memchr(b'\n', bytes)
 }
 
-/// What stands at the front of some bytes, of which the first `room` are within the script's limit. Where the bytes are
+/// What stands at the beginning of some bytes, of which the first `room` are within the script's limit. If the bytes are
 /// not yet `whole`, others may follow them.
 pub(crate) fn front_of(rest: &[u8], room: usize, whole: bool) -> Front
     ensures { IsFront rest.now room whole result }
@@ -51,7 +51,7 @@ pub(crate) fn front_of(rest: &[u8], room: usize, whole: bool) -> Front
     }
 }
 
-/// What stands at the front of `total` bytes, where the first `count` have no line feed.
+/// What stands at the beginning of `total` bytes, if the first `count` have no line feed.
 fn unfed(total: usize, count: usize, whole: bool) -> Front
     requires { count ≤ total }
     ensures { result ≡ unfed_of total count whole }
@@ -81,7 +81,7 @@ pub(crate) enum Meaning {
     Command,
     /// The end.
     End,
-    /// It has no form, or stands behind the end.
+    /// It has no form, or stands after the end.
     Refused,
 }
 
@@ -94,7 +94,7 @@ fn is_skipped(text: &[u8]) -> bool
     }
 }
 
-/// What a line means, where commands may stand or only skipped lines. A command is put into `out`.
+/// What a line means, if commands may stand or only skipped lines. A command is put into `out`.
 pub(crate) fn meaning_of(text: &[u8], commands: bool, out: &mut Command) -> Meaning
     ensures { IsMeaning text.now commands result out.new }
 {

@@ -8,8 +8,8 @@ ghost use Rattle.fw_script.specs.Reading.{unread, Advances, IsStageAfter, IsAtEn
 use crate::ScriptFault;
 use crate::line::{Front, Meaning, meaning_of};
 use crate::stage::Stage;
-use fw_command::Command;
 use fw_outside::Source;
+use fw_script_command::Command;
 use std::alloc::{AllocError, Global};
 use std::marker::Model;
 
@@ -21,8 +21,8 @@ use input::HELD_LIMIT;
 pub use passing::Said;
 use standing::{Place, TEXT_LIMIT};
 
-/// Reads the commands of a script, line by line. It holds what it took from the source and did not yet read: the front of a
-/// line, of at most 256 bytes, and up to 4,096 bytes that were asked for since. It asks only where no whole line is held.
+/// Reads the commands of a script, line by line. It holds what it took from the source and did not yet read: the beginning of a
+/// line, of at most 256 bytes, and up to 4,096 bytes that were asked for since. It asks only if no whole line is held.
 /// The line last read or refused stays where it stands among the bytes, until others are asked for: then it comes before them.
 #[derive(Drop)]
 pub struct ScriptReader {
@@ -69,7 +69,7 @@ impl ScriptReader {
         })
     }
 
-    /// The number of the line last read or refused, from 1, and 0 before the first. Where the end is missing it is
+    /// The number of the line last read or refused, from 1, and 0 before the first. If the end is missing it is
     /// that of the line after the last.
     pub fn line(&self) -> u32
         ensures { result ≡ self.now.line }
@@ -77,7 +77,7 @@ impl ScriptReader {
         self.line
     }
 
-    /// The text of the line last read or refused, without its line feed; of one that is too long its first 257 bytes, and none where the end is
+    /// The text of the line last read or refused, without its line feed; of one that is too long its first 257 bytes, and none if the end is
     /// missing.
     pub fn text(&self) -> &[u8]
         ensures { result.now ≡ self.now.text }
@@ -141,7 +141,7 @@ impl ScriptReader {
         }
     }
 
-    // Reads the next line, or takes bytes where its end is not held. Answers whether a command was put into `out`: where none was,
+    // Reads the next line, or takes bytes if its end is not held. Answers whether a command was put into `out`: if none was,
     // the reading goes on.
     fn step<S: Source>(&mut self, source: &mut S, out: &mut Command) -> Result<bool, ScriptFault>
         requires open { IsOpen self.old.stage }
@@ -195,10 +195,10 @@ impl ScriptReader {
 
     /// The next command. `End` is given when the input's end is reached, and after it none.
     ///
-    /// It asks that no fault was answered before. The source is asked, for 4,096 bytes at once, only where what is held gives
-    /// no answer, and not again once its end was met. Behind a command, or a line that is refused, at most 4,096 bytes are held.
+    /// It asks that no fault was answered before. The source is asked, for 4,096 bytes at once, only if what is held gives
+    /// no answer, and not again once its end was met. After a command, or a line that is refused, at most 4,096 bytes are held.
     /// With `ReadFault` no whole line is held: the commands of all lines whose line feed was taken have been given.
-    // Inlined at its one call, where the command is then put in its place: else it is copied there, twice.
+    // Inlined at its one call, if the command is then put in its place: else it is copied there, twice.
     #[inline(always)]
     pub fn next<S: Source>(&mut self, source: &mut S) -> Result<Option<Command>, ScriptFault>
         requires { self.old.stage ≢ Stage.Failed }

@@ -39,7 +39,7 @@ abbrev pub block_now : Option Cassette → Option BlockPlace
 block_now None = None
 block_now (Some c) = if is_play c.transport then block_in c c.passed else None
 
--- the bytes of a due block are there exactly where one is due, and the desk's relation allows them for its place
+-- the bytes of a due block are there exactly if one is due, and the desk's relation allows them for its place
 abbrev pub Gives : BlockRelation → Option BlockPlace → Option (List ℕ) → Type 0
 Gives R None None = Unit {0}
 Gives R None (Some bytes) = ⊥

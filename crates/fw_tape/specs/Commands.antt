@@ -15,7 +15,7 @@ use Rattle.fw_tape.specs.Rows.{control_rows, rows_of}
 abbrev pub repeated : Frame → ℕ → Frame
 repeated f code = record f { code = code }
 
--- an inquiry is answered IMPLEMENTED where what it asks for is a row, else NOT IMPLEMENTED
+-- an inquiry is answered IMPLEMENTED if what it asks for is a row, else NOT IMPLEMENTED
 abbrev pub inquired : Frame → Bool → Frame
 inquired f found = repeated f (if found then 0xC else 8)
 
@@ -23,12 +23,12 @@ inquired f found = repeated f (if found then 0xC else 8)
 abbrev pub state_response : Frame → ℕ → Transport → Frame
 state_response f code t = record f { code = code; opcode = (codes_of t).0; operands = (codes_of t).1 ∷ drop 1 f.operands }
 
--- the time code of the frame at which the tape stands, behind the row's first operand
+-- the time code of the frame at which the tape stands, after the row's first operand
 abbrev pub time_response : Frame → Cassette → Frame
 time_response f c = record f { code = 0xC; operands = (0x71 ∷ time_code c.system (frame_of c)) ++ drop 5 f.operands }
 
 -- what a control or status command is answered, by its row: without a row NOT IMPLEMENTED, and without a tape REJECTED
--- where the row asks for one
+-- if the row asks for one
 abbrev pub row_response : Option Cassette → Frame → Option TapeRow → Frame
 row_response t f None = repeated f 8
 row_response t f (Some TransportState) = state_response f 0xC (transport_of t)

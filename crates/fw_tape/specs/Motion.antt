@@ -14,7 +14,7 @@ use Rattle.fw_tape.specs.Transports.{same_state, direction_of}
 abbrev pub frames_moved : TapeSystem → ℕ → ℕ
 frames_moved system cycles = blocks_due system cycles / blocks_per_frame system
 
--- the frame so many frames after another, on a tape that has its first frame behind its last
+-- the frame so many frames after another, on a tape that has its first frame after its last
 abbrev pub moved_on : TapeSystem → ℕ → ℕ → ℕ
 moved_on system start n = (start + n) % frames_per_day system
 
@@ -54,7 +54,7 @@ passed_on cycles c = if is_some (direction_of c.transport) then record c { passe
 abbrev pub moves : Cassette → Bool
 moves c = is_some (direction_of c.transport)
 
--- where the tape moves, at most 2^52 cycles have passed with these since its motion began
+-- if the tape moves, at most 2^52 cycles have passed with these since its motion began
 abbrev pub MayPass : ℕ → Option Cassette → Type 0
 MayPass cycles None = Unit {0}
 MayPass cycles (Some c) = IsTrue (moves c) → c.passed + cycles ≤ 2 ^ 52

@@ -16,7 +16,7 @@ pub struct Cassette {
     pub transport: Transport,
     /// The frame at which the transport entered its state.
     pub start: u32,
-    /// The cycles since then, where the tape moves; 0 where it does not.
+    /// The cycles since then, if the tape moves; 0 if it does not.
     pub passed: u64,
 }
 
@@ -108,7 +108,7 @@ impl Cassette {
         self.block_after(self.passed - 1)
     }
 
-    /// The block that is due in the cycle of forward play behind so many, if one is.
+    /// The block that is due in the cycle of forward play after so many, if one is.
     fn block_after(&self, passed: u64) -> Option<BlockPlace>
         requires start { self.now.start < frames_per_day self.now.system }
         requires passed { passed + 1 ≤ 2 ^ 52 }

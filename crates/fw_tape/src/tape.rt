@@ -44,7 +44,7 @@ impl Tape {
         self.cassette = Some(Cassette::new(tape, system));
     }
 
-    /// As `put`, with a tape of the 625-50 system where `fifty` is true, else of 525-60.
+    /// As `put`, with a tape of the 625-50 system if `fifty` is true, else of 525-60.
     pub fn insert(&mut self, tape: u16, fifty: bool)
         ensures { self.new ≡ Some (inserted tape (if fifty then Lines625 else Lines525)) }
     {
@@ -101,7 +101,7 @@ impl Tape {
         self.cassette
     }
 
-    /// The transport enters a state, where a tape is in. Answers whether one is.
+    /// The transport enters a state, if a tape is in. Answers whether one is.
     pub fn enter(&mut self, transport: Transport) -> bool
         ensures was_in { result ≡ is_some self.old }
         ensures entered { self.new ≡ option_map (entered transport) self.old }
@@ -113,7 +113,7 @@ impl Tape {
         true
     }
 
-    /// Passes one cycle, and gives the block that is due in it: None exactly where none is.
+    /// Passes one cycle, and gives the block that is due in it: None exactly if none is.
     pub fn cycle<F: Fn(u16, u32, u16) -> [u8; 480], H: Fn(u32, u8) -> u8>(
         &mut self,
         desk: &Desk<F, H>,
@@ -175,7 +175,7 @@ impl Tape {
         }
     }
 
-    /// Which block was due in the cycle that passed last: None exactly where none was. It is the one that `cycle` would have
+    /// Which block was due in the cycle that passed last: None exactly if none was. It is the one that `cycle` would have
     /// given as it passed that cycle; its bytes are the desk's (`Desk::block`).
     pub fn block_now(&self) -> Option<BlockPlace>
         ensures value { result ≡ block_now self.now }

@@ -49,7 +49,7 @@ impl Transport {
         }
     }
 
-    /// Where the tape moves, where it does: a pause, stop or winding holds it at a frame.
+    /// If the tape moves, if it does: a pause, stop or winding holds it at a frame.
     pub(crate) fn direction(self) -> Option<Direction>
         ensures { result ≡ direction_of self }
     {

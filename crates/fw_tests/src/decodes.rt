@@ -5,7 +5,7 @@ use fw_outside::MemSource;
 use std::alloc::{AllocError, Global};
 use std::test::Fail;
 
-// The header of a log, of which the first entry would begin with a byte 0, and more of these behind it.
+// The header of a log, of which the first entry would begin with a byte 0, and more of these after it.
 const HEADER: [u8; 16] = [0x31, 0x33, 0x39, 0x34, 0, 0, 0, 2, 0, 0, 0, 0, 0, 0, 0, 0];
 
 fn damaged(alloc: Global) -> Result<Vec<u8>, AllocError> {

@@ -38,7 +38,7 @@ fn a_text_that_cannot_be_written_is_a_fault(rt: HostRuntime) -> Result<(), Fail>
     Ok(())
 }
 
-/// A sink that takes what it is given. Its last flush fails, where it is to.
+/// A sink that takes what it is given. Its last flush fails, if it is to.
 #[derive(Drop)]
 struct LastFlush {
     fails: bool,
@@ -77,7 +77,7 @@ const CALLS: [(&str, &str, u8, &str); 4] = [
     ("run", "end\n", 0, ""),
 ];
 
-// Whether a call of a word over an input ends so where its last flush fails or not, and a write of its note.
+// Whether a call of a word over an input ends so if its last flush fails or not, and a write of its note.
 fn ends(
     alloc: Global,
     (word, input): (&str, &str),

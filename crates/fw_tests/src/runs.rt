@@ -14,7 +14,7 @@ const FRONT: [u8; 52] = [
 
 const DECK: &str = "device d deck 1 100\n";
 
-// A script: its first lines, a piece so many times behind them, and its last line.
+// A script: its first lines, a piece so many times after them, and its last line.
 type Pieces = (&'static str, &'static str, u32, &'static str);
 
 fn script_of(alloc: Global, pieces: &Pieces) -> Result<String, AllocError> {

@@ -1,8 +1,8 @@
 //! A ledger of no reset entry: what it takes, what it refuses, and what it tells.
 
 use crate::decks::{dies, second_over, take};
-use fw_base::PlugAt;
 use fw_ledger::Ledger;
+use fw_terms::PlugAt;
 use std::test::Fail;
 
 #[test]

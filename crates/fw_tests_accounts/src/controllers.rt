@@ -3,8 +3,8 @@
 mod orders;
 mod steps;
 
-use fw_base::PlugAt;
 use fw_cmp::{Outcome, StartFault};
+use fw_terms::PlugAt;
 use orders::Order::{Broadcast, Connect, Listen};
 use orders::{FIRST, SECOND};
 use steps::Step::{

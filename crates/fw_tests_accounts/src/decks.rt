@@ -1,9 +1,9 @@
 //! A ledger of a log of two decks.
 
 use crate::entries::{bytes_of, entry_of};
-use fw_base::PlugAt;
 use fw_ledger::Ledger;
 use fw_log::Room;
+use fw_terms::PlugAt;
 use std::process::Abort;
 use std::test::Fail;
 
@@ -24,7 +24,7 @@ pub const INPUT: u32 = 0xF000_0984;
 /// The reset of the first deck alone.
 const ONE_DECK: [u32; 5] = [1, 0x0000_0001, 0x0001_0101, 0x807F_0842, 0x7F80_F7BD];
 
-/// A reset of both decks that begins this epoch, where the second is root and manager.
+/// A reset of both decks that begins this epoch, if the second is root and manager.
 fn two_decks(epoch: u32) -> [u32; 8] {
     [
         epoch,

@@ -1,12 +1,12 @@
 //! Entries of logs, from quadlets.
 
-ghost use Rattle.fw_entry.specs.Log.{Fits};
+ghost use Rattle.fw_log_entry.specs.Log.{Fits};
 
 use fw_log::{LogFed, LogReader, Room, Timed};
 use std::process::Abort;
 use std::test::Fail;
 
-/// The bytes of an entry of this kind, with these quadlets as its body, at cycle 0 behind the header of a log of version 1.
+/// The bytes of an entry of this kind, with these quadlets as its body, at cycle 0 after the header of a log of version 1.
 pub fn bytes_of(rt: &impl AllocGlobal, kind: u8, body: &[u32]) -> Result<Vec<u8>, Fail> {
     let mut bytes = Vec::new(rt.alloc());
     for quadlet in [0x3133_3934_u32, 1, 0, 0] {
@@ -20,7 +20,7 @@ pub fn bytes_of(rt: &impl AllocGlobal, kind: u8, body: &[u32]) -> Result<Vec<u8>
     Ok(bytes)
 }
 
-/// The entry that stands behind the header of a log.
+/// The entry that stands after the header of a log.
 pub fn entry_of<'a>(rt: &(impl Abort + AllocGlobal), log: &'a [u8], room: &'a mut Room) -> Timed<'a>
     ensures { Fits result.what }
 {

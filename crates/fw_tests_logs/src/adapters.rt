@@ -83,7 +83,7 @@ const ERRORS: [ErrorKind; 3] = [
     ErrorKind::Other,
 ];
 
-// Whether a reader that fails first is asked once, and once more for the byte behind.
+// Whether a reader that fails first is asked once, and once more for the byte after.
 fn is_asked_once(error: ErrorKind) -> bool {
     let mut reader = FailsFirst { error, calls: 0 };
     let mut into = [0; 2];
@@ -134,7 +134,7 @@ fn a_writer_may_take_less_than_it_is_given(rt: HostRuntime) {
     assert!(rt; writer.has(&[], 1, 0));
 }
 
-// A writer is flushed where its sink is, once, and by no write.
+// A writer is flushed if its sink is, once, and by no write.
 #[test]
 fn a_flush_reaches_the_writer_once(rt: HostRuntime) {
     let mut writer = Writer::new(rt.alloc(), 100_000, 0);
@@ -145,7 +145,7 @@ fn a_flush_reaches_the_writer_once(rt: HostRuntime) {
     assert!(rt; writer.calls == 3 && writer.flushes == 2 && writer.held.len() == 70_003);
 }
 
-// Whether sources of each front of a row give it with one read, and then their end.
+// Whether sources of each prefix of a row give it with one read, and then their end.
 fn are_fronts_read(row: &[u8; 600]) -> bool {
     let mut into = [0; 600];
     for count in 1..=600 {
@@ -157,7 +157,7 @@ fn are_fronts_read(row: &[u8; 600]) -> bool {
     true
 }
 
-// Whether each front of a row is written.
+// Whether each prefix of a row is written.
 fn are_fronts_written<K: Sink>(sink: &mut K, row: &[u8; 600]) -> bool {
     for count in 0..=600 {
         if sink.write(&row[..count]).is_err() {
@@ -201,7 +201,7 @@ fn a_flush_that_fails_is_a_fault(rt: HostRuntime) {
     assert!(rt; sink.write(&[1]).is_ok() && sink.flush().is_err());
 }
 
-// Two pieces, and by a flush, or by a piece that does not fit behind them, the first call and the second, which fails; then a piece and
+// Two pieces, and by a flush, or by a piece that does not fit after them, the first call and the second, which fails; then a piece and
 // a flush.
 fn fails_once(writer: &mut Writer, last: &[u8]) -> bool {
     let mut sink = BufferedSink::new(writer);
@@ -216,7 +216,7 @@ fn fails_once(writer: &mut Writer, last: &[u8]) -> bool {
     second.is_err() && sink.write(&[6, 7, 8]).is_ok() && sink.flush().is_ok()
 }
 
-// What was kept back where the writer failed is lost, the part of it that was taken too: none of it is passed on again.
+// What was kept back if the writer failed is lost, the part of it that was taken too: none of it is passed on again.
 #[test]
 fn what_was_kept_back_is_not_passed_on_twice(rt: HostRuntime) {
     for last in [&[].as_slice(), [5; 70_000].as_slice()] {

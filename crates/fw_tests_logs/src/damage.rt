@@ -13,7 +13,7 @@ use fw_phy::PhyFault;
 use std::alloc::{AllocError, Global};
 use std::test::Fail;
 
-/// Whether a log, in hexadecimal, is refused so where the byte at a place is so much more, modulo 256.
+/// Whether a log, in hexadecimal, is refused so if the byte at a place is so much more, modulo 256.
 pub(crate) fn is_refused(
     alloc: Global,
     text: &str,
@@ -53,7 +53,7 @@ fn is_faulty(alloc: Global, text: &str, place: u64, row: &Row) -> Result<bool, A
     Ok(true)
 }
 
-// A lone entry, each behind its header, and the first bytes of another where a length may say that they are its own.
+// A lone entry, each after its header, and the first bytes of another if a length may say that they are its own.
 const RESET: &str = "\
 31333934000000010000000000000000010000050000000000000000000000010000000100010101807f08427f80f7bd02000003";
 
@@ -121,7 +121,7 @@ const OF_ONE_AS_TWO: &[Row] = &[(7, 1, MORE, Phy(PhyFault::NotInverse))];
 
 const OF_TWO_AS_ONE: &[Row] = &[(7, 1, LESS, Phy(PhyFault::NotInverse))];
 
-// The epoch in the head of a reset is judged behind the packets in it.
+// The epoch in the head of a reset is judged after the packets in it.
 const OF_NO_INVERSE: &[Row] = &[(23, 1, MORE, Phy(PhyFault::NotInverse))];
 
 // A request to read a quadlet. With transaction codes 3 and 12 it is none.
@@ -131,7 +131,7 @@ const OF_READ: &[Row] = &[
     (31, 1, &[255, 0x80], Packet(UnknownTcode)),
 ];
 
-// A reply: the response code, and the bits behind it, which are reserved.
+// A reply: the response code, and the bits after it, which are reserved.
 const OF_REPLY: &[Row] = &[
     (19, 1, BOTH, Fields),
     (34, 1, MORE, Packet(Reserved(55))),

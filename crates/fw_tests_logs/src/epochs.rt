@@ -10,7 +10,7 @@ const RESET_OF_EPOCH_2: &str = "\
 3133393400000002000000000000000001000005000000020000000000000000000000020000000100010101807f08427f80f7bd0200000300000001";
 
 // The places of bytes, how much more each is, where the epoch stands that is refused, and which it is. The first is the kind of the bus
-// reset, which is then a packet before the first reset; the others are the epoch of the entry behind it.
+// reset, which is then a packet before the first reset; the others are the epoch of the entry after it.
 const EPOCHS: [(usize, u8, u64, u32); 10] = [
     (16, 1, 20, 1),
     (56, 1, 56, 0x0100_0001),

@@ -1,8 +1,8 @@
 //! Scripts of seeds, and the sink that grows. What the scripts hold was told by another implementation of the same rules, which
 //! shares nothing with this one: how they begin, their lengths, the sums of their bytes, and the sums of their bytes by place.
 
-use fw_gen::gen_script;
 use fw_outside::{GrowSink, Sink};
+use fw_script_gen::gen_script;
 use std::alloc::{AllocError, Global};
 use std::test::Fail;
 

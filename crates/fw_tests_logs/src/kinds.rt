@@ -2,12 +2,12 @@
 //! `fire_sessions`.
 
 ghost use Rattle.std.specs.Prelude.{◌<◌, ◌^◌, length};
-ghost use Rattle.fw_entry.specs.Log.{TimedFits};
+ghost use Rattle.fw_log_entry.specs.Log.{TimedFits};
 
-use fw_entry::{EntryRoom, epoch_after};
 use fw_log::{
     LogFault, LogFed, LogReader, LogWhy, Room, Timed, Version, write_entry, write_header,
 };
+use fw_log_entry::{EntryRoom, epoch_after};
 use fw_outside::MemSink;
 use std::alloc::{AllocError, Global};
 use std::test::Fail;

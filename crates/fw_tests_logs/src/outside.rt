@@ -23,7 +23,7 @@ fn a_source_fails_at_its_second_call(rt: HostRuntime) -> Result<(), Fail> {
     Ok(())
 }
 
-// Pieces, and what becomes of them in a room of three bytes where the first call fails.
+// Pieces, and what becomes of them in a room of three bytes if the first call fails.
 const FITTING: [([u8; 2], Result<(), Failed>); 3] = [
     ([1, 2], Err(Failed)),
     ([3, 4], Ok(())),
@@ -71,7 +71,7 @@ fn a_buffered_sink_passes_all_on_in_order(rt: HostRuntime) -> Result<(), Fail> {
     Ok(())
 }
 
-// The front of a row, behind so many bytes that are kept back.
+// The beginning of a row, after so many bytes that are kept back.
 #[test]
 fn the_front_of_a_row_is_passed_on_in_order(rt: HostRuntime) -> Result<(), Fail> {
     let alloc = rt.alloc();
@@ -98,7 +98,7 @@ fn are_written<W: Write>(sink: &mut BufferedSink<W>, a: &[u8], b: &[u8], c: &[u8
         && sink.flush().is_ok()
 }
 
-// Whether a piece, the front of a row and a byte 7 are written, one after the other, and passed on.
+// Whether a piece, the beginning of a row and a byte 7 are written, one after the other, and passed on.
 fn are_written_around<W: Write>(sink: &mut BufferedSink<W>, piece: &[u8], row: &[u8; 48]) -> bool {
     write_through(sink, piece).is_ok()
         && write_front_through(sink, row).is_ok()
@@ -106,7 +106,7 @@ fn are_written_around<W: Write>(sink: &mut BufferedSink<W>, piece: &[u8], row: &
         && sink.flush().is_ok()
 }
 
-// Whether the front of the row stands behind so many bytes, and a byte 7 behind it, which is the last.
+// Whether the beginning of the row stands after so many bytes, and a byte 7 after it, which is the last.
 fn are_in_order(held: &[u8], before: usize, row: &[u8; 48]) -> bool {
     match held.get(before..) {
         Some([front @ .., last]) => *last == 7 && front == &row[..20],

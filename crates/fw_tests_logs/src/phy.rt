@@ -8,7 +8,7 @@ fn twice(quadlet: u32) -> [u8; 8] {
     [a, b, c, d, !a, !b, !c, !d]
 }
 
-// Whether the quadlet, with its inverse behind it, is read as the packet, and what is read is written as them.
+// Whether the quadlet, with its inverse after it, is read as the packet, and what is read is written as them.
 fn is_both_ways(quadlet: u32, packet: &PhyPacket) -> bool {
     match read_phy(&twice(quadlet)) {
         Ok(read) => read == *packet && write_phy(&read) == twice(quadlet),

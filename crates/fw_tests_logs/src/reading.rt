@@ -30,7 +30,7 @@ fn passed_over(bytes: &[u8], reader: &mut LogReader, room: &mut Room) -> Result<
     Ok(fed)
 }
 
-/// How a log ends, and in how many calls some bytes were fed, where what can be passed over is passed over.
+/// How a log ends, and in how many calls some bytes were fed, if what can be passed over is passed over.
 pub(crate) fn passed(alloc: Global, log: &[u8]) -> Result<Result<usize, LogFault>, AllocError>
     requires { length log.now < 2 ^ 32 }
 {
@@ -70,7 +70,7 @@ f000020003f3f0000400000100000005000000000000000001ff0000040000020000000500000000
 000000050000000000000000000009048000207a03000003000000050000000000000000000840a0007800008000ffff07000000000000050000000000000000",
 ];
 
-// The entries are fed that are not passed over: the first, which stands behind the header, the isochronous packet and the end.
+// The entries are fed that are not passed over: the first, which stands after the header, the isochronous packet and the end.
 const FED: usize = 3;
 
 // Whether so many entries of a log, in hexadecimal, are fed.

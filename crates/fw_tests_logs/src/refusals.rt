@@ -54,7 +54,7 @@ fn reserved_codes_and_bits_are_refused(rt: HostRuntime) {
     }
 }
 
-// Codes, sizes and the quadlet behind a block of five bytes, with its padding; the place of the byte that shows the fault, and the fault.
+// Codes, sizes and the quadlet after a block of five bytes, with its padding; the place of the byte that shows the fault, and the fault.
 const SIZES: [(u32, u32, u32, usize, PacketFault); 19] = [
     (1, 0x0005_8000, 0, 15, PacketFault::Reserved(112)),
     (5, 0x0201_0001, 0, 15, PacketFault::Reserved(127)),

@@ -8,7 +8,7 @@ use arrayvec::ArrayVec;
 use fw_cip::{Block, CipHeader, Heard, IsoFault, IsoPacket, Listener, Talker, read_iso, write_iso};
 use fw_words::{Quadlet, put_quadlet};
 
-// The bytes of quadlets, and behind them so many bytes 7.
+// The bytes of quadlets, and after them so many bytes 7.
 fn bytes_of(words: &[u32], more: usize) -> ArrayVec<u8, 600> {
     let mut bytes = ArrayVec::new();
     for word in words {
@@ -32,7 +32,7 @@ const FIRST: CipHeader = CipHeader {
     fdf: 0xFFFF,
 };
 
-// The first quadlets of packets, and how many bytes 7 stand behind them. Every field of the last has bits that differ from its
+// The first quadlets of packets, and how many bytes 7 stand after them. Every field of the last has bits that differ from its
 // neighbours'.
 const PACKETS: [([u32; 3], usize); 3] = [
     ([0x0008_40A0, 0x0078_0000, 0x8000_FFFF], 0),
@@ -60,7 +60,7 @@ fn packets_both_ways(rt: HostRuntime) {
     }
 }
 
-// The quadlets of no packets, how many bytes 7 stand behind them, and the faults.
+// The quadlets of no packets, how many bytes 7 stand after them, and the faults.
 const NO_PACKETS: [([u32; 3], usize, IsoFault); 9] = [
     (
         [0x0008_40A0, 0x0078_0000, 0x8000_FFFF],
@@ -109,7 +109,7 @@ fn bytes_that_are_no_packet(rt: HostRuntime) {
     }
 }
 
-// The DBC of the packet behind so many blocks: the first and the last block of a frame of 525-60, which has 250, and of
+// The DBC of the packet after so many blocks: the first and the last block of a frame of 525-60, which has 250, and of
 // 625-50, which has 300, and the first of the next; a day's last block of each; and where the count of 8 bits turns.
 const TALKS: [(bool, u64, u8); 9] = [
     (false, 0, 0),
@@ -123,7 +123,7 @@ const TALKS: [(bool, u64, u8); 9] = [
     (true, 0x1_0000_0100, 0),
 ];
 
-// Whether the next packet of a talker of node 3 on channel 5 has this count, and a block where it is given one.
+// Whether the next packet of a talker of node 3 on channel 5 has this count, and a block if it is given one.
 fn is_next(talker: &mut Talker, fifty: bool, block: Option<&[u8; 480]>, dbc: u8) -> bool {
     let packet = talker.cycle(3, fifty, block);
     let cip = CipHeader {
@@ -146,7 +146,7 @@ fn a_talker_counts_its_blocks(rt: HostRuntime) {
     }
 }
 
-// A stream with gaps, each found at the packet behind it: the count of a packet, whether it has a block, and what is heard.
+// A stream with gaps, each found at the packet after it: the count of a packet, whether it has a block, and what is heard.
 const HEARD: [(u8, bool, Heard); 7] = [
     (9, false, Heard::Empty),
     (9, true, Heard::Block),

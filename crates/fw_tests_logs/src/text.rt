@@ -1,12 +1,12 @@
 //! The text of an entry alone, and a report.
 
 ghost use Rattle.std.specs.Prelude.{◌<◌};
-ghost use Rattle.fw_entry.specs.Log.{Fits};
+ghost use Rattle.fw_log_entry.specs.Log.{Fits};
 
 use fw_cip::Talker;
-use fw_entry::codes::{event, outcome};
-use fw_entry::{Entry, EventEntry, OutcomeEntry, ShownEntry, Timed};
-use fw_text::{StreamReport, entry_text};
+use fw_log_entry::codes::{event, outcome};
+use fw_log_entry::{Entry, EventEntry, OutcomeEntry, ShownEntry, Timed};
+use fw_log_text::{StreamReport, entry_text};
 use std::alloc::{AllocError, Global};
 use std::test::Fail;
 

@@ -8,7 +8,7 @@ use fw_words::Bytes;
 #[derive(Clone, Copy)]
 enum Step {
     Put(u8, &'static [u32]),
-    /// What must stand there is taken; None where nothing must stand.
+    /// What must stand there is taken; None if nothing must stand.
     Take(u8, Option<&'static [u32]>),
     Clear,
 }

@@ -150,7 +150,7 @@ fn playing(number: u16, fifty: bool) -> Tape {
     tape
 }
 
-/// The sum of 6,006 cycles of a play, and the frame behind them.
+/// The sum of 6,006 cycles of a play, and the frame after them.
 fn play<F: Fn(u16, u32, u16) -> [u8; 480], H: Fn(u32, u8) -> u8>(
     fifty: bool,
     desk: &Desk<F, H>,

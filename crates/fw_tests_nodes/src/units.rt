@@ -20,7 +20,7 @@ fn frame_of(bytes: &[u8]) -> Option<Frame> {
     Some(frame)
 }
 
-/// The response to a frame from node 1, as a unit gives it; None where it is no frame or no command.
+/// The response to a frame from node 1, as a unit gives it; None if it is no frame or no command.
 fn respond<F: Fn(u16, u32, u16) -> [u8; 480], H: Fn(u32, u8) -> u8>(
     unit: &mut Unit,
     bytes: &[u8],

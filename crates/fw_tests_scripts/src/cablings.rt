@@ -71,7 +71,7 @@ pub fn bus(rt: &impl Abort, devices: &[Facts], cables: &[Cable]) -> Cabling
     cabling
 }
 
-/// The root, the manager, and each device's number, 63 where it is off.
+/// The root, the manager, and each device's number, 63 if it is off.
 pub fn identified(rt: &impl Abort, cabling: &Cabling, root: u8, manager: Option<u8>, numbers: &[u8])
     requires { 0 < length cabling.now.devices }
 {

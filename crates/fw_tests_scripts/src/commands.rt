@@ -1,6 +1,6 @@
 //! What a command says, as plain data.
 
-use fw_command::{Command, Name};
+use fw_script_command::{Command, Name};
 
 /// What a command says: the first word of its form, its names, and its numbers, in their order, but for the bytes of a frame.
 pub(crate) type Told = (&'static str, [Option<Name>; 3], [u32; 4]);

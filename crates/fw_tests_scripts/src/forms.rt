@@ -1,9 +1,9 @@
 //! Lines of each form, and lines that have none.
 
 use crate::commands::{ANY, told};
-use fw_command::{Command, Name};
 use fw_outside::MemSource;
 use fw_script::{ScriptFault, ScriptReader};
+use fw_script_command::{Command, Name};
 use std::alloc::Global;
 use std::process::Abort;
 use std::test::Fail;
@@ -143,7 +143,7 @@ fn names_are_read(rt: HostRuntime) -> Result<(), Fail> {
 }
 
 // Lines that are no command: another first word; a word missing, or one too many; a value out of its range; numbers and
-// places with more than their digits; names that are none; words that are not parted by one space.
+// places with more than their digits; names that are none; words that are not separated by one space.
 const NO_COMMANDS: &str = "\
     End|end end|ends|a|no a|withhold a|withholds|device|device a|device a deck|device a deck 1|device a deck 1 100 1|\
     device  a deck 1 100|cable|cable a.0|cable a.0 a.1 a.2|reset|reset a a|connect a a.0 a.0 any|\

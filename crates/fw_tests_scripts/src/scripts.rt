@@ -118,7 +118,7 @@ fn script_of(alloc: Global, pieces: &Pieces) -> Result<String, Fail> {
     Ok(script)
 }
 
-/// What comes of a script of pieces, where this read fails.
+/// What comes of a script of pieces, if this read fails.
 fn run_pieces(alloc: Global, pieces: &Pieces, read: u32) -> Result<Answer, Fail> {
     let script = script_of(alloc, pieces)?;
     run_of(alloc, script.as_bytes(), read)
@@ -156,7 +156,7 @@ fn scripts_have_a_limit(rt: HostRuntime) -> Result<(), Fail> {
     Ok(())
 }
 
-/// Scripts, which read fails, and what comes of it. Each read asks for 4,096 bytes: where the second one fails, the lines of the first
+/// Scripts, which read fails, and what comes of it. Each read asks for 4,096 bytes: if the second one fails, the lines of the first
 /// 4,096 were given.
 const FAILURES: [(Pieces, u32, Answer); 3] = [
     (
@@ -184,7 +184,7 @@ fn a_source_fails(rt: HostRuntime) -> Result<(), Fail> {
     Ok(())
 }
 
-/// How many of the next 4,096 bytes a source still has behind the line of its script that is refused, which is the first.
+/// How many of the next 4,096 bytes a source still has after the line of its script that is refused, which is the first.
 fn left_behind(rt: &(impl Abort + AllocGlobal), script: &[u8]) -> Result<usize, Fail> {
     let mut source = MemSource::new(script.to_vec(rt.alloc())?, Vec::new(rt.alloc()));
     assert!(rt; run(rt.alloc(), &mut source)? == (0, Some(ScriptFault::BadLine), 1));
@@ -192,7 +192,7 @@ fn left_behind(rt: &(impl Abort + AllocGlobal), script: &[u8]) -> Result<usize, 
     Ok(source.read(&mut left).unwrap_or(0))
 }
 
-// Behind a refused line at most 4,096 bytes are taken: 1,906 of 6,002 are left.
+// After a refused line at most 4,096 bytes are taken: 1,906 of 6,002 are left.
 #[test]
 fn a_script_is_read_no_further_than_it_is_refused(rt: HostRuntime) -> Result<(), Fail> {
     let script = script_of(rt.alloc(), &("x\n", "#\n", 3000, ""))?;

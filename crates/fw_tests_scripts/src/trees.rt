@@ -5,7 +5,7 @@ use fw_tree::TreeFault;
 use std::alloc::Global;
 use std::test::Fail;
 
-/// Devices and cables; the root, the manager, and each device's number, 63 where it is off; where packets are named, the device that
+/// Devices and cables; the root, the manager, and each device's number, 63 if it is off; if packets are named, the device that
 /// begins the reset and the first quadlets of the self-ID packets.
 type Topology = (
     &'static [Facts],
@@ -188,7 +188,7 @@ fn a_star_of_63(rt: HostRuntime) {
     identified(&rt, &bus(&rt, &devices, &cables), 0, Some(0), &numbers);
 }
 
-/// Cables that are refused where the devices stand so:
+/// Cables that are refused if the devices stand so:
 ///
 ///     1- 0 0---0 1 1-       0- 2       0- 3 1-
 const REFUSED: [(Port, Port, TreeFault); 9] = [

@@ -1,18 +1,18 @@
--- Where nothing is refused and nothing fails, all is done.
+-- If nothing is refused and nothing fails, all is done.
 use Rattle.std.proofs.Common.{◌≡◌, ◌≢◌, inl, inr, ℕ, List, Option, refl, sym, subst}
 use Rattle.fw_outside.specs.Stops.{ReadCount as StopReadCount, WriteCount as StopWriteCount}
 use Rattle.fw_outside.specs.declared.stop.Stop.TheVariants.{ReadFault, WriteFault, TooLong, NoMemory}
-use Rattle.fw_reading.specs.Endings.{stop_of, IsNoRefusal as IsNoLogRefusal}
-use Rattle.fw_reading.specs.declared.ending.LogEnding.{LogEnding}
-use Rattle.fw_reading.specs.declared.ending.LogEnding.TheVariants as LogEndings
-use Rattle.fw_reports.specs.declared.refusal.LogRefusal.{LogRefusal}
-use Rattle.fw_reports.specs.declared.refusal.LogRefusal.TheVariants as Refusals
-use Rattle.fw_run.specs.Desks.{DeskRelations}
-use Rattle.fw_simulate.specs.Counts.{ReadCount, WriteCount}
-use Rattle.fw_simulate.specs.Scripts.{IsNoRefusal}
-use Rattle.fw_simulate.specs.Sums.{Sums}
-use Rattle.fw_simulate.specs.declared.ending.RunEnding.{RunEnding}
-use Rattle.fw_simulate.specs.declared.ending.RunEnding.TheVariants as RunEndings
+use Rattle.fw_log_loop.specs.Endings.{stop_of, IsNoRefusal as IsNoLogRefusal}
+use Rattle.fw_log_loop.specs.declared.ending.LogEnding.{LogEnding}
+use Rattle.fw_log_loop.specs.declared.ending.LogEnding.TheVariants as LogEndings
+use Rattle.fw_log_reports.specs.declared.refusal.LogRefusal.{LogRefusal}
+use Rattle.fw_log_reports.specs.declared.refusal.LogRefusal.TheVariants as Refusals
+use Rattle.fw_model_run.specs.Desks.{DeskRelations}
+use Rattle.fw_script_words.specs.Counts.{ReadCount, WriteCount}
+use Rattle.fw_script_words.specs.Scripts.{IsNoRefusal}
+use Rattle.fw_script_words.specs.Sums.{Sums}
+use Rattle.fw_script_words.specs.declared.ending.RunEnding.{RunEnding}
+use Rattle.fw_script_words.specs.declared.ending.RunEnding.TheVariants as RunEndings
 use Rattle.fw_tool.specs.declared.ending.Ending.{Ending}
 use Rattle.fw_tool.specs.declared.ending.Ending.TheVariants.{Stopped}
 use Rattle.fw_tool.specs.Faults.{FirstFault}
@@ -20,7 +20,7 @@ use Rattle.fw_tool.specs.Logs.{by_log}
 use Rattle.fw_tool.specs.Runs.{by_run}
 use Rattle.fw_tool.specs.Completing.{IsDoneOrUnmet}
 
--- a script that is not refused, where nothing fails
+-- a script that is not refused, if nothing fails
 pub run_completes : (e : RunEnding) → IsNoRefusal e → by_run e ≢ Stopped ReadFault → by_run e ≢ Stopped WriteFault → IsDoneOrUnmet (by_run e)
 run_completes RunEndings.Done n r w = inl refl
 run_completes (RunEndings.Refused f) n r w = absurd n
@@ -36,7 +36,8 @@ first_of_run read read' written written' (RunEndings.Refused f) r w = (r, w)
 first_of_run read read' written written' (RunEndings.Stopped stop) r w = (r, w)
 
 -- one that runs a seed's script reads nothing
-pub first_of_seed : (D : DeskRelations) (seed : ℕ) (held held' : Option (List ℕ)) (read written written' : ℕ) (e : RunEnding) → Sums D seed held held' e → WriteCount written written' e → FirstFault read read written written' (by_run e)
+pub first_of_seed : (D : DeskRelations) (seed : ℕ) (held held' : Option (List ℕ)) (read written written' : ℕ) (e : RunEnding) → Sums D seed held held' e → WriteCount written written' e
+    → FirstFault read read written written' (by_run e)
 first_of_seed D seed held held' read written written' RunEndings.Done d w = (refl, w)
 first_of_seed D seed held held' read written written' (RunEndings.Refused f) d w = (refl, w)
 first_of_seed D seed held held' read written written' (RunEndings.Stopped ReadFault) d w = absurd d
@@ -59,7 +60,7 @@ never_read D seed held held' (RunEndings.Stopped NoMemory) d is = cc
 pub seed_completes : (D : DeskRelations) (seed : ℕ) (held held' : Option (List ℕ)) (e : RunEnding) → Sums D seed held held' e → IsNoRefusal e → by_run e ≢ Stopped WriteFault → IsDoneOrUnmet (by_run e)
 seed_completes D seed held held' e d n w = run_completes e n (never_read D seed held held' e d) w
 
--- a log that is not refused, where nothing fails
+-- a log that is not refused, if nothing fails
 pub log_completes : (e : LogEnding LogRefusal) → IsNoLogRefusal e → by_log e ≢ Stopped ReadFault → by_log e ≢ Stopped WriteFault → IsDoneOrUnmet (by_log e)
 log_completes LogEndings.Done n r w = inl refl
 log_completes (LogEndings.NoLog f) n r w = absurd n
@@ -71,7 +72,8 @@ log_completes (LogEndings.Stopped TooLong) n r w = absurd n
 log_completes (LogEndings.Stopped NoMemory) n r w = inr refl
 
 -- the counts of a word that reads a log
-pub first_of_log : (read read' written written' : ℕ) (e : LogEnding LogRefusal) → StopReadCount read read' (stop_of e) → StopWriteCount written written' (stop_of e) → FirstFault read read' written written' (by_log e)
+pub first_of_log : (read read' written written' : ℕ) (e : LogEnding LogRefusal) → StopReadCount read read' (stop_of e) → StopWriteCount written written' (stop_of e)
+    → FirstFault read read' written written' (by_log e)
 first_of_log read read' written written' LogEndings.Done r w = (r, w)
 first_of_log read read' written written' (LogEndings.NoLog f) r w = (r, w)
 first_of_log read read' written written' (LogEndings.Refused (Refusals.Audit u)) r w = (r, w)
@@ -80,7 +82,8 @@ first_of_log read read' written written' (LogEndings.Stopped s) r w = (r, w)
 
 -- ---- of the ending that was answered
 
-pub done_or_unmet : {ending came : Ending} → ending ≡ came → (came ≢ Stopped ReadFault → came ≢ Stopped WriteFault → IsDoneOrUnmet came) → ending ≢ Stopped ReadFault → ending ≢ Stopped WriteFault → IsDoneOrUnmet ending
+pub done_or_unmet : {ending came : Ending} → ending ≡ came → (came ≢ Stopped ReadFault → came ≢ Stopped WriteFault → IsDoneOrUnmet came) → ending ≢ Stopped ReadFault → ending ≢ Stopped WriteFault
+    → IsDoneOrUnmet ending
 done_or_unmet {ending} {came} is done = let P : Ending → Type 0 = λ e. e ≢ Stopped ReadFault → e ≢ Stopped WriteFault → IsDoneOrUnmet e in subst P (sym is) done
 
 pub done_unwritten : {ending came : Ending} → ending ≡ came → (came ≢ Stopped WriteFault → IsDoneOrUnmet came) → ending ≢ Stopped WriteFault → IsDoneOrUnmet ending

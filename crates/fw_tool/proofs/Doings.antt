@@ -2,7 +2,7 @@
 use Rattle.std.proofs.Common.{◌≡◌, ℕ, Option, Some}
 use Rattle.fw_tool.specs.declared.words.Word.{Word}
 use Rattle.fw_tool.specs.declared.words.Word.TheVariants.{Script, Gen, Log, Explore, About as Say}
-use Rattle.fw_decode.specs.declared.LogWord.{LogWord}
+use Rattle.fw_log_words.specs.declared.LogWord.{LogWord}
 use Rattle.fw_tool.specs.declared.scripts.ScriptWord.{ScriptWord}
 use Rattle.fw_tool.specs.declared.about.About.{About}
 

@@ -1,9 +1,9 @@
 -- The log of a run has the tree of its last bus reset.
 use Rattle.std.proofs.Common.{◌≡◌, ◌⊎◌, inl, inr, ℕ, List, [], ◌∷◌, ◌++◌, length, Option, Some, None, refl, ap, sym, subst, ◌∙◌, append_assoc}
-use Rattle.fw_entry.specs.declared.entry.Entry.{Entry}
-use Rattle.fw_entry.specs.declared.entry.Entry.TheVariants.{Reset, Async, Iso, Event, Outcome, Shown, End}
-use Rattle.fw_entry.specs.declared.entry.ResetEntry.{ResetEntry}
-use Rattle.fw_entry.specs.declared.entry.Timed.{Timed}
+use Rattle.fw_log_entry.specs.declared.entry.Entry.{Entry}
+use Rattle.fw_log_entry.specs.declared.entry.Entry.TheVariants.{Reset, Async, Iso, Event, Outcome, Shown, End}
+use Rattle.fw_log_entry.specs.declared.entry.ResetEntry.{ResetEntry}
+use Rattle.fw_log_entry.specs.declared.entry.Timed.{Timed}
 use Rattle.fw_tree.specs.declared.numbering.Numbering.{Numbering}
 use Rattle.fw_tree.specs.Numbers.{number_at}
 use Rattle.fw_tree.specs.Numbering.{IsNumbering}
@@ -12,15 +12,15 @@ use Rattle.fw_tree.specs.Topology.{Topology, Made}
 use Rattle.fw_map.specs.declared.tree.Tree.{Tree}
 use Rattle.fw_map.specs.Trees.{HasPackets}
 use Rattle.fw_map.specs.Identified.{IsTreeOf}
-use Rattle.fw_account.specs.Account.{Account}
-use Rattle.fw_account.specs.Events.{after_reset}
-use Rattle.fw_account.specs.Fold.{account_from, entries_of, next_account, next_of, no_account}
-use Rattle.fw_run.specs.Actions.{Action, Step, Steps}
-use Rattle.fw_run.specs.Good.{IsGood, IsLatest}
-use Rattle.fw_run.specs.Headline.{IsSoundThroughout}
-use Rattle.fw_run.specs.State.{State, first_state}
-use Rattle.fw_reports.specs.Maps.{HasTree}
-use Rattle.fw_reports.specs.Trees.{last_from, last_reset, reset_or}
+use Rattle.fw_model_account.specs.Account.{Account}
+use Rattle.fw_model_account.specs.Events.{after_reset}
+use Rattle.fw_model_account.specs.Fold.{account_from, entries_of, next_account, next_of, no_account}
+use Rattle.fw_model_run.specs.Actions.{Action, Step, Steps}
+use Rattle.fw_model_run.specs.Good.{IsGood, IsLatest}
+use Rattle.fw_model_run.specs.Headline.{IsSoundThroughout}
+use Rattle.fw_model_run.specs.State.{State, first_state}
+use Rattle.fw_log_reports.specs.Maps.{HasTree}
+use Rattle.fw_log_reports.specs.Trees.{last_from, last_reset, reset_or}
 
 -- ---- where the last reset stands
 
@@ -31,7 +31,7 @@ record Stands (ts : List Timed) (r : ResetEntry) : Type 0 where
   is : ts ≡ front ++ entry ∷ rest
   what : entry.what ≡ Reset r
 
--- the last reset of entries behind another is one of them, or the other
+-- the last reset of entries after another is one of them, or the other
 found : (before : Option ResetEntry) (ts : List Timed) (r : ResetEntry) → last_from before ts ≡ Some r → (before ≡ Some r) ⊎ Stands ts r
 found before [] r e = inl e
 found before (t ∷ ts) r e = go (found (reset_or t.what before) ts r e)
@@ -56,7 +56,7 @@ stands ts r e = go (found None ts r e)
     go (inl wrong) = absurd (cc wrong)
     go (inr s) = s
 
--- the account behind a reset has its entry
+-- the account after a reset has its entry
 behind : (o : Option Account) (front : List Timed) (t : Timed) (r : ResetEntry) (l : Account) → t.what ≡ Reset r → account_from o (entries_of (front ++ t ∷ [])) ≡ Some l → l.latest ≡ Some r
 behind None [] t r l is e = cc e
 behind (Some k) [] t r l is e =
@@ -65,7 +65,7 @@ behind (Some k) [] t r l is e =
     ap (λ (m : Account). m.latest) (sym same)
 behind o (u ∷ front) t r l is e = behind (next_of o u.what) front t r l is e
 
--- ---- what the state behind it says
+-- ---- what the state after it says
 
 -- each state is good, and the tree of a cabling has its self-ID packets
 module _ (step : (s : State) (a : Action) (out : List Timed) (t : State) → IsGood s → Step s a out t → IsGood t)
@@ -84,6 +84,6 @@ module _ (step : (s : State) (a : Action) (out : List Timed) (t : State) → IsG
       let here = sound.states f.0 f.1 front f.2 f.3 f.4 in
       let latest = behind (Some no_account) at.front at.entry r f.2.account at.what here.account in
       let g = good first_state f.2 f.0 front first f.4 in
-      let known : IsLatest (Some r) f.2 = subst (λ (o : Option ResetEntry). IsLatest o f.2) latest g.latest in
+      let known : IsLatest (Some r) f.2.declared f.2.account = subst (λ (o : Option ResetEntry). IsLatest o f.2.declared f.2.account) latest g.latest in
       let tree = tells f.2.declared.topology known.5.1.numbering known.5.0 r g.declared.made known.5.1.numbered known.5.1.ids known.5.1.size known.5.1.root in
       record { reset = r; last = last; tree = tree.0; packets = tree.2 }

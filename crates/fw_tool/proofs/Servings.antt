@@ -24,12 +24,12 @@ pub same_told : {T E : Type 0} (r : Result T E) (ending told : Ending) → told 
 same_told (Ok x) ending told is ok = is
 same_told (Err x) ending told is ok = absurd (let wrong : false ≡ true = ok in cc wrong)
 
--- ---- what a status tells behind the last flush
+-- ---- what a status tells after the last flush
 
 rose_twice : (written before now : ℕ) → Rose written before → Rose before now → Rose written now
 rose_twice written before now r n = omega (arith, r, n)
 
--- the flush failed, behind writes that did or did not
+-- the flush failed, after writes that did or did not
 rose_on : (written before now : ℕ) (stop : Option Stop) → WriteCount written before stop → Rose before now → Rose written now
 rose_on written before now None w r = subst (λ (k : ℕ). Rose k now) w r
 rose_on written before now (Some ReadFault) w r = subst (λ (k : ℕ). Rose k now) w r
@@ -80,7 +80,8 @@ module _ {N : Type 0} (held : N → Option (List ℕ)) (faults : N → ℕ) (old
     pub told_by_status : IsToldByStatus status read read' written written' (faults old) (faults new)
     told_by_status = go c.flushed
       where
-        go : ((told ≡ ending) × (written' ≡ c.before) × (kept ≡ [])) ⊎ ((told ≡ Stopped WriteFault) × Rose c.before written' × (at_once → ⊥)) → IsToldByStatus status read read' written written' (faults old) (faults new)
+        go : ((told ≡ ending) × (written' ≡ c.before) × (kept ≡ [])) ⊎ ((told ≡ Stopped WriteFault) × Rose c.before written' × (at_once → ⊥))
+            → IsToldByStatus status read read' written written' (faults old) (faults new)
         go (inl a) =
             let (f, e) = calm a.0 a.1 in
             by_first (first_by_status held faults old new status read read' written written' ending f e)

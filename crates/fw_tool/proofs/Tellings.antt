@@ -16,7 +16,7 @@ module _ {N : Type 0} (held : N → Option (List ℕ)) (faults : N → ℕ) (old
   abbrev Told : Ending → Type 0
   Told e = IsTold held faults old new e status
 
-  -- behind an ending that is no fault
+  -- after an ending that is no fault
   no_fault : (note : List ℕ) (k : ℕ) → k ≢ 5 → k ≢ 6 → (read' ≡ read) × (written' ≡ written) → IsPassedOn held faults old new note k status → First
   no_fault note k five six f (inl a) = record {
     no_fault = λ p q. (f.0, f.1, a.2);
@@ -64,14 +64,14 @@ module _ {N : Type 0} (held : N → Option (List ℕ)) (faults : N → ℕ) (old
     write_fault = λ s. inr (a.2, inl f.0);
   }
 
-  -- where the source's count did not rise no read failed
+  -- if the source's count did not rise no read failed
   unread : (e : Ending) → FirstFault read read' written written' e → (Rose read read' → ⊥) → e ≢ Stopped ReadFault
   unread e f none is = let R : Ending → Type 0 = FirstFault read read' written written' in none (subst R is f).0
 
   unwritten : (e : Ending) → FirstFault read read' written written' e → (Rose written written' → ⊥) → e ≢ Stopped WriteFault
   unwritten e f none is = let R : Ending → Type 0 = FirstFault read read' written written' in none (subst R is f).1
 
-  -- where the notes did not fail the status is the ending's
+  -- if the notes did not fail the status is the ending's
   its_own : (e : Ending) → Told e → (Rose (faults old) (faults new) → ⊥) → status ≡ status_of e
   its_own Done t none = t.0
   its_own Usage (inl a) none = a.0
@@ -99,17 +99,18 @@ module _ {N : Type 0} (held : N → Option (List ℕ)) (faults : N → ℕ) (old
   completes e (inl z) t none = inl (its_own e t none ∙ z)
   completes e (inr z) t none = inr (its_own e t none ∙ z)
 
-  -- where no write failed, of a call that reads nothing
+  -- if no write failed, of a call that reads nothing
   pub quiet_writes : (e : Ending) → FirstFault read read' written written' e → (e ≢ Stopped WriteFault → IsDoneOrUnmet e) → Told e
       → (Rose written written' → ⊥) → (Rose (faults old) (faults new) → ⊥) → (status ≡ 0) ⊎ (status ≡ 8)
   quiet_writes e f done t w n = completes e (done (unwritten e f w)) t n
 
-  -- where no count rose
+  -- if no count rose
   pub quiet_status : (e : Ending) → FirstFault read read' written written' e → (e ≢ Stopped ReadFault → e ≢ Stopped WriteFault → IsDoneOrUnmet e) → Told e
       → (Rose read read' → ⊥) → (Rose written written' → ⊥) → (Rose (faults old) (faults new) → ⊥) → (status ≡ 0) ⊎ (status ≡ 8)
   quiet_status e f done t r w n = completes e (done (unread e f r) (unwritten e f w)) t n
 
-  -- a text was written where no write failed, and nothing is noted
-  pub said_status : (held held' : Option (List ℕ)) (text : List ℕ) (e : Ending) → IsSaid held held' text e → FirstFault read read' written written' e → Told e → (Rose written written' → ⊥) → status ≡ 0
+  -- a text was written if no write failed, and nothing is noted
+  pub said_status : (held held' : Option (List ℕ)) (text : List ℕ) (e : Ending) → IsSaid held held' text e → FirstFault read read' written written' e → Told e → (Rose written written' → ⊥)
+      → status ≡ 0
   said_status held held' text e (inl said) f t none = (subst Told said.0 t).0
   said_status held held' text e (inr said) f t none = absurd (unwritten e f none said.0)

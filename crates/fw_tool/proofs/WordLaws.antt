@@ -1,19 +1,20 @@
 -- The words of the command line.
 use Rattle.std.specs.declared.alloc.Global.{Global}
-use Rattle.std.proofs.Common.{◌≡◌, ◌≢◌, ◌≤◌, ◌<◌, ◌^◌, inl, inr, ℕ, length, slice_index_or, take, drop, map, ◌-◌, ap, sym, ◌∙◌, string_bytes, String, List, [], ◌∷◌, Option, Some, None, Result, Ok, refl, arith, decimal}
+use Rattle.std.proofs.Common.{◌≡◌, ◌≢◌, ◌≤◌, ◌<◌, ◌^◌, inl, inr, ℕ, length, slice_index_or, take, drop, map, ◌-◌, ap}
+use Rattle.std.proofs.Common.{sym, ◌∙◌, string_bytes, String, List, [], ◌∷◌, Option, Some, None, Result, Ok, refl, arith, decimal}
 use Rattle.std.proofs.lemmas.Fmt.{parse-decimal}
 use Rattle.std.proofs.lemmas.Grind.{common_steps}
 use Rattle.std.specs.Str.Parse.{ParsesUnsigned}
-use Rattle.fw_entry.specs.declared.entry.ResetEntry.{ResetEntry}
-use Rattle.fw_entry.specs.declared.entry.Timed.{Timed}
-use Rattle.fw_entry.specs.declared.version.Version.TheVariants.{One}
-use Rattle.fw_decode.specs.Words.{Accepts}
-use Rattle.fw_reports.specs.Verdicts.{IsSoundLog}
-use Rattle.fw_decode.specs.declared.LogWord.{LogWord}
-use Rattle.fw_decode.specs.declared.LogWord.TheVariants.{Convert, Audit, Holders, Map, Graph}
+use Rattle.fw_log_entry.specs.declared.entry.ResetEntry.{ResetEntry}
+use Rattle.fw_log_entry.specs.declared.entry.Timed.{Timed}
+use Rattle.fw_log_entry.specs.declared.version.Version.TheVariants.{One}
+use Rattle.fw_log_words.specs.Words.{Accepts}
+use Rattle.fw_log_reports.specs.Verdicts.{IsSoundLog}
+use Rattle.fw_log_words.specs.declared.LogWord.{LogWord}
+use Rattle.fw_log_words.specs.declared.LogWord.TheVariants.{Convert, Audit, Holders, Map, Graph}
 use Rattle.fw_tool.specs.declared.scripts.ScriptWord.TheVariants.{Run, Trace, Dub, Check}
-use Rattle.fw_reports.specs.Maps.{HasTree}
-use Rattle.fw_reports.specs.Trees.{last_reset}
+use Rattle.fw_log_reports.specs.Maps.{HasTree}
+use Rattle.fw_log_reports.specs.Trees.{last_reset}
 use Rattle.fw_tool.specs.Laws.{HasItsReset}
 use Rattle.fw_tool.specs.Words.{Spells, HasSeed, Names, IsExploration, texts}
 use Rattle.fw_tool.specs.declared.about.About.TheVariants.{Help, Version}

@@ -50,6 +50,6 @@ about_text Help = codes "fire simulates a FireWire (IEEE 1394) audio and video b
     codes "Read README.md first; docs/SCRIPT.md has the scripts, docs/LOG.md the logs and their lines," ++ 10 ∷
     codes "docs/BUS.md the bus, docs/DECKS.md the decks and tapes; examples/ has scripts to run." ++ 10 ∷ []
 
--- what a sink held before and after: all is done and the text was written whole, or the sink failed and a front of it was
+-- what a sink held before and after: all is done and the text was written whole, or the sink failed and a prefix of it was
 abbrev pub IsSaid : Option (List ℕ) → Option (List ℕ) → List ℕ → Ending → Type 0
 IsSaid held held' text ending = ((ending ≡ Done) × Grows held held' text) ⊎ ((ending ≡ Stopped WriteFault) × AppendsFront held held' text)

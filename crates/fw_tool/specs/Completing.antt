@@ -1,4 +1,4 @@
--- Where nothing is refused and nothing fails.
+-- If nothing is refused and nothing fails.
 use Rattle.std.specs.Prelude.{◌≡◌, ◌⊎◌}
 use Rattle.fw_tool.specs.declared.ending.Ending.{Ending}
 use Rattle.fw_tool.specs.Notes.{status_of}

@@ -1,11 +1,11 @@
 -- What the word `explore` says, with the words after it.
 use Rattle.std.specs.Prelude.{◌≡◌, ◌⊎◌, ℕ, List, Option}
 use Rattle.fw_outside.specs.declared.stop.Stop.TheVariants.{NoMemory}
-use Rattle.fw_run.specs.Desks.{DeskRelations}
-use Rattle.fw_movers.specs.Words.{IsExploredBy, IsNoExploration}
-use Rattle.fw_movers.specs.declared.fault.WordsFault.{WordsFault}
-use Rattle.fw_movers.specs.declared.fault.WordsFault.TheVariants as WordsFaults
-use Rattle.fw_movers.specs.declared.mover.Explored.{Explored}
+use Rattle.fw_model_run.specs.Desks.{DeskRelations}
+use Rattle.fw_explore_movers.specs.Words.{IsExploredBy, IsNoExploration}
+use Rattle.fw_explore_movers.specs.declared.fault.WordsFault.{WordsFault}
+use Rattle.fw_explore_movers.specs.declared.fault.WordsFault.TheVariants as WordsFaults
+use Rattle.fw_explore_movers.specs.declared.mover.Explored.{Explored}
 use Rattle.fw_explore.specs.Outcome.{Tells}
 use Rattle.fw_explore.specs.declared.fault.ExploreEnding.{ExploreEnding}
 use Rattle.fw_explore.specs.declared.fault.ExploreEnding.TheVariants as ExploreEndings

@@ -23,14 +23,14 @@ abbrev pub FirstFault : ℕ → ℕ → ℕ → ℕ → Ending → Type 0
 FirstFault read read' written written' ending = ReadCount read read' (stop_of ending) × WriteCount written written' (stop_of ending)
 
 -- By the status, the counts of source, sink and notes in a call whose sink passes each piece on at once: with 5 or 6 exactly one count of
--- source and sink rose, or that of the notes behind at most one of them.
+-- source and sink rose, or that of the notes after at most one of them.
 pub record IsFirstFaults (status read read' written written' noted noted' : ℕ) : Type 0 where
   pub no_fault : status ≢ 5 → status ≢ 6 → (read' ≡ read) × (written' ≡ written) × (noted' ≡ noted)
   pub read_fault : status ≡ 5 → Rose read read' × (written' ≡ written) × (noted' ≡ noted)
   pub write_fault : status ≡ 6
       → ((read' ≡ read) × Rose written written' × (noted' ≡ noted)) ⊎ (Rose noted noted' × ((read' ≡ read) ⊎ (written' ≡ written)))
 
--- By the status, the counts of source, sink and notes in a call whose last flush comes behind what the words came to. With 6 it was the
+-- By the status, the counts of source, sink and notes in a call whose last flush comes after what the words came to. With 6 it was the
 -- sink's that rose, or the notes'. A write fault that only the flush shows is told in the place of any other ending, so the source's
 -- count may have risen too.
 pub record IsToldByStatus (status read read' written written' noted noted' : ℕ) : Type 0 where

@@ -1,8 +1,8 @@
 -- How a word that reads a log ends, as an ending of a call.
-use Rattle.fw_reading.specs.declared.ending.LogEnding.{LogEnding}
-use Rattle.fw_reading.specs.declared.ending.LogEnding.TheVariants as LogEndings
-use Rattle.fw_reports.specs.declared.refusal.LogRefusal.{LogRefusal}
-use Rattle.fw_reports.specs.declared.refusal.LogRefusal.TheVariants as Refusals
+use Rattle.fw_log_loop.specs.declared.ending.LogEnding.{LogEnding}
+use Rattle.fw_log_loop.specs.declared.ending.LogEnding.TheVariants as LogEndings
+use Rattle.fw_log_reports.specs.declared.refusal.LogRefusal.{LogRefusal}
+use Rattle.fw_log_reports.specs.declared.refusal.LogRefusal.TheVariants as Refusals
 use Rattle.fw_tool.specs.declared.ending.Ending.{Ending}
 use Rattle.fw_tool.specs.declared.ending.Ending.TheVariants.{Done, NoLog, Stopped, Unsound, NoMap}
 

@@ -10,19 +10,20 @@ use Rattle.fw_tool.specs.declared.ending.Ending.{Ending}
 use Rattle.fw_tool.specs.declared.ending.Ending.TheVariants.{Done, Usage, Refused, NoLog, Stopped, Unsound, NoMap, Unexplored}
 use Rattle.fw_tool.specs.declared.ending.Unexplored.{Unexplored as Reason}
 use Rattle.fw_tool.specs.declared.ending.Unexplored.TheVariants.{Word, TooLarge}
-use Rattle.fw_movers.specs.declared.fault.WordWhy.{WordWhy}
-use Rattle.fw_movers.specs.declared.fault.WordWhy.TheVariants as Words
-use Rattle.fw_faults.specs.declared.fault.AuditFault.{AuditFault}
-use Rattle.fw_faults.specs.declared.fault.AuditFault.TheVariants.{NoNode, Overlap, Orphan, NotAllowed, WrongWord, NoMove, NoEvent}
+use Rattle.fw_explore_movers.specs.declared.fault.WordWhy.{WordWhy}
+use Rattle.fw_explore_movers.specs.declared.fault.WordWhy.TheVariants as Words
+use Rattle.fw_model_audit.specs.declared.fault.AuditFault.{AuditFault}
+use Rattle.fw_model_audit.specs.declared.fault.AuditFault.TheVariants.{NoNode, Overlap, Orphan, NotAllowed, WrongWord, NoMove, NoEvent}
 use Rattle.fw_map.specs.declared.MapWhy.{MapWhy}
 use Rattle.fw_map.specs.declared.MapWhy.TheVariants.{Parents, Missing, Left, Root}
-use Rattle.fw_text.specs.Line.{quadlet_text}
-use Rattle.fw_reports.specs.declared.refusal.NoMap.{NoMap as Unmapped}
-use Rattle.fw_reports.specs.declared.refusal.NoMap.TheVariants.{NoReset, NoTree}
-use Rattle.fw_run.specs.declared.rule.RuleFault.{RuleFault}
-use Rattle.fw_run.specs.declared.rule.RuleFault.TheVariants.{UnknownName, NameTaken, TooMany, NoPort, PortUsed, Loop, NotController, Guarded, NoRegister, Limit, TableFull, Busy, NoSuchConnection, NotOwnPlug, OffBus, NoDeck, NothingStands, TooLate, NotCapable, NotCandidate}
-use Rattle.fw_simulate.specs.declared.ending.Refusal.{Refusal}
-use Rattle.fw_simulate.specs.declared.ending.Refusal.TheVariants.{BadLine, LineTooLong, NoEnd, Rule}
+use Rattle.fw_log_text.specs.Line.{quadlet_text}
+use Rattle.fw_log_reports.specs.declared.refusal.NoMap.{NoMap as Unmapped}
+use Rattle.fw_log_reports.specs.declared.refusal.NoMap.TheVariants.{NoReset, NoTree}
+use Rattle.fw_order.specs.declared.rule.RuleFault.{RuleFault}
+use Rattle.fw_order.specs.declared.rule.RuleFault.TheVariants.{UnknownName, NameTaken, TooMany, NoPort, PortUsed, Loop, NotController, Guarded, NoRegister, Limit}
+use Rattle.fw_order.specs.declared.rule.RuleFault.TheVariants.{TableFull, Busy, NoSuchConnection, NotOwnPlug, OffBus, NoDeck, NothingStands, TooLate, NotCapable, NotCandidate}
+use Rattle.fw_script_words.specs.declared.ending.Refusal.{Refusal}
+use Rattle.fw_script_words.specs.declared.ending.Refusal.TheVariants.{BadLine, LineTooLong, NoEnd, Rule}
 
 -- the status and the note of a call that stopped
 abbrev pub stop_status : Stop → ℕ

@@ -1,6 +1,6 @@
 -- How a word that runs a script ends, as an ending of a call.
-use Rattle.fw_simulate.specs.declared.ending.RunEnding.{RunEnding}
-use Rattle.fw_simulate.specs.declared.ending.RunEnding.TheVariants as RunEndings
+use Rattle.fw_script_words.specs.declared.ending.RunEnding.{RunEnding}
+use Rattle.fw_script_words.specs.declared.ending.RunEnding.TheVariants as RunEndings
 use Rattle.fw_tool.specs.declared.ending.Ending.{Ending}
 use Rattle.fw_tool.specs.declared.ending.Ending.TheVariants.{Done, Refused, Stopped}
 

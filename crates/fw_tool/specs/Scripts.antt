@@ -1,10 +1,10 @@
 -- What the words say that run a script.
 use Rattle.std.specs.Prelude.{ℕ, List, Option}
-use Rattle.fw_run.specs.Desks.{DeskRelations}
-use Rattle.fw_simulate.specs.Checks.{Checks}
-use Rattle.fw_simulate.specs.Dubs.{Dubs}
-use Rattle.fw_simulate.specs.Ending.{Runs}
-use Rattle.fw_simulate.specs.declared.ending.RunEnding.{RunEnding}
+use Rattle.fw_model_run.specs.Desks.{DeskRelations}
+use Rattle.fw_script_words.specs.Checks.{Checks}
+use Rattle.fw_script_words.specs.Dubs.{Dubs}
+use Rattle.fw_script_words.specs.Ending.{Runs}
+use Rattle.fw_script_words.specs.declared.ending.RunEnding.{RunEnding}
 use Rattle.fw_trace.specs.Traces.{Traces}
 use Rattle.fw_tool.specs.declared.scripts.ScriptWord.{ScriptWord}
 use Rattle.fw_tool.specs.declared.scripts.ScriptWord.TheVariants.{Run, Trace, Dub, Check}

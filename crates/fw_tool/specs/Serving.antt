@@ -2,19 +2,19 @@
 -- `program` with the program's own desk.
 use Rattle.std.specs.Prelude.{◌≡◌, ◌≤◌, ◌⊎◌, ℕ, List, length, Some, String}
 use Rattle.std.specs.declared.alloc.Global.{Global}
-use Rattle.fw_entry.specs.declared.entry.Timed.{Timed}
+use Rattle.fw_log_entry.specs.declared.entry.Timed.{Timed}
 use Rattle.fw_log.specs.History.{IsLog}
-use Rattle.fw_gen.specs.Gen.{script_of}
-pub use Rattle.fw_run.specs.Desks.{DeskRelations}
-use Rattle.fw_reading.specs.Endings.{limit, Reads}
-use Rattle.fw_reading.specs.declared.ending.LogEnding.{LogEnding}
-use Rattle.fw_decode.specs.Words.{form_by, rules_by, Accepts}
-use Rattle.fw_reports.specs.declared.refusal.LogRefusal.{LogRefusal}
-use Rattle.fw_decode.specs.declared.LogWord.{LogWord}
-use Rattle.fw_simulate.specs.Scripts.{IsValid}
-use Rattle.fw_simulate.specs.Sums.{Sums}
+use Rattle.fw_script_gen.specs.Gen.{script_of}
+pub use Rattle.fw_model_run.specs.Desks.{DeskRelations}
+use Rattle.fw_log_loop.specs.Endings.{limit, Reads}
+use Rattle.fw_log_loop.specs.declared.ending.LogEnding.{LogEnding}
+use Rattle.fw_log_words.specs.Words.{form_by, rules_by, Accepts}
+use Rattle.fw_log_reports.specs.declared.refusal.LogRefusal.{LogRefusal}
+use Rattle.fw_log_words.specs.declared.LogWord.{LogWord}
+use Rattle.fw_script_words.specs.Scripts.{IsValid}
+use Rattle.fw_script_words.specs.Sums.{Sums}
 use Rattle.fw_tool.specs.Scripts.{RunsAs}
-use Rattle.fw_simulate.specs.declared.ending.RunEnding.{RunEnding}
+use Rattle.fw_script_words.specs.declared.ending.RunEnding.{RunEnding}
 use Rattle.fw_tool.specs.declared.scripts.ScriptWord.{ScriptWord}
 use Rattle.fw_tool.specs.About.{about_text, IsSaid}
 use Rattle.fw_tool.specs.Closing.{IsClosed}
@@ -56,7 +56,7 @@ pub record Serves {S K N : Type 0} (desk : DeskRelations) (words : List (String 
   pub explorations : (more : List (List ℕ)) → IsExploration words more → (e : Ending) × (told : Ending)
       × ExploresAs desk more (source.left source.old) (source.left source.new) (sink.held sink.old) (sink.held sink.new) e
       × IsToldAs source sink notes status e told
-  -- `help` and `version`: their text was written whole, or a front of it where the sink failed. The source stays as it was.
+  -- `help` and `version`: their text was written whole, or a prefix of it if the sink failed. The source stays as it was.
   pub about : (about : AnAbout) → IsWord words (About about) → (source.new ≡ source.old) × ((e : Ending) × (told : Ending)
       × IsSaid (sink.held sink.old) (sink.held sink.new) (about_text about) e
       × IsToldAs source sink notes status e told)
@@ -66,11 +66,11 @@ pub record Serves {S K N : Type 0} (desk : DeskRelations) (words : List (String 
   -- Which counts of faults rose in the call, by the status alone.
   pub first : IsToldByStatus status (source.faults source.old) (source.faults source.new) (sink.faults sink.old) (sink.faults sink.new)
       (notes.faults notes.old) (notes.faults notes.new)
-  -- Where the sink passes each piece on at once, the first fault decides, and other words leave the sink as it was.
+  -- If the sink passes each piece on at once, the first fault decides, and other words leave the sink as it was.
   pub first_at_once : PassesAtOnce sink → IsFirstFaults status (source.faults source.old) (source.faults source.new)
       (sink.faults sink.old) (sink.faults sink.new) (notes.faults notes.old) (notes.faults notes.new)
   pub usage_at_once : PassesAtOnce sink → (IsListed words → ⊥) → sink.new ≡ sink.old
-  -- A script of which no line is refused ends with 0, or with 8 for want of memory, where nothing failed.
+  -- A script of which no line is refused ends with 0, or with 8 for want of memory, if nothing failed.
   pub complete : (word : ScriptWord) → IsWord words (Script word) → (script : List ℕ) → source.left source.old ≡ Some script → IsValid script
       → NoReadFailed source → NoWriteFailed sink → NoNoteFailed notes → (status ≡ 0) ⊎ (status ≡ 8)
   -- So does `gen` with such a script.
@@ -81,5 +81,5 @@ pub record Serves {S K N : Type 0} (desk : DeskRelations) (words : List (String 
       → (entries : List Timed) → (bytes : List ℕ) → source.left source.old ≡ Some bytes
       → IsLog entries bytes → length bytes ≤ limit → Accepts word entries
       → NoReadFailed source → NoWriteFailed sink → NoNoteFailed notes → (status ≡ 0) ⊎ (status ≡ 8)
-  -- `help` and `version` end with 0 where no write failed.
+  -- `help` and `version` end with 0 if no write failed.
   pub complete_about : (about : AnAbout) → IsWord words (About about) → NoWriteFailed sink → status ≡ 0

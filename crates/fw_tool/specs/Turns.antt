@@ -1,9 +1,9 @@
 -- What a call is seen by: its source, its sink and its notes, before and after it.
 use Rattle.std.specs.Prelude.{ℕ, List, Option, Bool, IsTrue}
 use Rattle.fw_outside.specs.Outside.{Rose}
-pub use Rattle.fw_reading.specs.Turns.{SourceTurn}
+pub use Rattle.fw_log_loop.specs.Turns.{SourceTurn}
 
--- a sink of any kind: the bytes that were written, where it tells them, those that it keeps back, whether it passes each piece on at once,
+-- a sink of any kind: the bytes that were written, if it tells them, those that it keeps back, whether it passes each piece on at once,
 -- how often it has failed, and what it was and is
 pub record SinkTurn (K : Type 0) : Type 0 where
   pub held : K → Option (List ℕ)

@@ -18,7 +18,7 @@ pub enum About {
 
 const VERSION: &[u8] = b"fire 1.0\n";
 
-// The same text stands in `fire_sessions/data/help.txt`, which the launcher shows where nothing is built; the gate compares the two.
+// The same text stands in `fire_sessions/data/help.txt`, which the launcher shows if nothing is built; the gate compares the two.
 const HELP: &[u8] = b"\
 fire simulates a FireWire (IEEE 1394) audio and video bus, and reads the logs of such buses.
 

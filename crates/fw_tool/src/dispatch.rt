@@ -1,17 +1,17 @@
 //! What the words say, done.
 
 ghost use Rattle.std.specs.Prelude.{◌≡◌, ◌≢◌, ◌≤◌, ◌∷◌, List, ℕ, length, Some};
-ghost use Rattle.fw_entry.specs.declared.entry.Timed.{Timed};
+ghost use Rattle.fw_log_entry.specs.declared.entry.Timed.{Timed};
 ghost use Rattle.fw_log.specs.History.{IsLog};
-ghost use Rattle.fw_reading.specs.Endings.{limit, Reads};
-ghost use Rattle.fw_reading.specs.declared.ending.LogEnding.{LogEnding};
-ghost use Rattle.fw_decode.specs.Words.{form_by, rules_by, Accepts};
-ghost use Rattle.fw_reports.specs.declared.refusal.LogRefusal.{LogRefusal};
-ghost use Rattle.fw_decode.specs.declared.LogWord.{LogWord};
-ghost use Rattle.fw_gen.specs.Gen.{script_of};
-ghost use Rattle.fw_simulate.specs.Scripts.{IsValid};
-ghost use Rattle.fw_simulate.specs.Sums.{Sums};
-ghost use Rattle.fw_simulate.specs.declared.ending.RunEnding.{RunEnding};
+ghost use Rattle.fw_log_loop.specs.Endings.{limit, Reads};
+ghost use Rattle.fw_log_loop.specs.declared.ending.LogEnding.{LogEnding};
+ghost use Rattle.fw_log_words.specs.Words.{form_by, rules_by, Accepts};
+ghost use Rattle.fw_log_reports.specs.declared.refusal.LogRefusal.{LogRefusal};
+ghost use Rattle.fw_log_words.specs.declared.LogWord.{LogWord};
+ghost use Rattle.fw_script_gen.specs.Gen.{script_of};
+ghost use Rattle.fw_script_words.specs.Scripts.{IsValid};
+ghost use Rattle.fw_script_words.specs.Sums.{Sums};
+ghost use Rattle.fw_script_words.specs.declared.ending.RunEnding.{RunEnding};
 ghost use Rattle.fw_tape.specs.Desks.{AnyBlock, AnyVendorByte};
 ghost use Rattle.fw_tool.specs.About.{about_text, IsSaid};
 ghost use Rattle.fw_tool.specs.Completing.{IsDoneOrUnmet};
@@ -33,9 +33,9 @@ use crate::forms::word_of;
 use crate::logs::ending_of_log;
 use crate::scripts::{ending_of_run, run_as};
 use crate::words::Word;
-use fw_decode::read_as;
+use fw_log_words::read_as;
 use fw_outside::{Sink, Source, Stop};
-use fw_simulate::run_seed;
+use fw_script_words::run_seed;
 use fw_tape::Desk;
 use std::alloc::Global;
 

@@ -1,7 +1,7 @@
 use crate::Refused;
-use fw_decode::{NoMap, Unsound};
+use fw_explore_movers::WordFault;
 use fw_log::LogFault;
-use fw_movers::WordFault;
+use fw_log_words::{NoMap, Unsound};
 use fw_outside::Stop;
 
 /// How a call ends. It is the table of statuses: each ending has its status and its note, which is one line on the notes.
@@ -16,7 +16,7 @@ pub enum Ending {
     Refused(Refused),
     /// 4, `byte N: NAME`: the bytes are no log; the first refused part is at byte N. What the entries before it give was written.
     NoLog(LogFault),
-    /// 5, `read fault`: the source failed. What the input up to there gives was written. 6, `write fault`: the sink failed. A front
+    /// 5, `read fault`: the source failed. What the input up to there gives was written. 6, `write fault`: the sink failed. A prefix
     /// of what the input gives was written. 7, `too long`: the script passes 1,048,576 bytes, or the log 268,435,456, and nothing
     /// within that limit is refused. 8, `no memory`: memory was refused.
     Stopped(Stop),

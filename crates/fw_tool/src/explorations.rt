@@ -9,7 +9,7 @@ ghost use Rattle.fw_tool.specs.Words.{IsExploration};
 
 use crate::ending::{Ending, Unexplored};
 use fw_explore::{ExploreEnding, MOST_PLACES, explore};
-use fw_movers::{WordsFault, read_words};
+use fw_explore_movers::{WordsFault, read_words};
 use fw_outside::{Sink, Source, Stop};
 use fw_tape::Desk;
 use std::alloc::Global;

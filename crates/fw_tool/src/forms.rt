@@ -8,8 +8,8 @@ ghost use Rattle.fw_tool.specs.declared.words.Word.{Word as AWord};
 use crate::about::About;
 use crate::scripts::ScriptWord;
 use crate::words::Word;
-use fw_decode::LogWord;
 use fw_log::Version;
+use fw_log_words::LogWord;
 use itoa::Buffer;
 
 /// The number of 32 bits that a word is, in decimal digits without a leading zero.
@@ -75,7 +75,7 @@ fn one_word(word: &str) -> Option<Word>
     }
 }
 
-// What the word `gen` and a word behind it say.
+// What the word `gen` and a word after it say.
 fn seed_of(word: &str) -> Option<Word>
     ensures { Names (codes "gen" ∷ word.now ∷ []) result }
 {
@@ -85,7 +85,7 @@ fn seed_of(word: &str) -> Option<Word>
     Some(Word::Gen(seed))
 }
 
-// What the word `convert` and a word behind it say.
+// What the word `convert` and a word after it say.
 fn version_of(word: &str) -> Option<Word>
     ensures { Names (codes "convert" ∷ word.now ∷ []) result }
 {
@@ -98,7 +98,7 @@ fn version_of(word: &str) -> Option<Word>
     }
 }
 
-// What the word `map` and a word behind it say.
+// What the word `map` and a word after it say.
 fn drawing_of(word: &str) -> Option<Word>
     ensures { Names (codes "map" ∷ word.now ∷ []) result }
 {
@@ -136,7 +136,7 @@ fn explores(words: &[String]) -> bool
     }
 }
 
-/// What the words say, where they are of one of the forms.
+/// What the words say, if they are of one of the forms.
 pub(crate) fn word_of(words: &[String]) -> Option<Word>
     ensures { (w : AWord) → (result ≡ Some w) ↔ IsWord words.now w }
 {

@@ -16,11 +16,11 @@ mod words;
 
 pub use about::About;
 pub use ending::{Ending, Unexplored};
-pub use fw_decode::{LogWord, NoMap, Unsound};
-pub use fw_gen::gen_script;
+pub use fw_log_text::entry_text;
+pub use fw_log_words::{LogWord, NoMap, Unsound};
 pub use fw_outside::{Flush, GrowSink};
-pub use fw_simulate::{Refusal, Refused};
-pub use fw_text::entry_text;
+pub use fw_script_gen::gen_script;
+pub use fw_script_words::{Refusal, Refused};
 pub use laws::whole_logs_are_read;
 pub use notes::{NOTE_ROOM, tell};
 pub use scripts::ScriptWord;

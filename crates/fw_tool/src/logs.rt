@@ -4,7 +4,7 @@ ghost use Rattle.std.specs.Prelude.{◌≡◌};
 ghost use Rattle.fw_tool.specs.Logs.{by_log};
 
 use crate::ending::Ending;
-use fw_decode::{LogEnding, LogRefusal};
+use fw_log_words::{LogEnding, LogRefusal};
 
 /// How a call ends whose word has read a log to this ending.
 pub(crate) fn ending_of_log(ending: LogEnding<LogRefusal>) -> Ending

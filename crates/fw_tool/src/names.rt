@@ -5,11 +5,11 @@ ghost use Rattle.fw_tool.specs.Notes.{stop_note, fault_of, tree_why_of, rule_of,
 
 use crate::Refusal;
 use fw_audit::AuditFault;
+use fw_explore_movers::WordWhy;
 use fw_log::LogWhy;
 use fw_map::MapWhy;
-use fw_movers::WordWhy;
+use fw_order::RuleFault;
 use fw_outside::Stop;
-use fw_run::RuleFault;
 
 /// What the note of a refused line says of a rule that a command breaks.
 pub(crate) fn rule(fault: RuleFault) -> &'static [u8]

@@ -2,16 +2,16 @@
 
 ghost use Rattle.std.specs.Prelude.{◌≡◌, ◌+◌, ◌<◌, ◌≤◌, ◌++◌, length};
 ghost use Rattle.arrayvec.specs.ArrayVec.{array_vec_len};
-ghost use Rattle.fw_text.specs.Line.{quadlet_text};
+ghost use Rattle.fw_log_text.specs.Line.{quadlet_text};
 ghost use Rattle.fw_tool.specs.Notes.{status_of, stop_status, values_of, map_note, unexplored_note, note_of, IsTold, IsPassedOn};
 
 use crate::ending::{Ending, Unexplored};
 use crate::names::{fault_name, log_why, refusal, stop_note, tree_why, word_why};
 use arrayvec::ArrayVec;
 use fw_audit::AuditFault;
-use fw_decode::NoMap;
+use fw_log_text::quadlet_word;
+use fw_log_words::NoMap;
 use fw_outside::{Failed, Sink, Stop};
-use fw_text::quadlet_word;
 use itoa::Buffer;
 
 /// Room for any note, in bytes: the longest has 57, that of an entry of twenty digits with two values.
@@ -155,7 +155,7 @@ fn stop_status(stop: Stop) -> u8
     }
 }
 
-/// Writes a note, and answers its status, or 6 where the note was not written.
+/// Writes a note, and answers its status, or 6 if the note was not written.
 fn pass_on<N: Sink>(status: u8, note: &[u8], notes: &mut N) -> u8
     ensures { IsPassedOn N.held N.faults notes.old notes.new note.now status result }
 {
@@ -165,7 +165,7 @@ fn pass_on<N: Sink>(status: u8, note: &[u8], notes: &mut N) -> u8
     }
 }
 
-/// Writes the note of an ending, and answers its status, or 6 where the note was not written. An ending that is
+/// Writes the note of an ending, and answers its status, or 6 if the note was not written. An ending that is
 /// done has no note, and leaves the notes as they were.
 pub fn tell<N: Sink>(ending: Ending, notes: &mut N) -> u8
     ensures { IsTold N.held N.faults notes.old notes.new ending result }

@@ -2,14 +2,14 @@
 
 ghost use Rattle.std.specs.Prelude.{◌≡◌, List, ℕ, Some};
 ghost use Rattle.fw_tape.specs.Desks.{AnyBlock, AnyVendorByte};
-ghost use Rattle.fw_simulate.specs.Counts.{ReadCount, WriteCount};
-ghost use Rattle.fw_simulate.specs.Scripts.{IsValid, IsNoRefusal};
+ghost use Rattle.fw_script_words.specs.Counts.{ReadCount, WriteCount};
+ghost use Rattle.fw_script_words.specs.Scripts.{IsValid, IsNoRefusal};
 ghost use Rattle.fw_tool.specs.Runs.{by_run};
 ghost use Rattle.fw_tool.specs.Scripts.{RunsAs};
 
 use crate::ending::Ending;
 use fw_outside::{Sink, Source};
-use fw_simulate::{RunEnding, check, dub, run};
+use fw_script_words::{RunEnding, check, dub, run};
 use fw_tape::Desk;
 use fw_trace::trace;
 use std::alloc::Global;

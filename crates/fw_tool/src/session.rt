@@ -23,7 +23,7 @@ fn closed(ending: Ending, flushed: Result<(), Failed>) -> Ending
 }
 
 /// Does what the words of the command line say, passes on what the sink keeps back, tells the ending, and answers the program's status: that
-/// of the ending that is met first, or 6 where the last flush fails or the note is not written (`Ending` is the table).
+/// of the ending that is met first, or 6 if the last flush fails or the note is not written (`Ending` is the table).
 ///
 /// The word `run` reads a script of at most 1,048,576 bytes, carries out its commands, and writes their log. Others carry them out alike, and
 /// write in place of the log: `trace` the lines of the script, each followed by what it caused, `dub` the blocks that were recorded, 480 bytes

@@ -2,7 +2,7 @@
 
 use crate::about::About;
 use crate::scripts::ScriptWord;
-use fw_decode::LogWord;
+use fw_log_words::LogWord;
 
 /// What the words of the command line say.
 #[derive(Clone, Copy)]

@@ -1,23 +1,11 @@
 -- What a command caused, as a sink has told it that stands on what it stood on before.
-use Rattle.std.proofs.Common.{◌≡◌, refl, sym, ap, subst, ◌∙◌, ℕ, List, [], ◌++◌, Option, Some, None}
+use Rattle.fw_trace.proofs.Common.{◌≡◌, refl, sym, ap, subst, ◌∙◌, ℕ, List, [], ◌++◌, Option, Some, None, ∥∥₁_elim, header_bytes, LogOpens, Two, Timed, LogState, Reading, DeskRelations, log_bytes}
+use Rattle.fw_trace.proofs.Common.{Standing, course_of, RunEnding, Telling, caused_text, Traced, lines_from, telling_behind, Base, Tells, TellsBy}
 use Rattle.std.proofs.lemmas.List.{append_cancel_left}
-use Rattle.std.proofs.Math.Logic.{∥∥₁_elim}
 use Rattle.std.specs.Coded.{Coded-set, coded_ℕ, coded_list}
-use Rattle.fw_entry.specs.Log.{header_bytes, LogOpens}
-use Rattle.fw_entry.specs.declared.version.Version.TheVariants.{Two}
-use Rattle.fw_entry.specs.declared.entry.Timed.{Timed}
-use Rattle.fw_log.specs.Reader.{State as LogState}
-use Rattle.fw_script.specs.Reading.{Reading}
-use Rattle.fw_run.specs.Desks.{DeskRelations}
-use Rattle.fw_run.specs.Giving.{log_bytes}
-use Rattle.fw_bus.specs.Buses.{Standing}
-use Rattle.fw_simulate.specs.Going.{Going, Carried, Continues, StepsOn, course_of}
-use Rattle.fw_simulate.specs.declared.ending.RunEnding.{RunEnding}
-use Rattle.fw_tracer.specs.Caused.{Telling, caused_text}
-use Rattle.fw_tracer.specs.Commands.{Traced, lines_from, telling_behind}
-use Rattle.fw_tracer.specs.contracts.tracer.Tracer.{the_row}
-use Rattle.fw_trace.specs.Framing.{Base, framed}
-use Rattle.fw_trace.specs.Telling.{Tells, TellsBy}
+use Rattle.fw_script_words.specs.Going.{Going, Carried, Continues, StepsOn}
+use Rattle.fw_trace_lines.specs.contracts.tracer.Tracer.{the_row}
+use Rattle.fw_trace.specs.Framing.{framed}
 use Rattle.fw_trace.proofs.Framings.{framed_grown}
 use Rattle.fw_trace.proofs.RunLaws.{only_read, going_opens, going_bytes}
 

@@ -1,19 +1,13 @@
 -- How many entries a trace tells.
-use Rattle.std.proofs.Common.{◌≡◌, refl, sym, ap, ◌∙◌, ◌+◌, List, [], ◌∷◌, ◌++◌, None, append_assoc, arith}
-use Rattle.std.proofs.lemmas.List.{append-nil}
-use Rattle.fw_entry.specs.declared.entry.Timed.{Timed}
-use Rattle.fw_outside.specs.declared.stop.Stop.TheVariants.{ReadFault, WriteFault, TooLong, NoMemory}
-use Rattle.fw_run.specs.Desks.{DeskRelations}
-use Rattle.fw_simulate.specs.Course.{Course}
-use Rattle.fw_simulate.specs.declared.ending.RunEnding.TheVariants.{Done, Refused, Stopped}
-use Rattle.fw_tracer.specs.Caused.{Caused, Telling, untold}
-use Rattle.fw_tracer.specs.Commands.{begun}
-use Rattle.fw_tracer.specs.Laws.{entries_told, entries_due}
-use Rattle.fw_tracer.proofs.CountLaws.{tells_all}
+use Rattle.fw_trace.proofs.Common.{◌≡◌, refl, sym, ap, ◌∙◌, ◌+◌, List, [], ◌∷◌, ◌++◌, None, append_assoc, arith, append-nil, Timed, ReadFault, WriteFault, TooLong, NoMemory, DeskRelations, Course}
+use Rattle.fw_trace.proofs.Common.{Refused, Stopped, Telling, untold, begun, Part, PartsRun, kept_from}
+use Rattle.fw_script_words.specs.declared.ending.RunEnding.TheVariants.{Done}
+use Rattle.fw_trace_lines.specs.Caused.{Caused}
+use Rattle.fw_trace_lines.specs.Laws.{entries_told, entries_due}
+use Rattle.fw_trace_lines.proofs.CountLaws.{tells_all}
 use Rattle.fw_trace.specs.Laws.{part_lines, caused_lines, LeavesNothingOut, EndsAsItsRun}
-use Rattle.fw_trace.specs.Parts.{Part, PartsRun, kept_after}
+use Rattle.fw_trace.specs.Parts.{kept_after}
 use Rattle.fw_trace.specs.Parts.PartsRun.{first, and_line, and_command, and_end}
-use Rattle.fw_trace.specs.Tracing.{kept_from}
 
 told_append : (a b : List Caused) → entries_told (a ++ b) ≡ entries_told a + entries_told b
 told_append [] b = omega arith

@@ -1,27 +1,14 @@
 -- A trace whose run was cut off by a write that failed.
-use Rattle.std.proofs.Common.{◌≡◌, refl, sym, ap, subst, ◌∙◌, ℕ, Bool, List, [], ◌∷◌, ◌++◌, Option, Some, None, Ok, append_assoc}
-use Rattle.std.proofs.lemmas.List.{append-nil}
-use Rattle.fw_outside.specs.Outside.{Grows, AppendsFront}
+use Rattle.fw_trace.proofs.Common.{◌≡◌, refl, sym, ap, subst, ◌∙◌, ℕ, Bool, List, [], ◌∷◌, ◌++◌, Option, Some, None, Ok, append_assoc, append-nil, Grows, AppendsFront, Timed, Command, Reading}
+use Rattle.fw_trace.proofs.Common.{Advances, Commands, Done, DeskRelations, Standing, Course, course_of, caused_text, untold, Traced, begun, lines_from, last_lines, telling_behind, Part, PartsRun}
+use Rattle.fw_trace.proofs.Common.{AreLines, part_text, lines_of, trace_text, GrowsFront, WasPassed, ToldPart, TellsFront, Begun, HasLines, kept_from}
 use Rattle.fw_outside.proofs.Parts.{then_front}
-use Rattle.fw_entry.specs.declared.entry.Timed.{Timed}
-use Rattle.fw_command.specs.declared.command.Command.{Command}
-use Rattle.fw_script.specs.Reading.{Reading, Advances}
-use Rattle.fw_script.specs.declared.stage.Stage.TheVariants.{Commands, Done}
-use Rattle.fw_run.specs.Actions.{Action, Steps}
-use Rattle.fw_run.specs.Desks.{DeskRelations}
-use Rattle.fw_run.specs.Given.{AreGiven}
-use Rattle.fw_bus.specs.Buses.{Standing}
-use Rattle.fw_simulate.specs.Course.{Course}
-use Rattle.fw_simulate.specs.Ending.{PartLogged, Began}
-use Rattle.fw_simulate.specs.Going.{course_of}
-use Rattle.fw_tracer.proofs.LoopLaws.{caused_append}
-use Rattle.fw_tracer.specs.Caused.{caused_text, untold}
-use Rattle.fw_tracer.specs.Commands.{Traced, begun, lines_from, last_lines, telling_behind, command_lines}
-use Rattle.fw_trace.specs.Parts.{Part, PartsRun, AreLines, part_text, lines_of, trace_text}
-use Rattle.fw_trace.specs.Passed.{GrowsFront, WasPassed}
-use Rattle.fw_trace.specs.Telling.{ToldPart}
-use Rattle.fw_trace.specs.Traces.{TellsFront, IsBegun}
-use Rattle.fw_trace.specs.Tracing.{Begun, HasLines, kept_from}
+use Rattle.fw_model_run.specs.Actions.{Action, Steps}
+use Rattle.fw_model_run.specs.Given.{AreGiven}
+use Rattle.fw_script_words.specs.Ending.{PartLogged, Began}
+use Rattle.fw_trace_lines.proofs.LoopLaws.{caused_append}
+use Rattle.fw_trace_lines.specs.Commands.{command_lines}
+use Rattle.fw_trace.specs.Traces.{IsBegun}
 use Rattle.fw_trace.proofs.EndedLaws.{are_lines}
 use Rattle.fw_trace.proofs.FrontLaws.{part_told}
 use Rattle.fw_trace.proofs.HeldLaws.{end_given, none_done}
@@ -38,7 +25,7 @@ whole_front held held' origin out whole x e =
     grows_front_more held held' (origin.text ++ caused_text first) (caused_text last) whole x
     (append_assoc origin.text (caused_text first) (caused_text last) ∙ ap (λ (l : List ℕ). origin.text ++ l) (sym (caused_append first last)) ∙ sym e)
 
--- a front of one part more was told
+-- a prefix of one part more was told
 front_more : (held start held' : Option (List ℕ)) (parts : List Part) (part : Part) → Grows held start (trace_text parts)
     → GrowsFront start held' (part_text (lines_of 0 parts) (kept_from untold parts) part) → AppendsFront held held' (trace_text (parts ++ part ∷ []))
 front_more held start held' parts part x y =

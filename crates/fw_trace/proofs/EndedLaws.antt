@@ -1,19 +1,13 @@
 -- A trace that has ended as its run.
-use Rattle.std.proofs.Common.{◌≡◌, ℕ, List, [], ◌∷◌, ◌++◌, Option, Some, ◌⊎◌, inl, inr}
-use Rattle.fw_outside.specs.declared.stop.Stop.TheVariants.{ReadFault, WriteFault, TooLong, NoMemory}
-use Rattle.fw_entry.specs.Log.{header_bytes}
-use Rattle.fw_entry.specs.declared.version.Version.TheVariants.{Two}
-use Rattle.fw_script.specs.Reading.{Reading}
-use Rattle.fw_run.specs.Desks.{DeskRelations}
-use Rattle.fw_run.specs.Giving.{log_bytes}
-use Rattle.fw_simulate.specs.Course.{course_at, refused_course}
-use Rattle.fw_simulate.specs.Ending.{Runs, RefusesBy}
-use Rattle.fw_simulate.specs.declared.ending.RunEnding.{RunEnding}
-use Rattle.fw_simulate.specs.declared.ending.RunEnding.TheVariants.{Done, Refused, Stopped}
-use Rattle.fw_simulate.specs.declared.ending.Refusal.{Refusal}
-use Rattle.fw_simulate.specs.declared.ending.Refusal.TheVariants.{BadLine, LineTooLong, NoEnd, Rule}
-use Rattle.fw_trace.specs.Parts.{Part, AreLines, bytes_of}
-use Rattle.fw_trace.specs.Tracing.{HasLines, IsSplit}
+use Rattle.fw_trace.proofs.Common.{◌≡◌, ℕ, List, [], ◌∷◌, ◌++◌, Option, Some, ◌⊎◌, inl, inr, ReadFault, WriteFault, TooLong, NoMemory, header_bytes, Two, Reading, DeskRelations, log_bytes, RunEnding}
+use Rattle.fw_trace.proofs.Common.{Refused, Stopped, Part, AreLines, HasLines}
+use Rattle.fw_script_words.specs.Course.{course_at, refused_course}
+use Rattle.fw_script_words.specs.Ending.{Runs, RefusesBy}
+use Rattle.fw_script_words.specs.declared.ending.RunEnding.TheVariants.{Done}
+use Rattle.fw_script_words.specs.declared.ending.Refusal.{Refusal}
+use Rattle.fw_script_words.specs.declared.ending.Refusal.TheVariants.{BadLine, LineTooLong, NoEnd, Rule}
+use Rattle.fw_trace.specs.Parts.{bytes_of}
+use Rattle.fw_trace.specs.Tracing.{IsSplit}
 
 -- the endings in which no write failed
 abbrev pub IsWhole : RunEnding → Type 0

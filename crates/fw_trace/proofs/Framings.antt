@@ -1,8 +1,9 @@
--- What a sink that tells stands on stays, where the list that stands for it only grows.
-use Rattle.std.proofs.Common.{◌≡◌, refl, sym, ap, ◌∙◌, ℕ, List, [], ◌∷◌, ◌++◌, Some, Result, Ok, Err, arith}
+-- What a sink that tells stands on stays, if the list that stands for it only grows.
+use Rattle.fw_trace.proofs.Common.{◌≡◌, refl, sym, ap, ◌∙◌, ℕ, List, [], ◌∷◌, ◌++◌, Some, Ok, Err, arith, Base}
+use Rattle.std.proofs.Common.{Result}
 use Rattle.fw_outside.specs.Outside.{Writes}
 use base.Stored.{Gv, gnil, gnum, gcons}
-use Rattle.fw_trace.specs.Framing.{spelled, Base, base_code, framed}
+use Rattle.fw_trace.specs.Framing.{spelled, base_code, framed}
 
 abbrev first_of : List ℕ → ℕ
 first_of [] = 0
@@ -36,7 +37,7 @@ pub framed_more : (base : Base) (bytes piece : List ℕ) → framed base (bytes 
 unfolding framed
 framed_more base bytes piece = spelled_append (base_code.code base) bytes piece
 
--- where the list has grown by a piece, it stands on the same, and its bytes have grown by the piece
+-- if the list has grown by a piece, it stands on the same, and its bytes have grown by the piece
 pub framed_grown : (base base' : Base) (bytes bytes' piece : List ℕ) → framed base' bytes' ≡ framed base bytes ++ piece → (base' ≡ base) × (bytes' ≡ bytes ++ piece)
 unfolding framed
 framed_grown base base' bytes bytes' piece e =
@@ -47,7 +48,7 @@ framed_grown base base' bytes bytes' piece e =
 pub frame_written : (base base' : Base) (bytes bytes' piece : List ℕ) → base' ≡ base → bytes' ≡ bytes ++ piece → framed base' bytes' ≡ framed base bytes ++ piece
 frame_written base base' bytes bytes' piece e f = (λ i. framed (e i) (f i)) ∙ framed_more base bytes piece
 
--- a write of a piece, or of a front of it, where the bytes are known
+-- a write of a piece, or of a prefix of it, if the bytes are known
 pub frame_writes : {T E : Type 0} (base base' : Base) (bytes bytes' piece : List ℕ) (r : Result T E) → base' ≡ base → Writes (Some bytes) (Some bytes') r piece
     → Writes (Some (framed base bytes)) (Some (framed base' bytes')) r piece
 frame_writes base base' bytes bytes' piece (Ok t) e w = frame_written base base' bytes bytes' piece e w

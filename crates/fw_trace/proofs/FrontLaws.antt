@@ -1,21 +1,11 @@
 -- What was told of a command that was cut off.
-use Rattle.std.proofs.Common.{◌≡◌, sym, ap, subst, ◌∙◌, ℕ, Bool, List, [], ◌++◌, Option, Some, append_assoc}
+use Rattle.fw_trace.proofs.Common.{◌≡◌, sym, ap, subst, ◌∙◌, ℕ, Bool, List, [], ◌++◌, Option, Some, append_assoc, ∥∥₁_elim, header_bytes, LogOpens, Two, Timed, Reading, DeskRelations, log_bytes}
+use Rattle.fw_trace.proofs.Common.{Standing, caused_text, Traced, lines_from, telling_behind, GrowsFront, WasPassed, ToldPart}
 use Rattle.std.proofs.lemmas.List.{append_cancel_left}
-use Rattle.std.proofs.Math.Logic.{∥∥₁_elim}
-use Rattle.fw_entry.specs.Log.{header_bytes, LogOpens}
-use Rattle.fw_entry.specs.declared.version.Version.TheVariants.{Two}
-use Rattle.fw_entry.specs.declared.entry.Timed.{Timed}
 use Rattle.fw_log.proofs.HistoryLaws.{log_begins}
-use Rattle.fw_script.specs.Reading.{Reading}
-use Rattle.fw_run.specs.Desks.{DeskRelations}
-use Rattle.fw_run.specs.Giving.{log_bytes}
-use Rattle.fw_bus.specs.Buses.{Standing}
-use Rattle.fw_simulate.specs.Ending.{PartLogged}
-use Rattle.fw_simulate.specs.Going.{Going}
-use Rattle.fw_tracer.specs.Caused.{caused_text}
-use Rattle.fw_tracer.specs.Commands.{Traced, lines_from, telling_behind}
-use Rattle.fw_trace.specs.Passed.{GrowsFront, WasPassed, grows_front-prop}
-use Rattle.fw_trace.specs.Telling.{ToldPart}
+use Rattle.fw_script_words.specs.Ending.{PartLogged}
+use Rattle.fw_script_words.specs.Going.{Going}
+use Rattle.fw_trace.specs.Passed.{grows_front-prop}
 use Rattle.fw_trace.proofs.PassedLaws.{passed_front}
 use Rattle.fw_trace.proofs.RunLaws.{only_read, going_opens}
 use Rattle.fw_trace.proofs.TellingLaws.{text_append}
@@ -27,7 +17,7 @@ longer_text given rest first more whole before e f =
 module _ {D : DeskRelations} {left mid left' : Option (List ℕ)} {after bytes bytes' : List ℕ} {reader : Reading} {bus : Standing}
     (g : Going D left mid (Some []) (Some after) reader bus) (p : PartLogged D left left' (Some []) (Some bytes')) (same : p.log ≡ g.log)
     (origin : Traced) (given : List ℕ) (e : bytes ≡ header_bytes Two ++ log_bytes 0 g.log) where
-  -- what was given is a front of the text of the entries that were written, and perhaps of some more
+  -- what was given is a prefix of the text of the entries that were written, and perhaps of some more
   part_text : (y : ToldPart origin bytes bytes' given) → (rest : List ℕ) × (given ++ rest ≡ origin.text ++ caused_text (lines_from origin.telling p.out))
   part_text y =
       let all = header_bytes Two ++ log_bytes 0 (p.log ++ p.out) in

@@ -1,40 +1,26 @@
 -- A trace at its beginning: the log's header was read, and nothing is told for it.
-use Rattle.std.proofs.Common.{◌≡◌, refl, sym, ap, subst, ◌∙◌, ℕ, Bool, List, [], ◌∷◌, ◌++◌, Option, Some, None, inl, append_assoc, arith}
+use Rattle.fw_trace.proofs.Common.{◌≡◌, refl, sym, ap, subst, ◌∙◌, ℕ, Bool, List, [], ◌∷◌, ◌++◌, Option, Some, None, inl, append_assoc, arith, append-nil, ∥∥₁_elim, Grows, AppendsFront, WriteFault}
+use Rattle.fw_trace.proofs.Common.{ReadFault, TooLong, NoMemory, header_bytes, LogOpens, Two, Timed, HasRead, LogState, Reading, Commands, DeskRelations, Standing, RunEnding, Refused, Stopped}
+use Rattle.fw_trace.proofs.Common.{caused_text, untold, Traced, lines_from, telling_behind, Lack, Memory, PartsRun, GrowsFront, WasPassed, Tells, TellsBy, ToldPart, fails_by, Traces, TellsFront}
+use Rattle.fw_trace.proofs.Common.{HasLines, Tracing}
 use Rattle.std.specs.Prelude.{IsFalse}
-use Rattle.std.proofs.lemmas.List.{append-nil}
-use Rattle.std.proofs.Math.Logic.{∥∥₁_elim}
 use Rattle.std.specs.Coded.{Coded-set, coded_ℕ, coded_list}
-use Rattle.fw_outside.specs.Outside.{Grows, AppendsFront}
-use Rattle.fw_outside.specs.declared.stop.Stop.TheVariants.{WriteFault, ReadFault, TooLong, NoMemory}
 use Rattle.fw_outside.proofs.Parts.{Grows-nothing, Takes-nothing}
-use Rattle.fw_entry.specs.Log.{header_bytes, LogOpens}
-use Rattle.fw_entry.specs.declared.version.Version.TheVariants.{Two}
-use Rattle.fw_entry.specs.declared.entry.Timed.{Timed}
-use Rattle.fw_log.specs.History.{HasRead}
-use Rattle.fw_log.specs.Reader.{State as LogState}
 use Rattle.fw_log.proofs.HistoryLaws.{log_begins}
-use Rattle.fw_script.specs.Reading.{Reading, unread}
-use Rattle.fw_script.specs.declared.stage.Stage.TheVariants.{Commands, Done as AtEnd}
-use Rattle.fw_run.specs.Desks.{DeskRelations}
-use Rattle.fw_run.specs.Runs.{begun}
-use Rattle.fw_run.specs.State.{first_state}
-use Rattle.fw_run.proofs.Logs.{run_opens}
-use Rattle.fw_bus.specs.Buses.{Standing, StandsFor}
-use Rattle.fw_simulate.specs.Scripts.{IsValid, IsNoRefusal}
-use Rattle.fw_simulate.specs.declared.ending.RunEnding.{RunEnding}
-use Rattle.fw_simulate.specs.declared.ending.RunEnding.TheVariants.{Done, Refused, Stopped}
-use Rattle.fw_simulate.proofs.Completions.{run_completes}
-use Rattle.fw_simulate.proofs.Goings.{going_first}
-use Rattle.fw_tracer.specs.Caused.{caused_text, untold}
-use Rattle.fw_tracer.specs.Commands.{Traced, lines_from, telling_behind}
-use Rattle.fw_tracer.specs.contracts.tracer.Tracer.{the_row}
-use Rattle.fw_trace.specs.declared.lack.Lack.{Lack}
-use Rattle.fw_trace.specs.declared.lack.Lack.TheVariants.{Memory}
-use Rattle.fw_trace.specs.Parts.{PartsRun, first_course}
-use Rattle.fw_trace.specs.Passed.{GrowsFront, WasPassed}
-use Rattle.fw_trace.specs.Telling.{Tells, TellsBy, ToldPart, fails_by}
-use Rattle.fw_trace.specs.Traces.{Traces, TellsFront, stopped_by, fault_by}
-use Rattle.fw_trace.specs.Tracing.{HasLines, IsBeginning, Tracing}
+use Rattle.fw_script.specs.Reading.{unread}
+use Rattle.fw_script.specs.declared.stage.Stage.TheVariants.{Done as AtEnd}
+use Rattle.fw_model_run.specs.Runs.{begun}
+use Rattle.fw_model_run.specs.State.{first_state}
+use Rattle.fw_model_run.proofs.Logs.{run_opens}
+use Rattle.fw_bus.specs.Buses.{StandsFor}
+use Rattle.fw_script_words.specs.Scripts.{IsValid, IsNoRefusal}
+use Rattle.fw_script_words.specs.declared.ending.RunEnding.TheVariants.{Done}
+use Rattle.fw_script_words.proofs.Completions.{run_completes}
+use Rattle.fw_script_words.proofs.Goings.{going_first}
+use Rattle.fw_trace_lines.specs.contracts.tracer.Tracer.{the_row}
+use Rattle.fw_trace.specs.Parts.{first_course}
+use Rattle.fw_trace.specs.Traces.{stopped_by, fault_by}
+use Rattle.fw_trace.specs.Tracing.{IsBeginning}
 use Rattle.fw_trace.proofs.OnLaws.{passed_whole}
 use Rattle.fw_trace.proofs.PassedLaws.{front_of, passed_front}
 use Rattle.fw_trace.proofs.StopLaws.{stopped_tells}
@@ -104,7 +90,7 @@ why_by : (lack : Option Lack) → (why : Lack) × (fault_by lack ≡ stopped_by 
 why_by None = (Memory, refl)
 why_by (Some lack) = (lack, refl)
 
--- a front of it was read at most
+-- a prefix of it was read at most
 pub header_stops : (origin now : Traced) (r : LogState) (count : ℕ) (earlier bytes rest given : List ℕ) (lack : Option Lack) (failed : Bool) (held held' start : Option (List ℕ))
     (faults faults' : ℕ) (ending : RunEnding)
     → origin ≡ record { text = []; telling = untold } → earlier ≡ [] → header_bytes Two ≡ bytes ++ rest → start ≡ held → WasPassed failed start held' faults faults' given

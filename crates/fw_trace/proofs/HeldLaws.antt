@@ -1,21 +1,19 @@
--- What the next call of the reader gives where a line is held, or none stands next.
-use Rattle.std.proofs.Common.{◌≡◌, ◌≢◌, refl, sym, ap, subst, ◌∙◌, ℕ, ◌+◌, List, [], ◌++◌, true, ◌⊎◌, inl, inr, Option, Some, None, Ok, Err}
-use Rattle.std.proofs.lemmas.List.{append-nil}
-use Rattle.fw_command.specs.declared.command.Command.{Command}
-use Rattle.fw_command.specs.declared.command.Command.TheVariants.{End}
+-- What the next call of the reader gives if a line is held, or none stands next.
+use Rattle.fw_trace.proofs.Common.{◌≡◌, refl, sym, ap, subst, ◌∙◌, ℕ, ◌+◌, List, [], ◌++◌, true, ◌⊎◌, inl, inr, Option, Some, None, Ok, Err, append-nil, Command, End, Reading, Advances, TakesMore}
+use Rattle.fw_trace.proofs.Common.{behind, Stage, Commands, Done}
+use Rattle.std.proofs.Common.{◌≢◌}
 use Rattle.fw_script.specs.Reader.{PassesOver}
 use Rattle.fw_script.specs.Reader.PassesOver.{nowhere, over_skipped, over_end}
-use Rattle.fw_script.specs.Reading.{Reading, Answer, GivesFirst, GivesNext, Advances, TakesMore, IsHeld, IsAtEndOfInput, PassesLimit, behind, at_stage, with_taken}
+use Rattle.fw_script.specs.Reading.{Answer, GivesFirst, GivesNext, IsHeld, IsAtEndOfInput, PassesLimit, at_stage, with_taken}
 use Rattle.fw_script.specs.Reading.GivesFirst.{skipped, command, end_line, read_fault}
 use Rattle.fw_script.specs.declared.ScriptFault.{ScriptFault}
 use Rattle.fw_script.specs.declared.ScriptFault.TheVariants.{BadLine, LineTooLong, NoEnd, ReadFault, TooLong}
-use Rattle.fw_script.specs.declared.stage.Stage.{Stage}
-use Rattle.fw_script.specs.declared.stage.Stage.TheVariants.{Commands, AfterEnd, Done, Failed}
+use Rattle.fw_script.specs.declared.stage.Stage.TheVariants.{AfterEnd, Failed}
 use Rattle.fw_script.proofs.CallLaws.{next_open}
 use Rattle.fw_script.proofs.GivesLaws.{gives_once, gives_with, goes_answer, cut_gives}
 use Rattle.fw_script.proofs.LineLaws.{limit_more}
 use Rattle.fw_script.proofs.PassLaws.{held_answer}
-use Rattle.fw_simulate.proofs.Givings.{given_some}
+use Rattle.fw_script_words.proofs.Givings.{given_some}
 use Rattle.fw_trace.specs.Tracing.{IsNoCommand, HoldsNoCommand, GivesThis}
 
 -- ---- an answer is held
@@ -66,7 +64,7 @@ nothing_at Failed p q g = absurd (given_some g refl)
 pub none_done : (p q : Reading) (left left' : Option (List ℕ)) → Advances p q left left' (Ok None) → p.stage ≡ Done
 none_done p q left left' a = nothing_at p.stage a.known q a.gives
 
--- nothing more is taken where the input's end was met
+-- nothing more is taken if the input's end was met
 pub whole_known : (p known : Reading) (left left' : Option (List ℕ)) → p.whole ≡ true → TakesMore p known left left' → known ≡ p
 whole_known p known left left' w m =
     let k = m.kept w in
@@ -76,7 +74,7 @@ whole_known p known left left' w m =
 
 -- ---- what is given
 
--- the end was given, where nothing is left
+-- the end was given, if nothing is left
 pub record GivesEnd (p q : Reading) (c : Command) (taken : List ℕ) : Type 0 where
   pub is : c ≡ End
   pub none : taken ≡ []
@@ -132,7 +130,7 @@ limit_given p q left left' (inr h) a =
 
 -- ---- the source is not asked
 
--- where the source failed lines were passed over, up to where it did
+-- if the source failed lines were passed over, up to where it did
 fault_passed : {p q : Reading} → GivesFirst p (Err ReadFault) q → (m : Reading) × PassesOver p m × (q ≡ at_stage m Failed)
 fault_passed (skipped t n l s g) = let r = fault_passed g in (r.0, over_skipped t n l s r.1, r.2)
 fault_passed (end_line t n l s i f g) = let r = fault_passed g in (r.0, over_end t n l s i f r.1, r.2)

@@ -1,3 +1,4 @@
+pub mod Common
 pub mod Framings
 pub mod TellingLaws
 pub mod PlaceLaws

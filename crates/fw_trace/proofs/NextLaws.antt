@@ -1,45 +1,30 @@
 -- A trace before its next line: what the line says, or that none stands next.
-use Rattle.std.proofs.Common.{◌≡◌, ◌≢◌, refl, sym, ap, subst, ◌∙◌, ℕ, ◌+◌, ◌<◌, List, [], ◌∷◌, ◌++◌, take, true, ◌⊎◌, inl, inr, Option, Some, None, Ok, Err}
-use Rattle.std.proofs.lemmas.List.{append-nil}
-use Rattle.fw_outside.specs.Outside.{Grows, AppendsFront}
-use Rattle.fw_outside.specs.declared.stop.Stop.TheVariants.{ReadFault, NoMemory}
-use Rattle.fw_entry.specs.Log.{header_bytes}
-use Rattle.fw_entry.specs.declared.version.Version.TheVariants.{Two}
-use Rattle.fw_command.specs.Form.{HasForm}
-use Rattle.fw_command.specs.Pieces.{IsFree}
-use Rattle.fw_command.specs.declared.command.Command.{Command}
-use Rattle.fw_command.specs.declared.command.Command.TheVariants.{End}
+use Rattle.fw_trace.proofs.Common.{◌≡◌, refl, sym, ap, subst, ◌∙◌, ℕ, ◌+◌, ◌<◌, List, [], ◌∷◌, ◌++◌, take, true, ◌⊎◌, inl, inr, Option, Some, None, Ok, Err, append-nil, Grows, AppendsFront, ReadFault}
+use Rattle.fw_trace.proofs.Common.{NoMemory, header_bytes, Two, Command, End, Reading, Advances, TakesMore, behind, Stage, Commands, Done, DeskRelations, log_bytes, Standing, Course, course_of}
+use Rattle.fw_trace.proofs.Common.{RunEnding, Stopped, untold, Traced, begun, Part, PartsRun, AreLines, trace_text, Lack, Traces, Begun, HasLines, Tracing}
+use Rattle.std.proofs.Common.{◌≢◌}
+use Rattle.fw_script_command.specs.Form.{HasForm}
+use Rattle.fw_script_command.specs.Pieces.{IsFree}
 use Rattle.fw_script.specs.Line.{is_skipped}
 use Rattle.fw_script.specs.Passing.{FailsThere, HasNoLine, IsCommandNext, Passes}
 use Rattle.fw_script.specs.Reader.{HoldsLine, IsOpen}
-use Rattle.fw_script.specs.Reading.{Reading, Advances, IsAtEndOfInput, IsHeld, IsLine, TakesMore, at_stage, behind, refused}
+use Rattle.fw_script.specs.Reading.{IsAtEndOfInput, IsHeld, IsLine, at_stage, refused}
 use Rattle.fw_script.specs.Reading.GivesFirst.{end_of_input, long_line, no_end, too_long}
 use Rattle.fw_script.specs.declared.ScriptFault.TheVariants as Fault
 use Rattle.fw_script.specs.declared.reader.passing.Said.TheVariants.{Nothing, Refused}
-use Rattle.fw_script.specs.declared.stage.Stage.{Stage}
-use Rattle.fw_script.specs.declared.stage.Stage.TheVariants.{Commands, AfterEnd, Done, Failed}
+use Rattle.fw_script.specs.declared.stage.Stage.TheVariants.{AfterEnd, Failed}
 use Rattle.fw_script.proofs.LineLaws.{line_not_end}
 use Rattle.fw_script.proofs.PassLaws.{pass_over, refused_gives}
-use Rattle.fw_run.specs.Desks.{DeskRelations}
-use Rattle.fw_run.specs.Giving.{log_bytes}
-use Rattle.fw_run.specs.Rules.{Decides}
-use Rattle.fw_run.specs.declared.order.Order.{Order}
-use Rattle.fw_run.specs.declared.order.Order.TheVariants as order
-use Rattle.fw_bus.specs.Buses.{Standing}
-use Rattle.fw_simulate.specs.Course.{Course}
-use Rattle.fw_simulate.specs.Going.{IsUnderWay, course_of, to_read}
-use Rattle.fw_simulate.specs.declared.ending.RunEnding.{RunEnding}
-use Rattle.fw_simulate.specs.declared.ending.RunEnding.TheVariants.{Stopped}
-use Rattle.fw_simulate.proofs.Faults.{faulted}
-use Rattle.fw_simulate.proofs.Passings.{going_looked, going_passed}
-use Rattle.fw_tracer.specs.Caused.{untold}
-use Rattle.fw_tracer.specs.Commands.{Traced, begun}
-use Rattle.fw_tracer.specs.Lines.{line_text}
-use Rattle.fw_trace.specs.Parts.{Part, PartsRun, AreLines, place_of, trace_text}
-use Rattle.fw_trace.specs.declared.lack.Lack.{Lack}
+use Rattle.fw_model_run.specs.Rules.{Decides}
+use Rattle.fw_order.specs.declared.order.Order.{Order}
+use Rattle.fw_order.specs.declared.order.Order.TheVariants as order
+use Rattle.fw_script_words.specs.Going.{IsUnderWay, to_read}
+use Rattle.fw_script_words.proofs.Faults.{faulted}
+use Rattle.fw_script_words.proofs.Passings.{going_looked, going_passed}
+use Rattle.fw_trace_lines.specs.Lines.{line_text}
+use Rattle.fw_trace.specs.Parts.{place_of}
 use Rattle.fw_trace.specs.Passed.{PassesBy}
-use Rattle.fw_trace.specs.Traces.{Traces}
-use Rattle.fw_trace.specs.Tracing.{Begun, TracesOn, HasLines, HoldsNoCommand, IsOver, Tracing}
+use Rattle.fw_trace.specs.Tracing.{TracesOn, HoldsNoCommand, IsOver}
 use Rattle.fw_trace.proofs.EndedLaws.{are_lines}
 use Rattle.fw_trace.proofs.HeldLaws.{whole_known}
 use Rattle.fw_trace.proofs.PartLaws.{kept_more, lines_behind, lines_looked}

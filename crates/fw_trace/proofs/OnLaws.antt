@@ -1,25 +1,16 @@
--- A trace goes on where a step has carried out a command.
-use Rattle.std.proofs.Common.{◌≡◌, refl, sym, ap, subst, ◌∙◌, ℕ, ◌<◌, Bool, List, [], ◌++◌, Option, Some, None, Err, arith}
-use Rattle.fw_outside.specs.Outside.{Grows, Rose}
-use Rattle.fw_outside.specs.declared.stop.Stop.TheVariants.{ReadFault, WriteFault, TooLong, NoMemory}
-use Rattle.fw_simulate.specs.Counts.{WriteCount}
-use Rattle.fw_simulate.specs.declared.ending.RunEnding.{RunEnding}
-use Rattle.fw_simulate.specs.declared.ending.RunEnding.TheVariants.{Done, Refused, Stopped}
-use Rattle.fw_command.specs.declared.command.Command.{Command}
-use Rattle.fw_log.specs.Reader.{State as LogState}
-use Rattle.fw_script.specs.Reading.{Reading}
-use Rattle.fw_run.specs.Desks.{DeskRelations}
-use Rattle.fw_bus.specs.Buses.{Standing}
-use Rattle.fw_simulate.specs.Going.{Carried, course_of, to_read}
-use Rattle.fw_tracer.specs.Caused.{caused_text}
-use Rattle.fw_tracer.specs.Commands.{Traced, ended, last_lines, lines_from, telling_behind}
-use Rattle.fw_trace.specs.declared.lack.Lack.{Lack}
-use Rattle.fw_trace.specs.declared.lack.Lack.TheVariants.{Memory, Sink}
+-- A trace goes on if a step has carried out a command.
+use Rattle.fw_trace.proofs.Common.{◌≡◌, refl, sym, ap, subst, ◌∙◌, ℕ, ◌<◌, Bool, List, [], ◌++◌, Option, Some, None, Err, arith, Grows, ReadFault, WriteFault, TooLong, NoMemory, RunEnding, Refused}
+use Rattle.fw_trace.proofs.Common.{Stopped, Command, LogState, Reading, DeskRelations, Standing, course_of, caused_text, Traced, last_lines, lines_from, telling_behind, Lack, Memory, Base, WasPassed}
+use Rattle.fw_trace.proofs.Common.{TellsBy, fails_by, Begun, Tracing}
+use Rattle.fw_outside.specs.Outside.{Rose}
+use Rattle.fw_script_words.specs.Counts.{WriteCount}
+use Rattle.fw_script_words.specs.declared.ending.RunEnding.TheVariants.{Done}
+use Rattle.fw_script_words.specs.Going.{Carried, to_read}
+use Rattle.fw_trace_lines.specs.Commands.{ended}
+use Rattle.fw_trace.specs.declared.lack.Lack.TheVariants.{Sink}
 use Rattle.fw_trace.specs.Traces.{stopped_by, fault_by, ending_by}
-use Rattle.fw_trace.specs.Framing.{Base}
-use Rattle.fw_trace.specs.Passed.{WasPassed, PassesBy}
-use Rattle.fw_trace.specs.Telling.{TellsBy, fails_by, faults_by}
-use Rattle.fw_trace.specs.Tracing.{Begun, Tracing}
+use Rattle.fw_trace.specs.Passed.{PassesBy}
+use Rattle.fw_trace.specs.Telling.{faults_by}
 use Rattle.fw_trace.proofs.CarriedLaws.{FramedStep, carried_text, carried_kept}
 use Rattle.fw_trace.proofs.TracedLaws.{line_traced, end_traced}
 

@@ -1,13 +1,14 @@
 -- The parts of a trace, one more at a time.
-use Rattle.std.proofs.Common.{◌≡◌, refl, sym, ap, subst, ◌∙◌, ℕ, ◌+◌, ◌-◌, ◌<◌, List, [], ◌∷◌, ◌++◌, length, take, drop, Bool, true, inl, inr, Option, append_assoc, arith}
-use Rattle.std.proofs.lemmas.List.{append-nil, drop_all, length-append}
+use Rattle.fw_trace.proofs.Common.{◌≡◌, refl, sym, ap, subst, ◌∙◌, ℕ, ◌+◌, ◌<◌, List, [], ◌∷◌, ◌++◌, length, take, Bool, true, inl, inr, Option, append_assoc, arith, append-nil, length-append}
+use Rattle.fw_trace.proofs.Common.{Reading, TakesMore, behind, Telling, Part, part_text, lines_of, kept_from, HasLines}
+use Rattle.std.proofs.Common.{◌-◌, drop}
+use Rattle.std.proofs.lemmas.List.{drop_all}
 use Rattle.fw_outside.proofs.Parts.{Takes-Takes}
 use Rattle.fw_script.proofs.LineLaws.{behind_total}
-use Rattle.fw_script.specs.Reading.{Reading, EndsLine, IsLine, PassesLimit, TakesMore, with_taken, behind}
-use Rattle.fw_tracer.specs.Caused.{Telling}
-use Rattle.fw_command.specs.Pieces.{IsFree}
-use Rattle.fw_trace.specs.Parts.{Part, HaveNoFeed, part_text, kept_after, lines_after, text_from, bytes_of, lines_of}
-use Rattle.fw_trace.specs.Tracing.{kept_from, IsSplit, HasLines}
+use Rattle.fw_script.specs.Reading.{EndsLine, IsLine, PassesLimit, with_taken}
+use Rattle.fw_script_command.specs.Pieces.{IsFree}
+use Rattle.fw_trace.specs.Parts.{HaveNoFeed, kept_after, lines_after, text_from, bytes_of}
+use Rattle.fw_trace.specs.Tracing.{IsSplit}
 
 -- ---- their text
 
@@ -108,7 +109,7 @@ lines_behind left left' parts p part text size t n free x l = record {
   count = behind_total p text size l ∙ x.count;
 }
 
--- where the next line passes the script's limit, all lines within it were read
+-- if the next line passes the script's limit, all lines within it were read
 pub limit_left : (left left' : Option (List ℕ)) (parts : List Part) (p : Reading) → HasLines left left' parts p → PassesLimit p
     → (1048576 < length (bytes_of parts) + length p.rest) × IsFree 10 (take (1048576 - length (bytes_of parts)) p.rest)
 limit_left left left' parts p x l = by x.split

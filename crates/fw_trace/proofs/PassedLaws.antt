@@ -1,9 +1,10 @@
 -- What a sink was given since a command began, piece by piece.
-use Rattle.std.proofs.Common.{◌≡◌, refl, sym, ap, subst, ◌∙◌, ℕ, ◌-◌, List, [], ◌∷◌, ◌++◌, length, take, drop, Bool, true, false, Option, Some, None, arith}
-use Rattle.std.proofs.lemmas.List.{length-append, take-append-drop, append-nil}
-use Rattle.fw_outside.proofs.Parts.{Grows-Grows, Grows-nothing, then_front, front_then}
-use Rattle.fw_outside.specs.Outside.{Grows, AppendsFront, Rose}
-use Rattle.fw_trace.specs.Passed.{GrowsFront, WasPassed}
+use Rattle.fw_trace.proofs.Common.{◌≡◌, refl, sym, ap, subst, ◌∙◌, ℕ, List, [], ◌∷◌, ◌++◌, length, take, Bool, true, false, Option, Some, None, arith, length-append, append-nil, Grows-Grows, Grows}
+use Rattle.fw_trace.proofs.Common.{AppendsFront, GrowsFront, WasPassed}
+use Rattle.std.proofs.Common.{◌-◌, drop}
+use Rattle.std.proofs.lemmas.List.{take-append-drop}
+use Rattle.fw_outside.proofs.Parts.{Grows-nothing, then_front, front_then}
+use Rattle.fw_outside.specs.Outside.{Rose}
 
 take_front : (xs ys : List ℕ) → take (length xs) (xs ++ ys) ≡ xs
 take_front [] ys = refl
@@ -37,12 +38,12 @@ front_of (Some xs) None bytes x = absurd x
 front_of (Some xs) (Some ys) bytes x =
     record { front = take (length ys - length xs) bytes; rest = drop (length ys - length xs) bytes; parts = sym (take-append-drop (length ys - length xs) bytes); appended = x }
 
--- a front of some is a front of more
+-- a prefix of some is a prefix of more
 pub grows_front_more : (held held' : Option (List ℕ)) (bytes more whole : List ℕ) → GrowsFront held held' bytes → bytes ++ more ≡ whole → GrowsFront held held' whole
 grows_front_more held held' bytes more whole x e =
     subst (GrowsFront held held') e (front_grows held held' (bytes ++ more) (front_then held held' bytes more (front_of held held' bytes x)))
 
--- what was passed on is a front of what it was to be
+-- what was passed on is a prefix of what it was to be
 pub passed_front : (failed : Bool) (held held' : Option (List ℕ)) (faults faults' : ℕ) (given more whole : List ℕ) → WasPassed failed held held' faults faults' given → given ++ more ≡ whole
     → GrowsFront held held' whole
 passed_front false held held' faults faults' given more whole x e =

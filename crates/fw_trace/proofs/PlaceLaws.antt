@@ -1,12 +1,11 @@
 -- Only a command that asks for a connection is given a slot.
-use Rattle.std.proofs.Common.{◌≡◌, ap, List, ℕ, false, Option, Some, None, Ok}
+use Rattle.fw_trace.proofs.Common.{◌≡◌, ap, List, ℕ, false, Option, Some, None, Ok, Command}
 use Rattle.std.specs.Option.{is_some}
-use Rattle.fw_command.specs.declared.command.Command.{Command}
-use Rattle.fw_command.specs.declared.command.Command.TheVariants as Commands
-use Rattle.fw_run.specs.declared.order.Order.{Order}
-use Rattle.fw_run.specs.Rules.{Decides, IsOrder}
-use Rattle.fw_run.specs.State.{State}
-use Rattle.fw_tracer.specs.Jobs.{connection_of}
+use Rattle.fw_script_command.specs.declared.command.Command.TheVariants as Commands
+use Rattle.fw_order.specs.declared.order.Order.{Order}
+use Rattle.fw_model_run.specs.Rules.{Decides, IsOrder}
+use Rattle.fw_model_run.specs.State.{State}
+use Rattle.fw_trace_lines.specs.Jobs.{connection_of}
 use Rattle.fw_trace.specs.Parts.{place_of}
 
 no_slot : (s : State) (c : Command) (o : Order) → is_some (connection_of c) ≡ false → IsOrder s c o → place_of o ≡ None

@@ -1,24 +1,15 @@
 -- What a sink that tells has read is the log of the run.
-use Rattle.std.proofs.Common.{◌≡◌, refl, sym, subst, ℕ, List, [], ◌++◌, Option, Some, None, Ok, Err}
-use Rattle.fw_entry.specs.Log.{header_bytes, LogOpens}
-use Rattle.fw_entry.specs.declared.version.Version.{Version}
-use Rattle.fw_entry.specs.declared.version.Version.TheVariants.{Two}
-use Rattle.fw_entry.specs.declared.entry.Timed.{Timed}
-use Rattle.fw_log.specs.History.{HasRead}
-use Rattle.fw_log.specs.Reader.{State as LogState, finish_of}
+use Rattle.fw_trace.proofs.Common.{◌≡◌, refl, sym, subst, ℕ, List, [], ◌++◌, Option, Some, None, Ok, Err, header_bytes, LogOpens, Two, Timed, HasRead, LogState, Command, Reading, Stage, Commands}
+use Rattle.fw_trace.proofs.Common.{Done, DeskRelations, log_bytes, Standing}
+use Rattle.fw_log_entry.specs.declared.version.Version.{Version}
+use Rattle.fw_log.specs.Reader.{finish_of}
 use Rattle.fw_log.specs.declared.LogFault.{LogFault}
 use Rattle.fw_log.proofs.HistoryLaws.{finishes}
-use Rattle.fw_command.specs.declared.command.Command.{Command}
-use Rattle.fw_script.specs.Reading.{Reading}
-use Rattle.fw_script.specs.declared.stage.Stage.{Stage}
-use Rattle.fw_script.specs.declared.stage.Stage.TheVariants.{Commands, AfterEnd, Done, Failed}
-use Rattle.fw_run.specs.Desks.{DeskRelations}
-use Rattle.fw_run.specs.Giving.{log_bytes}
-use Rattle.fw_run.specs.Runs.{Run}
-use Rattle.fw_run.proofs.Logs.{run_opens, run_spells}
-use Rattle.fw_bus.specs.Buses.{Standing}
-use Rattle.fw_simulate.specs.Going.{Going, HasReadTo}
-use Rattle.fw_simulate.proofs.Calls.{given_no_end}
+use Rattle.fw_script.specs.declared.stage.Stage.TheVariants.{AfterEnd, Failed}
+use Rattle.fw_model_run.specs.Runs.{Run}
+use Rattle.fw_model_run.proofs.Logs.{run_opens, run_spells}
+use Rattle.fw_script_words.specs.Going.{Going, HasReadTo}
+use Rattle.fw_script_words.proofs.Calls.{given_no_end}
 
 -- of bytes that are a log, its entries were read
 pub only_read : (entries all : List Timed) (v : Version) (bytes : List ℕ) (r : LogState) → HasRead entries bytes r → LogOpens all v bytes → all ≡ entries

@@ -1,20 +1,11 @@
--- A trace that stops behind a command which was carried out.
-use Rattle.std.proofs.Common.{◌≡◌, refl, sym, ap, subst, ◌∙◌, ℕ, List, [], ◌++◌, Option, Some, None, Err, append_assoc}
-use Rattle.std.proofs.lemmas.List.{append-nil, append_cancel_left}
-use Rattle.fw_outside.specs.Outside.{Grows, AppendsFront}
+-- A trace that stops after a command which was carried out.
+use Rattle.fw_trace.proofs.Common.{◌≡◌, refl, sym, ap, subst, ◌∙◌, ℕ, List, [], ◌++◌, Option, Some, None, Err, append_assoc, append-nil, Grows, AppendsFront, Reading, DeskRelations, Standing}
+use Rattle.fw_trace.proofs.Common.{course_of, RunEnding, Traced, Lack, Memory, Part, AreLines, trace_text, GrowsFront, Traces, TellsFront, Tracing}
+use Rattle.std.proofs.lemmas.List.{append_cancel_left}
 use Rattle.fw_outside.proofs.Parts.{then_front}
-use Rattle.fw_script.specs.Reading.{Reading}
-use Rattle.fw_run.specs.Desks.{DeskRelations}
-use Rattle.fw_bus.specs.Buses.{Standing}
-use Rattle.fw_simulate.specs.Going.{course_of}
-use Rattle.fw_simulate.specs.declared.ending.RunEnding.{RunEnding}
-use Rattle.fw_tracer.specs.Commands.{Traced}
-use Rattle.fw_trace.specs.declared.lack.Lack.{Lack}
-use Rattle.fw_trace.specs.declared.lack.Lack.TheVariants.{Memory, Sink}
-use Rattle.fw_trace.specs.Parts.{Part, AreLines, trace_text}
-use Rattle.fw_trace.specs.Passed.{GrowsFront, PassesBy}
-use Rattle.fw_trace.specs.Traces.{Traces, TellsFront, stopped_by}
-use Rattle.fw_trace.specs.Tracing.{Tracing}
+use Rattle.fw_trace.specs.declared.lack.Lack.TheVariants.{Sink}
+use Rattle.fw_trace.specs.Passed.{PassesBy}
+use Rattle.fw_trace.specs.Traces.{stopped_by}
 use Rattle.fw_trace.proofs.EndedLaws.{are_lines}
 use Rattle.fw_trace.proofs.PassedLaws.{front_of, front_grows}
 
@@ -27,7 +18,7 @@ pub grown_grows : (held : Option (List ℕ)) (text : List ℕ) → Grows held (g
 grown_grows None text = tt
 grown_grows (Some xs) text = refl
 
--- a front of the last text is a front of the whole
+-- a prefix of the last text is a prefix of the whole
 front_from : (held mid now : Option (List ℕ)) (first text whole : List ℕ) → Grows held mid first → Grows held (grown mid text) whole → GrowsFront mid now text → AppendsFront held now whole
 front_from None None None first text whole a b c = record { front = []; rest = whole; parts = refl; appended = tt }
 front_from None None (Some zs) first text whole a b c = absurd c
@@ -38,7 +29,7 @@ front_from (Some xs) (Some ys) (Some zs) first text whole a b c =
     let all : first ++ text ≡ whole = append_cancel_left xs (first ++ text) whole (sym (append_assoc xs first text) ∙ ap (λ (l : List ℕ). l ++ text) (sym a) ∙ b) in
     subst (AppendsFront (Some xs) (Some zs)) all (then_front (Some xs) (Some ys) (Some zs) first text a (front_of (Some ys) (Some zs) text c))
 
--- what was passed on is a front, whatever lacked
+-- what was passed on is a prefix, whatever lacked
 stop_front : (lack : Lack) (held held' : Option (List ℕ)) (faults faults' : ℕ) (text : List ℕ) → PassesBy (Err lack) held held' faults faults' text → GrowsFront held held' text
 stop_front Memory held held' faults faults' text p =
     subst (λ (o : Option (List ℕ)). GrowsFront held o text) (sym p.0) (front_grows held held text (record { front = []; rest = text; parts = refl; appended = nothing held }))

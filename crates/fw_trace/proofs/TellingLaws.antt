@@ -1,21 +1,20 @@
 -- What a sink that tells has read and told, piece by piece.
-use Rattle.std.proofs.Common.{◌≡◌, refl, sym, ap, subst, ◌∙◌, ℕ, zero, suc, ◌+◌, ◌<◌, false, List, [], ◌∷◌, ◌++◌, length, take, Option, Some, None, Result, Ok, Err, append_assoc, arith}
+use Rattle.fw_trace.proofs.Common.{◌≡◌, refl, sym, ap, subst, ◌∙◌, ℕ, ◌+◌, ◌<◌, false, List, [], ◌∷◌, ◌++◌, length, take, Option, Some, None, Ok, Err, append_assoc, arith, append-nil, length-append}
+use Rattle.fw_trace.proofs.Common.{Timed, HasRead, Telling, caused_text, Traced, lines_from, telling_behind, PutsEntry, Tells, ToldPart, TellsBy, Lack}
+use Rattle.std.proofs.Common.{zero, suc, Result}
 use Rattle.std.proofs.Math.Logic.{∥∥₁_map}
 use Rattle.std.proofs.lemmas.Bool.{eqb-false}
 use Rattle.std.specs.Prelude.{◌==◌, IfNone, OnOk}
 use Rattle.std.specs.Option.{is_some}
-use Rattle.std.proofs.lemmas.List.{append-nil, take_all, length-append}
-use Rattle.fw_entry.specs.declared.entry.Timed.{Timed}
-use Rattle.fw_log.specs.History.{HasRead, ReadsTo}
+use Rattle.std.proofs.lemmas.List.{take_all}
+use Rattle.fw_log.specs.History.{ReadsTo}
 use Rattle.fw_log.specs.Reader.{State, Feeds, FeedsTo}
 use Rattle.fw_log.specs.Stands.{Position}
 use Rattle.fw_log.specs.declared.LogFault.{LogFault}
 use Rattle.fw_log.specs.declared.read.LogFed.{LogFed}
-use Rattle.fw_tracer.proofs.LoopLaws.{stepped, caused_append}
-use Rattle.fw_tracer.specs.Caused.{Telling, Caused, caused_text, entry_lines, telling_after}
-use Rattle.fw_tracer.specs.Commands.{Traced, lines_from, telling_behind}
-use Rattle.fw_trace.specs.Telling.{TakesEntry, PutsEntry, TakesKnown, TakesPart, TakesSome, Tells, ToldPart, TellsBy}
-use Rattle.fw_trace.specs.declared.lack.Lack.{Lack}
+use Rattle.fw_trace_lines.proofs.LoopLaws.{stepped, caused_append}
+use Rattle.fw_trace_lines.specs.Caused.{Caused, entry_lines, telling_after}
+use Rattle.fw_trace.specs.Telling.{TakesEntry, TakesKnown, TakesPart, TakesSome}
 use Rattle.fw_trace.specs.declared.lack.Untold.{Untold}
 
 -- ---- the text of entries
@@ -121,27 +120,27 @@ text_on origin now now' r r' count earlier bytes passed piece x p =
     ∙ append_assoc origin.text (caused_text (lines_from origin.telling x.out)) (caused_text (lines_from (telling_behind origin.telling x.out) p.out))
     ∙ ap (λ (l : List ℕ). origin.text ++ l) (sym (text_append origin.telling x.out p.out))
 
--- it was passed on
-pub told_on : (origin now now' : Traced) (r r' : State) (count count' : ℕ) (earlier bytes passed piece : List ℕ) (x : Tells origin now r count earlier bytes passed)
+-- some of it was passed on, or all, or nothing
+pub told_on : (origin now now' now'' : Traced) (r r' : State) (count count' : ℕ) (earlier bytes passed passed' piece : List ℕ) (x : Tells origin now r count earlier bytes passed)
     → TakesPart (x.before ++ x.out) bytes piece now now' r' → count' ≡ count + length piece → 0 < length piece
-    → Tells origin (record now' { text = [] }) r' count' earlier (bytes ++ piece) (passed ++ now'.text)
-told_on origin now now' r r' count count' earlier bytes passed piece x p counted some = record {
+    → passed' ++ now''.text ≡ passed ++ now'.text → now''.telling ≡ now'.telling → Tells origin now'' r' count' earlier (bytes ++ piece) passed'
+told_on origin now now' now'' r r' count count' earlier bytes passed passed' piece x p counted some given same = record {
   before = x.before;
   out = x.out ++ p.out;
   begun = x.begun;
   began = x.began;
   read = rw (sym (append_assoc x.before x.out p.out)) p.read;
   counted = counted ∙ ap (λ (n : ℕ). n + length piece) x.counted ∙ sym (length-append bytes piece);
-  text = append-nil (passed ++ now'.text) ∙ text_on origin now now' r r' count earlier bytes passed piece x p;
-  kept = p.kept ∙ ap (λ (k : Telling). telling_behind k p.out) x.kept ∙ sym (behind_append origin.telling x.out p.out);
+  text = given ∙ text_on origin now now' r r' count earlier bytes passed piece x p;
+  kept = same ∙ p.kept ∙ ap (λ (k : Telling). telling_behind k p.out) x.kept ∙ sym (behind_append origin.telling x.out p.out);
   later = omega (arith, x.later, length-append bytes piece);
   waits = λ e. absurd (omega (arith, some, x.later, length-append bytes piece, ap length e));
 }
 
--- a front of it was passed on
-pub told_front : (origin now now' : Traced) (r r' : State) (count : ℕ) (earlier bytes passed piece : List ℕ) (x : Tells origin now r count earlier bytes passed)
-    → TakesPart (x.before ++ x.out) bytes piece now now' r' → ToldPart origin earlier (bytes ++ piece) (passed ++ now'.text)
-told_front origin now now' r r' count earlier bytes passed piece x p = record {
+-- the sink failed: a prefix of it was passed on
+pub told_front : (origin now now' now'' : Traced) (r r' : State) (count : ℕ) (earlier bytes passed passed' piece : List ℕ) (x : Tells origin now r count earlier bytes passed)
+    → TakesPart (x.before ++ x.out) bytes piece now now' r' → passed' ++ now''.text ≡ passed ++ now'.text → ToldPart origin earlier (bytes ++ piece) passed'
+told_front origin now now' now'' r r' count earlier bytes passed passed' piece x p given = record {
   before = x.before;
   out = x.out ++ p.out;
   begun = x.begun;
@@ -151,8 +150,8 @@ told_front origin now now' r r' count earlier bytes passed piece x p = record {
   last = r';
   parts = sym (append-nil (bytes ++ piece));
   read = rw (sym (append_assoc x.before x.out p.out)) p.read;
-  rest = [];
-  text = append-nil (passed ++ now'.text) ∙ text_on origin now now' r r' count earlier bytes passed piece x p;
+  rest = now''.text;
+  text = given ∙ text_on origin now now' r r' count earlier bytes passed piece x p;
 }
 
 -- what is to be told stands at its beginning

@@ -1,13 +1,8 @@
 -- The text of a part, from what was passed on of it.
-use Rattle.std.proofs.Common.{◌≡◌, sym, ap, ◌∙◌, ℕ, List, [], ◌∷◌, ◌++◌, Option, append_assoc}
-use Rattle.fw_outside.specs.Outside.{Grows}
-use Rattle.fw_outside.proofs.Parts.{Grows-Grows}
-use Rattle.fw_entry.specs.declared.entry.Timed.{Timed}
-use Rattle.fw_tracer.proofs.LoopLaws.{caused_append}
-use Rattle.fw_tracer.specs.Caused.{caused_text, untold}
-use Rattle.fw_tracer.specs.Commands.{Traced, lines_from, last_lines, telling_behind, command_lines}
-use Rattle.fw_trace.specs.Parts.{Part, part_text, lines_of, trace_text}
-use Rattle.fw_trace.specs.Tracing.{kept_from}
+use Rattle.fw_trace.proofs.Common.{◌≡◌, sym, ap, ◌∙◌, ℕ, List, [], ◌∷◌, ◌++◌, Option, append_assoc, Grows, Grows-Grows, Timed, caused_text, untold, Traced, lines_from, last_lines, telling_behind}
+use Rattle.fw_trace.proofs.Common.{Part, part_text, lines_of, trace_text, kept_from}
+use Rattle.fw_trace_lines.proofs.LoopLaws.{caused_append}
+use Rattle.fw_trace_lines.specs.Commands.{command_lines}
 use Rattle.fw_trace.proofs.PartLaws.{text_more}
 
 -- what was passed on, what is still to be, and the last lines are the text of the whole command

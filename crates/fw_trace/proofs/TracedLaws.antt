@@ -1,32 +1,26 @@
--- A trace goes on behind a command that was carried out.
-use Rattle.std.proofs.Common.{◌≡◌, ◌≢◌, refl, sym, ap, subst, ◌∙◌, ℕ, List, [], ◌∷◌, ◌++◌, false, inl, inr, Option, Some, None, Ok, Err}
-use Rattle.std.proofs.lemmas.List.{append-nil}
-use Rattle.fw_outside.specs.Outside.{Grows, Takes}
-use Rattle.fw_outside.proofs.Parts.{Grows-Grows, Takes-Takes}
-use Rattle.fw_entry.specs.declared.entry.Timed.{Timed}
-use Rattle.fw_command.specs.Form.{HasForm}
-use Rattle.fw_command.specs.declared.command.Command.{Command}
-use Rattle.fw_command.specs.declared.command.Command.TheVariants.{End}
+-- A trace goes on after a command that was carried out.
+use Rattle.fw_trace.proofs.Common.{◌≡◌, refl, sym, ap, subst, ◌∙◌, ℕ, List, [], ◌∷◌, ◌++◌, false, inl, inr, Option, Some, None, Ok, Err, append-nil, Grows, Grows-Grows, Timed, Command, End, Reading}
+use Rattle.fw_trace.proofs.Common.{TakesMore, Advances, behind, Stage, Commands, Done, DeskRelations, Standing, course_of, Telling, caused_text, untold, Traced, begun, lines_from, last_lines}
+use Rattle.fw_trace.proofs.Common.{telling_behind, Part, PartsRun, lines_of, part_text, HasLines, Begun, Tracing, kept_from}
+use Rattle.std.proofs.Common.{◌≢◌}
+use Rattle.fw_outside.specs.Outside.{Takes}
+use Rattle.fw_outside.proofs.Parts.{Takes-Takes}
+use Rattle.fw_script_command.specs.Form.{HasForm}
 use Rattle.fw_script.specs.Line.{is_skipped}
-use Rattle.fw_script.specs.Reading.{Reading, Answer, IsLine, GivesFirst, command as on_line, GivesNext, TakesMore, Advances, behind, at_stage}
-use Rattle.fw_script.specs.declared.stage.Stage.{Stage}
-use Rattle.fw_script.specs.declared.stage.Stage.TheVariants.{Commands, Done}
+use Rattle.fw_script.specs.Reading.{Answer, IsLine, GivesFirst, command as on_line, GivesNext, at_stage}
 use Rattle.fw_script.proofs.GivesLaws.{gives_once}
 use Rattle.fw_script.proofs.LineLaws.{line_more}
-use Rattle.fw_run.specs.Desks.{DeskRelations}
-use Rattle.fw_bus.specs.Buses.{Standing}
-use Rattle.fw_run.specs.Rules.{Decides}
-use Rattle.fw_simulate.specs.Going.{Carried, course_of}
-use Rattle.fw_tracer.specs.Caused.{Telling, caused_text, untold}
-use Rattle.fw_tracer.specs.Commands.{Traced, begun, ended, lines_from, last_lines, telling_behind, command_lines, jobs_given}
-use Rattle.fw_trace.specs.Parts.{Part, PartsRun, place_of, bytes_of, lines_of, part_text}
-use Rattle.fw_trace.specs.Tracing.{HasLines, IsOver, IsSplit, Begun, Tracing, kept_from}
+use Rattle.fw_model_run.specs.Rules.{Decides}
+use Rattle.fw_script_words.specs.Going.{Carried}
+use Rattle.fw_trace_lines.specs.Commands.{ended, command_lines, jobs_given}
+use Rattle.fw_trace.specs.Parts.{place_of, bytes_of}
+use Rattle.fw_trace.specs.Tracing.{IsOver, IsSplit}
 use Rattle.fw_trace.proofs.HeldLaws.{end_given}
 use Rattle.fw_trace.proofs.PartLaws.{free_more, lines_looked, lines_behind, lines_more, bytes_more, kept_more}
 use Rattle.fw_trace.proofs.RunLaws.{going_bytes}
 use Rattle.fw_trace.proofs.TextLaws.{command_text, told_more}
 
--- a line that is held stays the next one where more is taken
+-- a line that is held stays the next one if more is taken
 line_known : (p known : Reading) (left left' : Option (List ℕ)) (text : List ℕ) (size : ℕ) → TakesMore p known left left' → IsLine p text size → IsLine known text size
 line_known p known left left' text size m l = subst (λ (q : Reading). IsLine q text size) (sym m.now) (line_more p text m.taken known.whole size m.kept l)
 
@@ -45,7 +39,7 @@ command_in (Ok (Some d)) e = d
 command_in (Ok None) e = e
 command_in (Err f) e = e
 
--- the command that was given is that of the line, and the reading stands behind it
+-- the command that was given is that of the line, and the reading stands after it
 pub line_carried : (p new : Reading) (left mid left' : Option (List ℕ)) (parts : List Part) (text : List ℕ) (size : ℕ) (c other : Command) (entries : List Timed) (place : Option (ℕ × ℕ))
     → HasLines left mid parts p → IsLine p text size → is_skipped text ≡ false → p.stage ≡ Commands → HasForm c text → c ≢ End
     → Advances p new mid left' (Ok (Some other)) → (other ≡ c) × HasLines left left' (parts ++ Part.command text c entries place ∷ []) new × IsOver new

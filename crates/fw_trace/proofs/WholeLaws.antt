@@ -1,40 +1,22 @@
 -- A trace that ends where its run has ended.
-use Rattle.std.proofs.Common.{◌≡◌, refl, sym, ap, subst, ◌∙◌, ℕ, ◌+◌, ◌<◌, Bool, List, [], ◌++◌, length, ◌⊎◌, Option, Some, None, Ok, Err, arith}
-use Rattle.std.proofs.lemmas.List.{append-nil, length-append}
-use Rattle.std.proofs.Math.Logic.{∥∥₁_elim}
+use Rattle.fw_trace.proofs.Common.{◌≡◌, refl, sym, ap, subst, ◌∙◌, ℕ, ◌+◌, ◌<◌, Bool, List, [], ◌++◌, length, ◌⊎◌, Option, Some, None, Ok, Err, arith, append-nil, length-append, ∥∥₁_elim, Grows}
+use Rattle.fw_trace.proofs.Common.{ReadFault, WriteFault, TooLong, NoMemory, Grows-Grows, header_bytes, Two, LogState, Command, End, Reading, Advances, DeskRelations, log_bytes, Standing, Course}
+use Rattle.fw_trace.proofs.Common.{course_of, RunEnding, Refused, Stopped, Traced, Lack, Memory, PartsRun, AreLines, trace_text, Base, WasPassed, Tells, TellsBy, fails_by, Traces, TellsFront, Begun}
 use Rattle.std.specs.Coded.{Coded-set, coded_ℕ, coded_list}
-use Rattle.fw_outside.specs.Outside.{Grows}
-use Rattle.fw_outside.specs.declared.stop.Stop.TheVariants.{ReadFault, WriteFault, TooLong, NoMemory}
-use Rattle.fw_outside.proofs.Parts.{Grows-Grows}
-use Rattle.fw_entry.specs.Log.{header_bytes}
-use Rattle.fw_entry.specs.declared.version.Version.TheVariants.{Two}
-use Rattle.fw_log.specs.Reader.{State as LogState}
-use Rattle.fw_command.specs.declared.command.Command.{Command}
-use Rattle.fw_command.specs.declared.command.Command.TheVariants.{End}
-use Rattle.fw_script.specs.Reading.{Reading, Answer, Advances}
+use Rattle.fw_script.specs.Reading.{Answer}
 use Rattle.fw_script.specs.declared.ScriptFault.TheVariants as Fault
 use Rattle.fw_script.specs.declared.stage.Stage.TheVariants.{Done as AtEnd}
-use Rattle.fw_run.specs.Desks.{DeskRelations}
-use Rattle.fw_run.specs.Giving.{log_bytes}
-use Rattle.fw_bus.specs.Buses.{Standing}
-use Rattle.fw_simulate.specs.Counts.{WriteCount}
-use Rattle.fw_simulate.specs.Course.{Course, refused_answer}
-use Rattle.fw_simulate.specs.Ending.{RefusesBy}
-use Rattle.fw_simulate.specs.Going.{Ended, course_of}
-use Rattle.fw_simulate.specs.declared.ending.RunEnding.{RunEnding}
-use Rattle.fw_simulate.specs.declared.ending.RunEnding.TheVariants.{Done, Refused, Stopped}
-use Rattle.fw_simulate.specs.declared.ending.Refusal.{Refusal}
-use Rattle.fw_simulate.specs.declared.ending.Refusal.TheVariants.{BadLine, LineTooLong, NoEnd, Rule}
-use Rattle.fw_simulate.proofs.Completions.{other_than_end}
-use Rattle.fw_tracer.specs.Commands.{Traced}
-use Rattle.fw_trace.specs.declared.lack.Lack.{Lack}
-use Rattle.fw_trace.specs.declared.lack.Lack.TheVariants.{Memory, Sink}
-use Rattle.fw_trace.specs.Parts.{PartsRun, AreLines, trace_text}
-use Rattle.fw_trace.specs.Framing.{Base}
-use Rattle.fw_trace.specs.Passed.{WasPassed}
-use Rattle.fw_trace.specs.Telling.{Tells, TellsBy, fails_by, faults_by}
-use Rattle.fw_trace.specs.Traces.{Traces, TellsRun, TellsFront, LeavesOut, ending_by}
-use Rattle.fw_trace.specs.Tracing.{Begun}
+use Rattle.fw_script_words.specs.Counts.{WriteCount}
+use Rattle.fw_script_words.specs.Course.{refused_answer}
+use Rattle.fw_script_words.specs.Ending.{RefusesBy}
+use Rattle.fw_script_words.specs.Going.{Ended}
+use Rattle.fw_script_words.specs.declared.ending.RunEnding.TheVariants.{Done}
+use Rattle.fw_script_words.specs.declared.ending.Refusal.{Refusal}
+use Rattle.fw_script_words.specs.declared.ending.Refusal.TheVariants.{BadLine, LineTooLong, NoEnd, Rule}
+use Rattle.fw_script_words.proofs.Completions.{other_than_end}
+use Rattle.fw_trace.specs.declared.lack.Lack.TheVariants.{Sink}
+use Rattle.fw_trace.specs.Telling.{faults_by}
+use Rattle.fw_trace.specs.Traces.{TellsRun, LeavesOut, ending_by}
 use Rattle.fw_trace.proofs.CarriedLaws.{FramedStep}
 use Rattle.fw_trace.proofs.CutLaws.{cut_traced}
 use Rattle.fw_trace.proofs.EndedLaws.{IsWhole, are_lines, ended_bytes}

@@ -3,8 +3,8 @@
 use Rattle.std.specs.Prelude.{ℕ, List, ◌∷◌, Option}
 use Rattle.std.specs.Coded.{Coded, coded_ℕ, coded_list, coded_option, coded×}
 use base.Stored.{Gv, gnil, gnum, gcons}
-use Rattle.fw_tracer.specs.Commands.{Traced}
-use Rattle.fw_tracer.specs.contracts.tracer.Tracer.{the_row}
+use Rattle.fw_trace_lines.specs.Commands.{Traced}
+use Rattle.fw_trace_lines.specs.contracts.tracer.Tracer.{the_row}
 
 -- a tree of numbers, spelled before a list
 abbrev pub spelled : Gv → List ℕ → List ℕ
@@ -21,6 +21,6 @@ Base = ℕ × (Option (List ℕ) × (ℕ × (Traced × List ℕ)))
 abbrev pub base_code : Coded Base
 base_code = coded× coded_ℕ (coded× (coded_option (coded_list coded_ℕ)) (coded× coded_ℕ (coded× the_row.coded (coded_list coded_ℕ))))
 
--- what it stands on, and the bytes behind it
+-- what it stands on, and the bytes after it
 unfoldable pub framed : Base → List ℕ → List ℕ
 framed base bytes = spelled (base_code.code base) bytes

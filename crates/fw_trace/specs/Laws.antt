@@ -1,14 +1,14 @@
 -- What holds of every trace.
 use Rattle.std.specs.Prelude.{◌≡◌, ℕ, List, [], ◌∷◌, ◌++◌, Option, Some, ⊤}
 use Rattle.fw_outside.specs.declared.stop.Stop.TheVariants.{ReadFault, WriteFault, TooLong, NoMemory}
-use Rattle.fw_run.specs.Desks.{DeskRelations}
-use Rattle.fw_simulate.specs.Course.{course_at}
-use Rattle.fw_simulate.specs.Ending.{Runs}
-use Rattle.fw_simulate.specs.declared.ending.RunEnding.{RunEnding}
-use Rattle.fw_simulate.specs.declared.ending.RunEnding.TheVariants.{Done, Refused, Stopped}
-use Rattle.fw_tracer.specs.Caused.{Caused, Telling, untold}
-use Rattle.fw_tracer.specs.Commands.{begun, command_lines}
-use Rattle.fw_tracer.specs.Laws.{entries_told, entries_due}
+use Rattle.fw_model_run.specs.Desks.{DeskRelations}
+use Rattle.fw_script_words.specs.Course.{course_at}
+use Rattle.fw_script_words.specs.Ending.{Runs}
+use Rattle.fw_script_words.specs.declared.ending.RunEnding.{RunEnding}
+use Rattle.fw_script_words.specs.declared.ending.RunEnding.TheVariants.{Done, Refused, Stopped}
+use Rattle.fw_trace_lines.specs.Caused.{Caused, Telling, untold}
+use Rattle.fw_trace_lines.specs.Commands.{begun, command_lines}
+use Rattle.fw_trace_lines.specs.Laws.{entries_told, entries_due}
 use Rattle.fw_trace.specs.Parts.{Part, kept_after}
 use Rattle.fw_trace.specs.Traces.{Traces, TellsRun}
 

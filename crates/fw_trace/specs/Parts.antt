@@ -1,23 +1,23 @@
 -- The parts of a trace: the lines of a script that were told, each with what it caused, and the end.
 use Rattle.std.specs.Prelude.{◌≡◌, ◌≢◌, ◌⊎◌, ℕ, ◌+◌, List, [], ◌∷◌, ◌++◌, true, Option, Some, None, Ok, ⊤}
 use Rattle.fw_outside.specs.Outside.{Takes}
-use Rattle.fw_entry.specs.declared.entry.Timed.{Timed}
-use Rattle.fw_command.specs.Form.{HasForm}
-use Rattle.fw_command.specs.Pieces.{IsFree}
-use Rattle.fw_command.specs.declared.command.Command.{Command}
-use Rattle.fw_command.specs.declared.command.Command.TheVariants.{End}
+use Rattle.fw_log_entry.specs.declared.entry.Timed.{Timed}
+use Rattle.fw_script_command.specs.Form.{HasForm}
+use Rattle.fw_script_command.specs.Pieces.{IsFree}
+use Rattle.fw_script_command.specs.declared.command.Command.{Command}
+use Rattle.fw_script_command.specs.declared.command.Command.TheVariants.{End}
 use Rattle.fw_script.specs.Line.{is_skipped}
-use Rattle.fw_run.specs.declared.order.Order.{Order}
-use Rattle.fw_run.specs.declared.order.Order.TheVariants as order
-use Rattle.fw_run.specs.State.{first_state}
-use Rattle.fw_run.specs.State as Run
-use Rattle.fw_run.specs.Actions.{Action}
-use Rattle.fw_run.specs.Carrying.{Carries}
-use Rattle.fw_run.specs.Rules.{Decides}
-use Rattle.fw_tracer.specs.Lines.{line_text}
-use Rattle.fw_tracer.specs.Caused.{Telling, untold, caused_text}
-use Rattle.fw_tracer.specs.Commands.{begun, ended, telling_behind, command_lines}
-use Rattle.fw_simulate.specs.Course.{Course}
+use Rattle.fw_order.specs.declared.order.Order.{Order}
+use Rattle.fw_order.specs.declared.order.Order.TheVariants as order
+use Rattle.fw_model_run.specs.State.{first_state}
+use Rattle.fw_model_run.specs.State as Run
+use Rattle.fw_model_run.specs.Actions.{Action}
+use Rattle.fw_model_run.specs.Carrying.{Carries}
+use Rattle.fw_model_run.specs.Rules.{Decides}
+use Rattle.fw_trace_lines.specs.Lines.{line_text}
+use Rattle.fw_trace_lines.specs.Caused.{Telling, untold, caused_text}
+use Rattle.fw_trace_lines.specs.Commands.{begun, ended, telling_behind, command_lines}
+use Rattle.fw_script_words.specs.Course.{Course}
 
 -- the controller, by its device, and the slot that a new connection takes
 abbrev pub place_of : Order → Option (ℕ × ℕ)
@@ -32,7 +32,7 @@ pub data Part : Type 0 where
 
 -- ---- what is told
 
--- what is told of a part, where so many lines stand before it
+-- what is told of a part, if so many lines stand before it
 abbrev pub part_text : ℕ → Telling → Part → List ℕ
 part_text lines t (Part.line text) = line_text (lines + 1) text
 part_text lines t (Part.command text c entries place) = line_text (lines + 1) text ++ caused_text (command_lines (begun c t) entries)
@@ -44,7 +44,7 @@ kept_after t (Part.line text) = t
 kept_after t (Part.command text c entries place) = ended c place (telling_behind (begun c t) entries)
 kept_after t (Part.end entries) = ended End None (telling_behind t entries)
 
--- the lines behind it
+-- the lines after it
 abbrev pub lines_after : ℕ → Part → ℕ
 lines_after lines (Part.line text) = lines + 1
 lines_after lines (Part.command text c entries place) = lines + 1
@@ -97,7 +97,7 @@ abbrev pub lines_of : ℕ → List Part → ℕ
 lines_of lines [] = lines
 lines_of lines (p ∷ ps) = lines_of (lines_after lines p) ps
 
--- Bytes were taken that begin with the lines of the parts, and others may follow; the last line may lack its line feed where none follow.
+-- Bytes were taken that begin with the lines of the parts, and others may follow; the last line may lack its line feed if none follow.
 pub record AreLines (left left' : Option (List ℕ)) (parts : List Part) : Type 0 where
   pub taken : List ℕ
   pub takes : Takes left left' taken

@@ -5,19 +5,19 @@ use Rattle.fw_outside.specs.Outside.{Grows, Rose}
 use Rattle.fw_trace.specs.declared.lack.Lack.{Lack}
 use Rattle.fw_trace.specs.declared.lack.Lack.TheVariants.{Memory, Sink}
 
--- told bytes have grown by a front of these; who does not tell goes on not telling
+-- told bytes have grown by a prefix of these; who does not tell goes on not telling
 abbrev pub GrowsFront : Option (List ℕ) → Option (List ℕ) → List ℕ → Type 0
 GrowsFront None None bs = ⊤
 GrowsFront None (Some ys) bs = ⊥
 GrowsFront (Some xs) None bs = ⊥
 GrowsFront (Some xs) (Some ys) bs = ys ≡ xs ++ take (length ys - length xs) bs
 
--- These bytes were passed on to a sink, by what it held before and after, and how often it had failed; or a front of them, where it failed.
+-- These bytes were passed on to a sink, by what it held before and after, and how often it had failed; or a prefix of them, if it failed.
 abbrev pub WasPassed : Bool → Option (List ℕ) → Option (List ℕ) → ℕ → ℕ → List ℕ → Type 0
 WasPassed false held held' faults faults' bs = Grows held held' bs × (faults' ≡ faults)
 WasPassed true held held' faults faults' bs = GrowsFront held held' bs × Rose faults faults'
 
--- a text was passed on, or nothing of it where memory ran out, or a front of it where the sink failed
+-- a text was passed on, or nothing of it if memory ran out, or a prefix of it if the sink failed
 abbrev pub PassesBy : Result (Unit {0}) Lack → Option (List ℕ) → Option (List ℕ) → ℕ → ℕ → List ℕ → Type 0
 PassesBy (Ok _) held held' faults faults' text = Grows held held' text × (faults' ≡ faults)
 PassesBy (Err Memory) held held' faults faults' text = (held' ≡ held) × (faults' ≡ faults)

@@ -1,10 +1,10 @@
 -- What a sink that tells has read and told since a command began.
 use Rattle.std.specs.Prelude.{◌≡◌, ℕ, ◌^◌, ◌-◌, ◌≤◌, Bool, true, false, List, [], ◌++◌, length, take, Option, Some, None, Result, Ok, Err, ⊤}
-use Rattle.fw_entry.specs.declared.entry.Timed.{Timed}
+use Rattle.fw_log_entry.specs.declared.entry.Timed.{Timed}
 use Rattle.fw_log.specs.History.{HasRead}
 use Rattle.fw_log.specs.Reader.{State}
-use Rattle.fw_tracer.specs.Caused.{caused_text, entry_lines, telling_after}
-use Rattle.fw_tracer.specs.Commands.{Traced, lines_from, telling_behind}
+use Rattle.fw_trace_lines.specs.Caused.{caused_text, entry_lines, telling_after}
+use Rattle.fw_trace_lines.specs.Commands.{Traced, lines_from, telling_behind}
 use Rattle.fw_trace.specs.declared.lack.Lack.{Lack}
 use Rattle.fw_trace.specs.declared.lack.Lack.TheVariants.{Memory, Sink}
 
@@ -48,7 +48,7 @@ pub record TakesSome (entries : List Timed) (bytes piece rest : List ℕ) (t t' 
   pub taken : TakesPart entries bytes done t t' reader'
 
 -- All bytes were read, some of them before the command began; what was passed on and what is still to be is the text of the command's
--- entries, behind what was to be passed on when it began. Before a byte of them is read nothing is passed on.
+-- entries, after what was to be passed on when it began. Before a byte of them is read nothing is passed on.
 pub record Tells (origin now : Traced) (reader : State) (count : ℕ) (earlier bytes passed : List ℕ) : Type 0 where
   pub before : List Timed
   pub out : List Timed
@@ -61,7 +61,7 @@ pub record Tells (origin now : Traced) (reader : State) (count : ℕ) (earlier b
   pub later : length earlier ≤ length bytes
   pub waits : bytes ≡ earlier → passed ≡ []
 
--- No more is told: some of the bytes were read, and what was passed on is a front of their text.
+-- No more is told: some of the bytes were read, and what was passed on is a prefix of their text.
 pub record ToldPart (origin : Traced) (earlier bytes passed : List ℕ) : Type 0 where
   pub before : List Timed
   pub out : List Timed

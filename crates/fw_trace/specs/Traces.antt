@@ -3,17 +3,17 @@
 use Rattle.std.specs.Prelude.{◌≡◌, ℕ, ◌+◌, ◌-◌, ◌<◌, List, [], ◌∷◌, ◌++◌, length, take, Option, Some, None, ⊤}
 use Rattle.fw_outside.specs.Outside.{Grows, AppendsFront}
 use Rattle.fw_outside.specs.declared.stop.Stop.TheVariants.{ReadFault, WriteFault, TooLong, NoMemory}
-use Rattle.fw_command.specs.Form.{HasForm}
-use Rattle.fw_command.specs.Pieces.{IsFree}
-use Rattle.fw_command.specs.declared.command.Command.TheVariants.{End}
-use Rattle.fw_run.specs.Actions.{Action, Steps}
-use Rattle.fw_run.specs.State.{State}
-use Rattle.fw_run.specs.Desks.{DeskRelations}
-use Rattle.fw_run.specs.Given.{AreGiven}
-use Rattle.fw_simulate.specs.Course.{Course, course_at}
-use Rattle.fw_simulate.specs.Ending.{Runs, Began}
-use Rattle.fw_simulate.specs.declared.ending.RunEnding.{RunEnding}
-use Rattle.fw_simulate.specs.declared.ending.RunEnding.TheVariants.{Done, Refused, Stopped}
+use Rattle.fw_script_command.specs.Form.{HasForm}
+use Rattle.fw_script_command.specs.Pieces.{IsFree}
+use Rattle.fw_script_command.specs.declared.command.Command.TheVariants.{End}
+use Rattle.fw_model_run.specs.Actions.{Action, Steps}
+use Rattle.fw_model_run.specs.State.{State}
+use Rattle.fw_model_run.specs.Desks.{DeskRelations}
+use Rattle.fw_model_run.specs.Given.{AreGiven}
+use Rattle.fw_script_words.specs.Course.{Course, course_at}
+use Rattle.fw_script_words.specs.Ending.{Runs, Began}
+use Rattle.fw_script_words.specs.declared.ending.RunEnding.{RunEnding}
+use Rattle.fw_script_words.specs.declared.ending.RunEnding.TheVariants.{Done, Refused, Stopped}
 use Rattle.fw_trace.specs.declared.lack.Lack.{Lack}
 use Rattle.fw_trace.specs.declared.lack.Lack.TheVariants.{Memory, Sink}
 use Rattle.fw_trace.specs.Parts.{Part, PartsRun, AreLines, bytes_of, trace_text, lines_of}
@@ -46,7 +46,7 @@ IsBegun D k (Part.command text c entries place ∷ ps) =
     (ps ≡ []) × HasForm c text × ((done : List Action) × (after : State) × Began (Some c) k.state done × AreGiven D (k.actions ++ done) × Steps k.state done entries after)
 IsBegun D k (Part.end entries ∷ ps) = (ps ≡ []) × ((done : List Action) × (after : State) × Began (Some End) k.state done × AreGiven D (k.actions ++ done) × Steps k.state done entries after)
 
--- The sink or memory failed: a front was written of the text of parts that were told, and of one that was begun, if any.
+-- The sink or memory failed: a prefix was written of the text of parts that were told, and of one that was begun, if any.
 pub record TellsFront (D : DeskRelations) (left left' held held' : Option (List ℕ)) : Type 0 where
   pub parts : List Part
   pub course : Course

@@ -1,28 +1,28 @@
 -- A trace that is under way: what was read, carried out and told so far, and what a line more does.
 use Rattle.std.specs.Prelude.{◌≡◌, ◌≢◌, ◌⊎◌, ℕ, ◌+◌, ◌<◌, ◌≤◌, List, [], ◌∷◌, ◌++◌, length, take, true, false, Option, Some, None, Ok, Err}
 use Rattle.fw_outside.specs.Outside.{Takes, Grows}
-use Rattle.fw_entry.specs.Log.{header_bytes}
-use Rattle.fw_entry.specs.declared.version.Version.TheVariants.{Two}
+use Rattle.fw_log_entry.specs.Log.{header_bytes}
+use Rattle.fw_log_entry.specs.declared.version.Version.TheVariants.{Two}
 use Rattle.fw_script.specs.Line.{is_skipped}
 use Rattle.fw_script.specs.Passing.{IsCommandNext}
 use Rattle.fw_script.specs.Reader.{HoldsLine}
 use Rattle.fw_script.specs.Reading.{Reading, Answer, GivesFirst, IsAtEndOfInput, IsLine, PassesLimit, at_stage}
 use Rattle.fw_script.specs.declared.ScriptFault.TheVariants.{BadLine, LineTooLong, NoEnd, ReadFault, TooLong}
 use Rattle.fw_script.specs.declared.stage.Stage.TheVariants.{Commands, Done}
-use Rattle.fw_command.specs.Form.{HasForm}
-use Rattle.fw_command.specs.declared.command.Command.{Command}
-use Rattle.fw_command.specs.declared.command.Command.TheVariants.{End}
-use Rattle.fw_entry.specs.declared.entry.Timed.{Timed}
-use Rattle.fw_run.specs.Rules.{Decides}
-use Rattle.fw_run.specs.declared.order.Order.{Order}
-use Rattle.fw_run.specs.Giving.{log_bytes}
-use Rattle.fw_run.specs.Desks.{DeskRelations}
+use Rattle.fw_script_command.specs.Form.{HasForm}
+use Rattle.fw_script_command.specs.declared.command.Command.{Command}
+use Rattle.fw_script_command.specs.declared.command.Command.TheVariants.{End}
+use Rattle.fw_log_entry.specs.declared.entry.Timed.{Timed}
+use Rattle.fw_model_run.specs.Rules.{Decides}
+use Rattle.fw_order.specs.declared.order.Order.{Order}
+use Rattle.fw_model_run.specs.Giving.{log_bytes}
+use Rattle.fw_model_run.specs.Desks.{DeskRelations}
 use Rattle.fw_bus.specs.Buses.{Standing}
-use Rattle.fw_tracer.specs.Caused.{Telling, untold}
-use Rattle.fw_tracer.specs.Commands.{Traced, begun}
-use Rattle.fw_tracer.specs.Lines.{line_text}
-use Rattle.fw_simulate.specs.Going.{Going, course_of, to_read}
-use Rattle.fw_simulate.specs.declared.ending.RunEnding.{RunEnding}
+use Rattle.fw_trace_lines.specs.Caused.{Telling, untold}
+use Rattle.fw_trace_lines.specs.Commands.{Traced, begun}
+use Rattle.fw_trace_lines.specs.Lines.{line_text}
+use Rattle.fw_script_words.specs.Going.{Going, course_of, to_read}
+use Rattle.fw_script_words.specs.declared.ending.RunEnding.{RunEnding}
 use Rattle.fw_trace.specs.Parts.{Part, PartsRun, HaveNoFeed, place_of, bytes_of, lines_of, kept_after, trace_text}
 use Rattle.fw_trace.specs.declared.lack.Lack.{Lack}
 use Rattle.fw_trace.specs.Passed.{GrowsFront}

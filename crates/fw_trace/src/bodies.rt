@@ -1,20 +1,22 @@
 //! The lines of an entry, of the bytes of its body: no fault is looked for, since a reader has found none.
 
-ghost use Rattle.std.specs.Prelude.{◌≡◌, IfSome, IfNone};
+ghost use Rattle.std.specs.Prelude.{◌≡◌, ◌++◌, IfSome, IfNone, OnOk};
 ghost use Rattle.fw_async.specs.Reader.{Spells, IsPacket};
 ghost use Rattle.fw_async.specs.declared.packet.Packet.{Packet as APacket};
 ghost use Rattle.fw_cip.specs.Iso.{Fits as IsoFits, IsSpelled, spelling as iso_spelling};
 ghost use Rattle.fw_cip.specs.declared.packet.IsoPacket.{IsoPacket as AnIso};
-ghost use Rattle.fw_entry.specs.declared.entry.Entry.{Entry as AnEntry};
-ghost use Rattle.fw_entry.specs.declared.entry.Entry.TheVariants.{Async, Iso};
+ghost use Rattle.fw_log_entry.specs.Log.{ResetFits, body};
+ghost use Rattle.fw_log_entry.specs.declared.entry.Entry.{Entry as AnEntry};
+ghost use Rattle.fw_log_entry.specs.declared.entry.Entry.TheVariants.{Async, Iso, Reset};
+ghost use Rattle.fw_log_entry.specs.declared.entry.ResetEntry.{ResetEntry as AReset};
 ghost use Rattle.fw_log.specs.Passing.{HasBody};
 ghost use Rattle.fw_trace.specs.Telling.{PutsEntry};
 
-use fw_async::whole_packet;
 use fw_cip::whole_iso;
-use fw_entry::{Entry, Timed};
 use fw_log::PlainBody;
-use fw_tracer::Tracer;
+use fw_log_entry::{BorrowedReset, Entry, Timed};
+use fw_log_latest::LatestReset;
+use fw_trace_lines::Tracer;
 use std::alloc::AllocError;
 
 // Adds the lines of a packet.
@@ -22,8 +24,7 @@ fn put_packet(tracer: &mut Tracer, cycle: u64, bytes: &[u8]) -> Result<(), Alloc
     requires { IsPacket bytes.now }
     ensures { (p : APacket) → Spells p bytes.now → PutsEntry (record { cycle = cycle; what = Async p }) tracer.old tracer.new result }
 {
-    let what = Entry::Async(whole_packet(bytes));
-    tracer.put(&Timed { cycle, what })
+    tracer.put_bytes(cycle, bytes)
 }
 
 // Adds the lines of an isochronous packet.
@@ -34,10 +35,30 @@ fn put_iso(tracer: &mut Tracer, cycle: u64, bytes: &[u8]) -> Result<(), AllocErr
     tracer.put_iso(cycle, &whole_iso(bytes))
 }
 
-/// Adds the lines of an entry of this cycle that has this body, if it is a packet.
+// Adds the lines of a bus reset, if it is the latest but for its epoch.
+fn put_again(
+    tracer: &mut Tracer,
+    latest: &mut LatestReset,
+    cycle: u64,
+    bytes: &[u8],
+) -> Option<Result<(), AllocError>>
+    requires { (r : AReset) × ResetFits r × (body (Reset r) ≡ bytes.now) }
+    ensures puts { (r : AReset) → ResetFits r → body (Reset r) ≡ bytes.now
+        → IfSome result (PutsEntry (record { cycle = cycle; what = Reset r }) tracer.old tracer.new) }
+    ensures same { IfNone result (tracer.new ≡ tracer.old) }
+{
+    if !latest.renew(bytes) {
+        return None;
+    }
+    let what = Entry::Reset(BorrowedReset::new(latest.get()));
+    Some(tracer.put(&Timed { cycle, what }))
+}
+
+/// Adds the lines of an entry of this cycle that has this body, if it is a packet, or the latest bus reset but for its epoch.
 #[inline(always)]
 pub(crate) fn put_body(
     tracer: &mut Tracer,
+    latest: &mut LatestReset,
     cycle: u64,
     body: &PlainBody,
 ) -> Option<Result<(), AllocError>>
@@ -48,6 +69,6 @@ pub(crate) fn put_body(
     match body {
         PlainBody::Packet(bytes) => Some(put_packet(tracer, cycle, bytes.as_slice())),
         PlainBody::Iso(bytes) => Some(put_iso(tracer, cycle, bytes.as_slice())),
-        PlainBody::Reset(_) => None,
+        PlainBody::Reset(bytes) => put_again(tracer, latest, cycle, bytes.as_slice()),
     }
 }

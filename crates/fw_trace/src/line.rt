@@ -4,16 +4,16 @@ ghost use Rattle.std.specs.Prelude.{◌≡◌, ◌⊎◌, None, IfNone};
 ghost use Rattle.fw_script.specs.Reader.{HoldsLine};
 ghost use Rattle.fw_script.specs.declared.stage.Stage.TheVariants.{Done as AtEnd};
 ghost use Rattle.fw_tape.specs.Desks.{AnyBlock, AnyVendorByte};
-ghost use Rattle.fw_simulate.specs.Counts.{ReadsOn, WritesOn};
+ghost use Rattle.fw_script_words.specs.Counts.{ReadsOn, WritesOn};
 ghost use Rattle.fw_trace.specs.Tracing.{HoldsCommand, HoldsNoCommand, IsTracing, TracesFrom};
 
 use crate::step::{carry, place_of, stopped};
 use crate::telling::TellingSink;
 use fw_bus::Bus;
-use fw_command::Command;
 use fw_outside::{Sink, Source, Stop};
 use fw_script::{Said, ScriptReader};
-use fw_simulate::RunEnding;
+use fw_script_command::Command;
+use fw_script_words::RunEnding;
 use fw_tape::Desk;
 
 // Carries out the end, or ends the run: no command stands next.

@@ -3,8 +3,8 @@
 ghost use Rattle.std.specs.Prelude.{◌≡◌, ◌++◌, [], true, false, OnOk, OnErr};
 ghost use Rattle.fw_trace.specs.Passed.{WasPassed};
 
-use fw_history::{History, Piece};
 use fw_outside::{Failed, Sink};
+use fw_outside_history::{History, Piece};
 use std::snapshot::Snapshot;
 
 /// What a sink was given, until it failed. `start` is the sink as it was when a command began, and `given` are the bytes that it was given

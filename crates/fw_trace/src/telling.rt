@@ -4,17 +4,18 @@ ghost use Rattle.std.specs.Prelude.{◌≡◌, ◌++◌, ◌<◌, [], None, Some
 ghost use Rattle.std.specs.Coded.{→_prop, Coded-set, coded_ℕ};
 ghost use Rattle.fw_outside.specs.Outside.{HasCause, Writes};
 ghost use Rattle.fw_log.specs.Reader.{total};
-ghost use Rattle.fw_tracer.specs.Commands.{Traced};
+ghost use Rattle.fw_trace_lines.specs.Commands.{Traced};
 ghost use Rattle.fw_trace.specs.Passed.{WasPassed};
 ghost use Rattle.fw_trace.specs.Telling.{Tells, TellsBy, fails_by, faults_by};
 
 use crate::entries::take_entries;
 use crate::lack::Lack;
 use crate::passed::Passed;
-use fw_history::{History, Piece};
 use fw_log::{LogReader, Room};
+use fw_log_latest::LatestReset;
 use fw_outside::{Failed, Sink};
-use fw_tracer::Tracer;
+use fw_outside_history::{History, Piece};
+use fw_trace_lines::Tracer;
 use std::snapshot::Snapshot;
 
 mod sink;
@@ -22,12 +23,16 @@ mod steps;
 
 pub(crate) use sink::TellingSink;
 
+/// How many bytes of text are much.
+const MUCH: usize = 4096;
+
 /// What is told to a sink, and what of the log it was told for. What it was when a command began, and what it was given since, stands in
 /// contracts alone.
 #[derive(Drop)]
 pub(crate) struct Teller<K: Sink> {
     passed: Passed<K>,
     tracer: Tracer,
+    latest: LatestReset,
     reader: LogReader,
     room: Room,
     count: u64,
@@ -63,11 +68,33 @@ fn pass_on<K: Sink>(
     result
 }
 
+// Passes on what is to be told, if it is much: little is passed on with what comes next, at the end of a command at the latest.
+fn pass_much<K: Sink>(
+    passed: &mut Passed<K>,
+    inner: &mut K,
+    tracer: &mut Tracer,
+) -> Result<(), Failed>
+    requires failed { passed.old.failed ≡ false }
+    requires passed { WasPassed passed.old.failed (K.held passed.old.start.value) (K.held inner.old) (K.faults passed.old.start.value) (K.faults inner.old) passed.old.given.bytes }
+    ensures start { passed.new.start.value ≡ passed.old.start.value }
+    ensures given { passed.new.given.bytes ++ tracer.new.text ≡ passed.old.given.bytes ++ tracer.old.text }
+    ensures telling { tracer.new.telling ≡ tracer.old.telling }
+    ensures written { OnOk result (passed.new.failed ≡ false) }
+    ensures stopped { OnErr result (passed.new.failed ≡ true) }
+    ensures passed { WasPassed passed.new.failed (K.held passed.new.start.value) (K.held inner.new) (K.faults passed.new.start.value) (K.faults inner.new) passed.new.given.bytes }
+{
+    if tracer.as_slice().len() < MUCH {
+        return Ok(());
+    }
+    pass_on(passed, inner, tracer)
+}
+
 // Reads a piece, and passes on what is told of its entries. Answers what lacks, if anything.
 fn tell<K: Sink>(
     passed: &mut Passed<K>,
     inner: &mut K,
     tracer: &mut Tracer,
+    latest: &mut LatestReset,
     reader: &mut LogReader,
     room: &mut Room,
     count: &mut u64,
@@ -87,10 +114,10 @@ fn tell<K: Sink>(
         return Some(Lack::Memory);
     };
     *count = more;
-    let Ok(()) = take_entries(tracer, reader, room, piece) else {
+    let Ok(()) = take_entries(tracer, latest, reader, room, piece) else {
         return Some(Lack::Memory);
     };
-    match pass_on(passed, inner, tracer) {
+    match pass_much(passed, inner, tracer) {
         Ok(()) => None,
         Err(Failed) => Some(Lack::Sink),
     }
@@ -120,6 +147,7 @@ impl<K: Sink> Teller<K> {
             &mut self.passed,
             inner,
             &mut self.tracer,
+            &mut self.latest,
             &mut self.reader,
             &mut self.room,
             &mut self.count,

@@ -2,12 +2,12 @@
 
 ghost use Rattle.std.specs.Prelude.{◌≡◌, [], None, Some, List, ℕ, IsFalse};
 ghost use Rattle.fw_bus.specs.Buses.{StandsFor};
-ghost use Rattle.fw_run.specs.State.{first_state};
+ghost use Rattle.fw_model_run.specs.State.{first_state};
 ghost use Rattle.fw_script.specs.Reading.{unread};
 ghost use Rattle.fw_tape.specs.Desks.{AnyBlock, AnyVendorByte};
-ghost use Rattle.fw_simulate.specs.Counts.{ReadCount, WriteCount, WritesOn};
-ghost use Rattle.fw_simulate.specs.Scripts.{IsValid, IsNoRefusal};
-ghost use Rattle.fw_tracer.specs.Caused.{untold};
+ghost use Rattle.fw_script_words.specs.Counts.{ReadCount, WriteCount, WritesOn};
+ghost use Rattle.fw_script_words.specs.Scripts.{IsValid, IsNoRefusal};
+ghost use Rattle.fw_trace_lines.specs.Caused.{untold};
 ghost use Rattle.fw_trace.specs.Traces.{Traces};
 ghost use Rattle.fw_trace.specs.Tracing.{IsBeginning};
 
@@ -15,10 +15,10 @@ use crate::line::trace_next;
 use crate::step::ending_of;
 use crate::telling::{Teller, TellingSink};
 use fw_bus::Bus;
-use fw_entry::{Version, write_header};
+use fw_log_entry::{Version, write_header};
 use fw_outside::{Failed, Sink, Source, Stop};
 use fw_script::ScriptReader;
-use fw_simulate::RunEnding;
+use fw_script_words::RunEnding;
 use fw_tape::Desk;
 use std::alloc::Global;
 
@@ -75,7 +75,7 @@ fn trace_all<S: Source, K: Sink, F: Fn(u16, u32, u16) -> [u8; 480], H: Fn(u32, u
 }
 
 /// Reads a script and carries out its commands on a new bus, as `run` does, and writes in place of the log the lines of the script, each
-/// followed by what it caused. The text takes memory as it grows: if none is left, a front of it was written.
+/// followed by what it caused. The text takes memory as it grows: if none is left, a prefix of it was written.
 pub fn trace<S: Source, K: Sink, F: Fn(u16, u32, u16) -> [u8; 480], H: Fn(u32, u8) -> u8>(
     alloc: Global,
     source: &mut S,

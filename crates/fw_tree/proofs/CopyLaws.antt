@@ -1,9 +1,6 @@
 -- Two cablings are the same if their devices have the same cables: elsewhere no cable is.
-use Rattle.std.proofs.Common.{◌≡◌, inl, inr, ℕ, ◌<◌, ◌≤◌, List, [], None, slice_index_or, arith, sym, ◌∙◌}
-use Rattle.std.proofs.lemmas.Bool.{cases_lt}
+use Rattle.fw_tree.proofs.Common.{◌≡◌, inl, inr, ℕ, ◌<◌, ◌≤◌, List, [], None, slice_index_or, arith, sym, ◌∙◌, cases_lt, PhyFacts, Peers, peer}
 use Rattle.std.proofs.lemmas.List.{ext_get_or}
-use Rattle.fw_tree.specs.declared.facts.PhyFacts.{PhyFacts}
-use Rattle.fw_tree.specs.Cables.{Peers, peer}
 use Rattle.fw_tree.specs.Topology.{IsKept}
 use Rattle.fw_tree.proofs.ForestLaws.{none_of}
 use Rattle.fw_tree.proofs.PlacedLaws.{declared_of}

@@ -1,7 +1,7 @@
 -- Counts of devices, and numbers that are each of one device.
-use Rattle.std.proofs.Common.{add-one, add-zero, ◌≡◌, ◌⊎◌, inl, inr, ℕ, zero, suc, ◌<◌, ◌≤◌, ◌+◌, List, length, Option, Some, None, Bool, true, false, slice_set, if◌then◌else◌, arith, refl, sym, ap, ◌∙◌, get_or-set_same, get_or-set_other}
-use Rattle.std.proofs.lemmas.Bool.{cases_eq}
-use Rattle.fw_tree.specs.Numbers.{counted, number_at, is_there, has_number, AreNodes}
+use Rattle.fw_tree.proofs.Common.{◌≡◌, ◌⊎◌, inl, inr, ℕ, zero, suc, ◌<◌, ◌≤◌, ◌+◌, List, length, Option, Some, None, Bool, true, false, slice_set, if◌then◌else◌, arith, refl, sym, ap, ◌∙◌}
+use Rattle.fw_tree.proofs.Common.{get_or-set_same, get_or-set_other, cases_eq, counted, number_at, is_there, has_number, AreNodes}
+use Rattle.std.proofs.Common.{add-one, add-zero}
 
 pub counted_none : (f : ℕ → Bool) → counted f 0 ≡ 0
 unfolding counted
@@ -94,7 +94,7 @@ set_else number d n v differ = get_or-set_other number d v (Some n) None differ
 pub there : (o : Option ℕ) (n : ℕ) → o ≡ Some n → is_there o ≡ true
 there o n e = rw e refl
 
--- where no device has a number
+-- if no device has a number
 pub nodes_blank : (number : List (Option ℕ)) → ((d : ℕ) → number_at number d ≡ None) → AreNodes number (counted (has_number number) 63)
 nodes_blank number blank = rw (counted_zero (has_number number) 63 (λ k. ap is_there (blank k))) (record {
   below = λ d n e. absurd (let b = blank d in let z : ⊥ = cc in z);
@@ -103,11 +103,14 @@ nodes_blank number blank = rw (counted_zero (has_number number) 63 (λ k. ap is_
 })
 
 -- one device more has a number
-pub counted_set : (number : List (Option ℕ)) (d n : ℕ) → d < length number → d < 63 → has_number number d ≡ false → counted (has_number (slice_set number d (Some n))) 63 ≡ counted (has_number number) 63 + 1
-counted_set number d n size low free = counted_more (has_number number) (has_number (slice_set number d (Some n))) 63 d low free (there (number_at (slice_set number d (Some n)) d) n (set_there number d n size)) (λ k differ. ap is_there (set_else number d n k differ))
+pub counted_set : (number : List (Option ℕ)) (d n : ℕ) → d < length number → d < 63 → has_number number d ≡ false
+    → counted (has_number (slice_set number d (Some n))) 63 ≡ counted (has_number number) 63 + 1
+counted_set number d n size low free = counted_more (has_number number) (has_number (slice_set number d (Some n))) 63 d low free
+    (there (number_at (slice_set number d (Some n)) d) n (set_there number d n size)) (λ k differ. ap is_there (set_else number d n k differ))
 
 -- one device more takes the next number
-pub nodes_set : (number : List (Option ℕ)) (d n : ℕ) → d < length number → d < 63 → has_number number d ≡ false → n ≡ counted (has_number number) 63 → AreNodes number (counted (has_number number) 63) → AreNodes (slice_set number d (Some n)) (counted (has_number (slice_set number d (Some n))) 63)
+pub nodes_set : (number : List (Option ℕ)) (d n : ℕ) → d < length number → d < 63 → has_number number d ≡ false → n ≡ counted (has_number number) 63 → AreNodes number (counted (has_number number) 63)
+    → AreNodes (slice_set number d (Some n)) (counted (has_number (slice_set number d (Some n))) 63)
 nodes_set number d n size low free count nodes =
     let more : counted (has_number (slice_set number d (Some n))) 63 ≡ counted (has_number number) 63 + 1 = counted_set number d n size low free in
     rw more (record {

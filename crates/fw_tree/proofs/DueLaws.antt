@@ -1,14 +1,9 @@
 -- Who may leave in the next round: those that are joined to one that left.
-use Rattle.std.proofs.Common.{◌≡◌, ◌⊎◌, inl, inr, ℕ, zero, suc, suc, ◌<◌, ◌≤◌, ◌+◌, ◌==◌, ◌&&◌, not, List, [], ◌∷◌, length, Option, Some, None, IfSome, IsTrue, Bool, true, false, slice_index_or, slice_set, replicate, count_by, cond, arith, refl, sym, ap, ◌∙◌}
-use Rattle.std.proofs.lemmas.Bool.{cases_eq}
-use Rattle.std.proofs.lemmas.Bool.Decides.{nat_tests}
+use Rattle.fw_tree.proofs.Common.{◌≡◌, ◌⊎◌, inl, inr, ℕ, zero, suc, suc, ◌<◌, ◌≤◌, ◌+◌, ◌==◌, ◌&&◌, not, List, [], ◌∷◌, length, Option, Some, None, IfSome, IsTrue, Bool, true, false, slice_index_or}
+use Rattle.fw_tree.proofs.Common.{slice_set, replicate, arith, refl, sym, ap, ◌∙◌, cases_eq, nat_tests, End, Parent, Peers, peer, InRange, is_seen, is_open, open_count, LeavesBy, AreCables}
+use Rattle.std.proofs.Common.{count_by, cond}
 use Rattle.std.proofs.lemmas.List.{get_or-replicate}
 use Rattle.std.proofs.lemmas.List.Sums.{sum_by-cons}
-use Rattle.fw_tree.specs.declared.facts.End.{End}
-use Rattle.fw_tree.specs.declared.rounds.Parent.{Parent}
-use Rattle.fw_tree.specs.Cables.{Peers, peer, InRange, is_seen}
-use Rattle.fw_tree.specs.Rounds.{is_open, open_count, LeavesBy}
-use Rattle.fw_tree.specs.Forest.{AreCables}
 use Rattle.fw_tree.specs.Parents.{IsDue, IsOpenMarked, staying}
 use Rattle.fw_tree.proofs.ForestLaws.{truth, first_of, second_of, open_to, opened}
 use Rattle.fw_tree.proofs.ParentLaws.{Leave, leave_more, set_seen_other}
@@ -55,7 +50,8 @@ pub marked_none : (g : Peers) (old now due : List Bool) → Marked g old now due
 unfolding Marked
 marked_none g old now due k low = absurd (omega arith)
 
-pub marked_more : (g : Peers) (round : ℕ) (old now then due more : List Bool) (was par : List (Option Parent)) (i : ℕ) (left : Bool) → Leave g round old now was par i → Marked g old now due i → (left ≡ true → then ≡ slice_set now i false) → (left ≡ false → then ≡ now)
+pub marked_more : (g : Peers) (round : ℕ) (old now then due more : List Bool) (was par : List (Option Parent)) (i : ℕ) (left : Bool) → Leave g round old now was par i → Marked g old now due i
+    → (left ≡ true → then ≡ slice_set now i false) → (left ≡ false → then ≡ now)
     → ((k : ℕ) → IsTrue (is_seen due k) → IsTrue (is_seen more k)) → (left ≡ true → IsOpenMarked g (is_seen old) i more) → Marked g old then more (i + 1)
 unfolding Marked
 marked_more g round old now then due more was par i true l m gone same keeps marked k low was_in is_out = elim (cases_eq k i) [
@@ -83,7 +79,8 @@ going_first g round old due was size = record {
 }
 
 -- a device that does not leave
-going_idle : (g : Peers) (round : ℕ) (old now due : List Bool) (was par : List (Option Parent)) (changed : Bool) (i : ℕ) → i < 63 → Going g round old now due was par changed i → false ≡ (is_seen old i && (open_count g (is_seen old) i == 1)) → Going g round old now due was par changed (i + 1)
+going_idle : (g : Peers) (round : ℕ) (old now due : List Bool) (was par : List (Option Parent)) (changed : Bool) (i : ℕ) → i < 63 → Going g round old now due was par changed i
+    → false ≡ (is_seen old i && (open_count g (is_seen old) i == 1)) → Going g round old now due was par changed (i + 1)
 going_idle g round old now due was par changed i within l stays = record {
   leave = leave_more g round old now now was par par i false within l.leave stays (λ e. absurd (let z : ⊥ = cc in z)) (λ e. absurd (let z : ⊥ = cc in z)) (λ k differ. refl) (λ e. refl) (λ e. refl);
   marked = marked_more g round old now now due due was par i false l.leave l.marked (λ e. absurd (let z : ⊥ = cc in z)) (λ e. refl) (λ k m. m) (λ e. absurd (let z : ⊥ = cc in z));
@@ -92,11 +89,14 @@ going_idle g round old now due was par changed i within l stays = record {
 }
 
 -- so it is with one that was not due
-pub going_on : (g : Peers) (round : ℕ) (old may now due : List Bool) (was par : List (Option Parent)) (changed : Bool) (i : ℕ) → i < 63 → Going g round old now due was par changed i → IsDue g old may i → is_seen may i ≡ false → Going g round old now due was par changed (i + 1)
-going_on g round old may now due was par changed i within l h none = going_idle g round old now due was par changed i within l (not_due (is_seen old i) (is_seen may i) (open_count g (is_seen old) i) h none)
+pub going_on : (g : Peers) (round : ℕ) (old may now due : List Bool) (was par : List (Option Parent)) (changed : Bool) (i : ℕ) → i < 63 → Going g round old now due was par changed i
+    → IsDue g old may i → is_seen may i ≡ false → Going g round old now due was par changed (i + 1)
+going_on g round old may now due was par changed i within l h none =
+    going_idle g round old now due was par changed i within l (not_due (is_seen old i) (is_seen may i) (open_count g (is_seen old) i) h none)
 
 -- from i on no device has a cable
-pub going_all : (g : Peers) (round : ℕ) (old now due : List Bool) (was par : List (Option Parent)) (changed : Bool) (n i : ℕ) → i + n ≡ 63 → ((k p : ℕ) → i ≤ k → peer g k p ≡ None) → Going g round old now due was par changed i → Going g round old now due was par changed 63
+pub going_all : (g : Peers) (round : ℕ) (old now due : List Bool) (was par : List (Option Parent)) (changed : Bool) (n i : ℕ) → i + n ≡ 63 → ((k p : ℕ) → i ≤ k → peer g k p ≡ None)
+    → Going g round old now due was par changed i → Going g round old now due was par changed 63
 going_all g round old now due was par changed zero i end none l = let e : i ≡ 63 = omega arith in rw (← e) l
 going_all g round old now due was par changed (suc n) i end none l =
     let zero_open = none_open (is_seen old) (slice_index_or g i []) (λ p. none i p (omega arith)) in
@@ -110,8 +110,9 @@ going_all g round old now due was par changed (suc n) i end none l =
 Lost : (ℕ → Bool) → (ℕ → Bool) → Option End → Type 0
 Lost s t o = (is_open s o ≡ true) × (is_open t o ≡ false)
 
--- where fewer cables are open, one of them is open no more
-lost_port : (s t : ℕ → Bool) (ports : List (Option End)) → ((p : ℕ) → is_open t (slice_index_or ports p None) ≡ true → is_open s (slice_index_or ports p None) ≡ true) → (count_by (is_open s) ports ≡ count_by (is_open t) ports) ⊎ ((p : ℕ) × Lost s t (slice_index_or ports p None))
+-- if fewer cables are open, one of them is open no more
+lost_port : (s t : ℕ → Bool) (ports : List (Option End)) → ((p : ℕ) → is_open t (slice_index_or ports p None) ≡ true → is_open s (slice_index_or ports p None) ≡ true)
+    → (count_by (is_open s) ports ≡ count_by (is_open t) ports) ⊎ ((p : ℕ) × Lost s t (slice_index_or ports p None))
 unfolding Lost
 lost_port s t [] fewer = inl refl
 lost_port s t (o ∷ ports) fewer = elim (lost_port s t ports (λ p. fewer (suc p))) [
@@ -136,7 +137,8 @@ lost_port s t (o ∷ ports) fewer = elim (lost_port s t ports (λ p. fewer (suc 
         ∙ sym (sum_by-cons (λ x. cond (is_open t x) 1 0) o ports)))
 
 -- after a round those are due whose count of open cables is another
-pub due_next : (g : Peers) (old now due : List Bool) (d : ℕ) → InRange g → AreCables g → ((k : ℕ) → k < 63 → is_seen now k ≡ (is_seen old k && not (open_count g (is_seen old) k == 1))) → Marked g old now due 63 → d < 63 → IsDue g now due d
+pub due_next : (g : Peers) (old now due : List Bool) (d : ℕ) → InRange g → AreCables g → ((k : ℕ) → k < 63 → is_seen now k ≡ (is_seen old k && not (open_count g (is_seen old) k == 1)))
+    → Marked g old now due 63 → d < 63 → IsDue g now due d
 unfolding Marked Lost
 due_next g old now due d range cables after marked low stays one = elim (lost_port (is_seen old) (is_seen now) (slice_index_or g d []) fewer) [
   | inl same ↦ absurd (not_one (open_count g (is_seen old) d) (second_of (is_seen old d) (not (open_count g (is_seen old) d == 1)) (sym (after d low) ∙ stays)) (same ∙ one))
@@ -146,7 +148,8 @@ due_next g old now due d range cables after marked low stays one = elim (lost_po
     fewer : (p : ℕ) → is_open (is_seen now) (peer g d p) ≡ true → is_open (is_seen old) (peer g d p) ≡ true
     fewer p h =
         let o = open_to (is_seen now) (peer g d p) h in
-        opened (is_seen old) (peer g d p) o.end o.is (first_of (is_seen old o.end.device) (not (open_count g (is_seen old) o.end.device == 1)) (sym (after o.end.device (in_range g range d p o.end o.is)) ∙ o.member))
+        opened (is_seen old) (peer g d p) o.end o.is (first_of (is_seen old o.end.device) (not (open_count g (is_seen old) o.end.device == 1))
+        (sym (after o.end.device (in_range g range d p o.end o.is)) ∙ o.member))
 
     not_one : (n : ℕ) → not (n == 1) ≡ true → n ≡ 1 → ⊥
     not_one n h e = grind (arith, nat_tests)

@@ -1,16 +1,13 @@
 -- The numbers of each self-ID packet fit their fields.
-use Rattle.std.proofs.Common.{rules, ℕ, zero, suc, ◌<◌, ◌≤◌, ◌+◌, nat_lt, List, [], ◌∷◌, ◌++◌, Option, Some, None, Bool, true, false, slice_index_or, if◌then◌else◌, arith, refl, sym, subst, ◌==◌}
+use Rattle.fw_tree.proofs.Common.{ℕ, zero, suc, ◌<◌, ◌≤◌, ◌+◌, nat_lt, List, [], ◌∷◌, ◌++◌, Option, Some, None, Bool, true, false, slice_index_or, if◌then◌else◌, arith, refl, sym, subst, ◌==◌}
+use Rattle.fw_tree.proofs.Common.{PhyPacket, End, PhyFacts, Peers, number_at, facts_at, ArePackets}
+use Rattle.std.proofs.Common.{rules}
 use Rattle.std.proofs.lemmas.List.Elements.{All-nil, All-append, All-push}
 use Rattle.std.specs.List.{All}
-use Rattle.fw_phy.specs.declared.packet.PhyPacket.{PhyPacket}
 use Rattle.fw_phy.specs.declared.packet.PhyPacket.TheVariants.{SelfId, SelfIdMore}
 use Rattle.fw_phy.specs.Phy.{Fits}
-use Rattle.fw_tree.specs.declared.facts.End.{End}
-use Rattle.fw_tree.specs.declared.facts.PhyFacts.{PhyFacts}
-use Rattle.fw_tree.specs.Cables.{Peers}
-use Rattle.fw_tree.specs.Numbers.{number_at}
 use Rattle.fw_tree.specs.Topology.{AreDevices}
-use Rattle.fw_tree.specs.SelfIds.{cable_code, port_code, first_port, first_packet, more_packet, further_packet, node_packets, facts_at, ArePackets, no_node, node}
+use Rattle.fw_tree.specs.SelfIds.{cable_code, port_code, first_port, first_packet, more_packet, further_packet, node_packets, no_node, node}
 
 pub speed_low : (fs : List PhyFacts) (d : ℕ) → AreDevices fs → (facts_at fs d).speed ≤ 2
 speed_low [] d a = omega arith
@@ -58,16 +55,19 @@ node_fits : (f : PhyFacts) (cables : List (Option End)) (parent : Option ℕ) (p
 node_fits f cables parent phy initiator low speed =
     let code = code_low f.ports cables parent in
     let first : All Fits (first_packet f cables parent phy initiator ∷ []) = All-push Fits [] (first_packet f cables parent phy initiator) (All-nil Fits)
-    (self_fits phy f.speed (port_code f.ports cables parent 0) (port_code f.ports cables parent 1) (port_code f.ports cables parent 2) f.link f.contender initiator (nat_lt 3 f.ports) low speed (code 0) (code 1) (code 2)) in
+    (self_fits phy f.speed (port_code f.ports cables parent 0) (port_code f.ports cables parent 1) (port_code f.ports cables parent 2) f.link f.contender initiator (nat_lt 3 f.ports) low speed
+    (code 0) (code 1) (code 2)) in
     let a = further_packet f cables parent phy 0 in
     let b = further_packet f cables parent phy 1 in
     let c = further_packet f cables parent phy 2 in
     All-append Fits (first_packet f cables parent phy initiator ∷ [] ++ a ++ b) c
-    (All-append Fits (first_packet f cables parent phy initiator ∷ [] ++ a) b (All-append Fits (first_packet f cables parent phy initiator ∷ []) a first (further_fits f cables parent phy 0 low (omega arith))) (further_fits f cables parent phy 1 low (omega arith)))
+    (All-append Fits (first_packet f cables parent phy initiator ∷ [] ++ a) b
+    (All-append Fits (first_packet f cables parent phy initiator ∷ []) a first (further_fits f cables parent phy 0 low (omega arith))) (further_fits f cables parent phy 1 low (omega arith)))
     (further_fits f cables parent phy 2 low (omega arith))
 
 pub packets_fit : (fs : List PhyFacts) (g : Peers) (number parents : List (Option ℕ)) (i n : ℕ) (ps : List PhyPacket) → AreDevices fs → n ≤ 63 → ArePackets fs g number parents i n ps → All Fits ps
 packets_fit fs g number parents i n ps devices few no_node = All-nil Fits
 packets_fit fs g number parents i n ps devices few (node {n = k} {ps = qs} a d h e) =
     let P : List PhyPacket → Type 0 = All Fits in
-    subst P (sym e) (All-append Fits qs (node_packets (facts_at fs d) (slice_index_or g d []) (number_at parents d) k (d == i)) (packets_fit fs g number parents i k qs devices (omega arith) a) (node_fits (facts_at fs d) (slice_index_or g d []) (number_at parents d) k (d == i) (omega arith) (speed_low fs d devices)))
+    subst P (sym e) (All-append Fits qs (node_packets (facts_at fs d) (slice_index_or g d []) (number_at parents d) k (d == i)) (packets_fit fs g number parents i k qs devices (omega arith) a)
+    (node_fits (facts_at fs d) (slice_index_or g d []) (number_at parents d) k (d == i) (omega arith) (speed_low fs d devices)))

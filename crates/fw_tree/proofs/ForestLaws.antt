@@ -1,10 +1,7 @@
 -- A cable between devices that are not connected makes no loop.
-use Rattle.std.proofs.Common.{◌≡◌, ◌⊎◌, inl, inr, ℕ, zero, suc, List, [], ◌∷◌, Option, Some, None, Bool, true, false, not, ◌&&◌, slice_index_or, refl, sym, ap, ◌∙◌}
-use Rattle.std.proofs.lemmas.Bool.{cases_eq}
-use Rattle.fw_tree.specs.declared.facts.End.{End}
-use Rattle.fw_tree.specs.Cables.{Peers, peer}
-use Rattle.fw_tree.specs.Rounds.{is_open}
-use Rattle.fw_tree.specs.Forest.{IsOpen, HasOne, Leaf, HasNoLoop, AreCables, IsAdded, Splits}
+use Rattle.fw_tree.proofs.Common.{◌≡◌, ◌⊎◌, inl, inr, ℕ, zero, suc, List, [], ◌∷◌, Option, Some, None, Bool, true, false, not, ◌&&◌, slice_index_or, refl, sym, ap, ◌∙◌, cases_eq, End, Peers, peer}
+use Rattle.fw_tree.proofs.Common.{is_open, HasNoLoop, AreCables}
+use Rattle.fw_tree.specs.Forest.{IsOpen, HasOne, Leaf, IsAdded, Splits}
 
 pub truth : (b : Bool) → (b ≡ true) ⊎ (b ≡ false)
 truth true = inl refl
@@ -53,7 +50,8 @@ open_or_not s (o ∷ ports) = elim (truth (is_open s o)) [
   ]
 ]
   where
-    at_each : (s : ℕ → Bool) (o : Option End) (ports : List (Option End)) → is_open s o ≡ false → ((p : ℕ) → is_open s (slice_index_or ports p None) ≡ false) → (p : ℕ) → is_open s (slice_index_or (o ∷ ports) p None) ≡ false
+    at_each : (s : ℕ → Bool) (o : Option End) (ports : List (Option End)) → is_open s o ≡ false → ((p : ℕ) → is_open s (slice_index_or ports p None) ≡ false) → (p : ℕ)
+        → is_open s (slice_index_or (o ∷ ports) p None) ≡ false
     at_each s o ports shut none zero = shut
     at_each s o ports shut none (suc p) = none p
 
@@ -95,7 +93,7 @@ record Side (g : Peers) (s c : ℕ → Bool) : Type 0 where
   inside : c leaf ≡ true
   one : HasOne g s leaf
 
--- where no port was open, the new cable's is the only one
+-- if no port was open, the new cable's is the only one
 at_new : (g : Peers) (s : ℕ → Bool) (a b : End) (p : ℕ) → (a.device ≡ b.device → ⊥) → ((q : ℕ) → is_open s (peer g a.device q) ≡ false) → Opens g s a b a.device p → p ≡ a.port
 at_new g s a b p differ shut o = elim o [
   | before x ↦ let e = shut p in cc
@@ -118,17 +116,24 @@ side : (g h : Peers) (a b : End) (s c : ℕ → Bool) → AreCables g → HasNoL
 side g h a b s c cables none added splits in_first out_second member = elim (open_or_not s (slice_index_or g a.device [])) [
   | inr shut ↦
       let apart = differs c a.device b.device in_first out_second in
-      record { leaf = a.device; member = member; inside = in_first; one = λ p q x y. at_new g s a b p apart shut (opens g h a b added s a.device p x) ∙ sym (at_new g s a b q apart shut (opens g h a b added s a.device q y)) }
+      record {
+        leaf = a.device;
+        member = member;
+        inside = in_first;
+        one = λ p q x y. at_new g s a b p apart shut (opens g h a b added s a.device p x) ∙ sym (at_new g s a b q apart shut (opens g h a b added s a.device q y));
+      }
   | inl w ↦
       let t = open_to s (peer g a.device w.0) w.1 in
-      let l : Leaf g (λ d. s d && c d) a.device = none (λ d. s d && c d) a.device t.end.device (both (s t.end.device) (c t.end.device) t.member (splits a.device w.0 t.end t.is ∙ in_first)) (cables.apart a.device w.0 t.end t.is) in
+      let l : Leaf g (λ d. s d && c d) a.device = none (λ d. s d && c d) a.device t.end.device (both (s t.end.device) (c t.end.device) t.member (splits a.device w.0 t.end t.is ∙ in_first))
+      (cables.apart a.device w.0 t.end t.is) in
       let inside : c l.leaf ≡ true = second_of (s l.leaf) (c l.leaf) l.member in
       let also = differs c l.leaf b.device inside out_second in
       record {
         leaf = l.leaf;
         member = first_of (s l.leaf) (c l.leaf) l.member;
         inside = inside;
-        one = λ p q x y. l.one p q (of_side g s c a b l.leaf p splits l.other also inside (opens g h a b added s l.leaf p x)) (of_side g s c a b l.leaf q splits l.other also inside (opens g h a b added s l.leaf q y));
+        one = λ p q x y. l.one p q (of_side g s c a b l.leaf p splits l.other also inside (opens g h a b added s l.leaf p x))
+            (of_side g s c a b l.leaf q splits l.other also inside (opens g h a b added s l.leaf q y));
       }
 ]
 
@@ -138,7 +143,7 @@ turned g h a b n = record { first = n.second; second = n.first; others = λ d p 
 other_side : (g : Peers) (c : ℕ → Bool) → Splits g c → Splits g (λ d. not (c d))
 other_side g c splits d p e is = ap not (splits d p e is)
 
--- where not both ends are in the set, no port has become open
+-- if not both ends are in the set, no port has become open
 as_before : (g : Peers) (s : ℕ → Bool) (a b : End) (d p : ℕ) → s d ≡ true → (s a.device && s b.device) ≡ false → Opens g s a b d p → IsOpen g s d p
 as_before g s a b d p member apart o = elim o [
   | before x ↦ x
@@ -157,7 +162,13 @@ still_no_loop g h a b c cables none added splits in_first out_second s x y membe
       ]
   | inr apart ↦
       let l = none s x y member differ in
-      record { leaf = l.leaf; member = l.member; other = l.other; one = λ p q i j. l.one p q (as_before g s a b l.leaf p l.member apart (opens g h a b added s l.leaf p i)) (as_before g s a b l.leaf q l.member apart (opens g h a b added s l.leaf q j)) }
+      record {
+        leaf = l.leaf;
+        member = l.member;
+        other = l.other;
+        one = λ p q i j. l.one p q (as_before g s a b l.leaf p l.member apart (opens g h a b added s l.leaf p i))
+            (as_before g s a b l.leaf q l.member apart (opens g h a b added s l.leaf q j));
+      }
 ]
 
 -- cables that stand at both ends still do
@@ -177,7 +188,8 @@ still_cables g h a b cables added differ = record {
       | elsewhere m n ↦
           let old : peer g d p ≡ Some e = sym (added.others d p m n) ∙ is in
           let back = cables.back d p e old in
-          added.others e.device e.port (λ v. moved g a d p e (record { device = d; port = p }) added.free_first old v.0 v.1 back) (λ v. moved g b d p e (record { device = d; port = p }) added.free_second old v.0 v.1 back) ∙ back
+          added.others e.device e.port (λ v. moved g a d p e (record { device = d; port = p }) added.free_first old v.0 v.1 back)
+          (λ v. moved g b d p e (record { device = d; port = p }) added.free_second old v.0 v.1 back) ∙ back
     ]
 
     apart_of : (g h : Peers) (a b : End) → AreCables g → IsAdded g h a b → (a.device ≡ b.device → ⊥) → (d p : ℕ) (e : End) → peer h d p ≡ Some e → e.device ≡ d → Place a b d p → ⊥

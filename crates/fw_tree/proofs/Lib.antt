@@ -1,3 +1,4 @@
+pub mod Common
 pub mod ClimbLaws
 pub mod CountLaws
 pub mod DueLaws

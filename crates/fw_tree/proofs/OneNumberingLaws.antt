@@ -1,13 +1,10 @@
 -- A topology has one numbering.
-use Rattle.std.proofs.Common.{◌≡◌, inl, inr, ℕ, ◌&&◌, List, Option, Some, None, Bool, true, false, refl, sym, ap, subst, ◌∙◌}
+use Rattle.fw_tree.proofs.Common.{◌≡◌, inl, inr, ℕ, ◌&&◌, List, Option, Some, None, Bool, true, false, refl, sym, ap, subst, ◌∙◌, Peers, IsOnBus, is_seen, AreCables, IsOn, number_at, has_number}
+use Rattle.fw_tree.proofs.Common.{is_there, Topology, IsSound}
 use Rattle.fw_tree.specs.declared.numbering.Numbering.{Numbering}
-use Rattle.fw_tree.specs.Cables.{Peers, IsOnBus, is_seen}
 use Rattle.fw_tree.specs.Rounds.{IsRoot}
-use Rattle.fw_tree.specs.Forest.{AreCables}
-use Rattle.fw_tree.specs.Parents.{IsOn}
 use Rattle.fw_tree.specs.Paths.{comes_before}
-use Rattle.fw_tree.specs.Numbers.{AreNumbers, AreParents, IsParentPort, number_at, has_number, is_there}
-use Rattle.fw_tree.specs.Topology.{Topology, IsSound}
+use Rattle.fw_tree.specs.Numbers.{AreNumbers, AreParents, IsParentPort}
 use Rattle.fw_tree.specs.Numbering.{IsNumbering, IsSame}
 use Rattle.fw_tree.proofs.ForestLaws.{truth}
 use Rattle.fw_tree.proofs.RootLaws.{root_no_parent}
@@ -34,7 +31,8 @@ same_on g root number on bus a d = alike (has_number number d) (is_seen on d) (�
 same_path : (g : Peers) (root : ℕ) (m n : List (Option ℕ)) → AreCables g → IsRoot g root → (a : AreNumbers g root m) (b : AreNumbers g root n) (d : ℕ) → IsOnBus g d → a.paths d ≡ b.paths d
 same_path g root m n cables top a b d on = one_path g root (a.paths d) (b.paths d) d d cables top (a.lead d on) (b.lead d on) refl
 
-same_before : (g : Peers) (root : ℕ) (m n : List (Option ℕ)) → AreCables g → IsRoot g root → (a : AreNumbers g root m) (b : AreNumbers g root n) (d : ℕ) → IsOnBus g d → (e : ℕ) → (has_number m e && comes_before (a.paths e) (a.paths d)) ≡ (has_number n e && comes_before (b.paths e) (b.paths d))
+same_before : (g : Peers) (root : ℕ) (m n : List (Option ℕ)) → AreCables g → IsRoot g root → (a : AreNumbers g root m) (b : AreNumbers g root n) (d : ℕ) → IsOnBus g d → (e : ℕ)
+    → (has_number m e && comes_before (a.paths e) (a.paths d)) ≡ (has_number n e && comes_before (b.paths e) (b.paths d))
 same_before g root m n cables top a b d on e = elim (truth (has_number m e)) [
   | inl h ↦
       let x = same_path g root m n cables top a b e (a.only e h) in
@@ -51,7 +49,8 @@ same_number g root m n cables top a b d = elim (truth (has_number m d)) [
   | inl h ↦
       let on = a.only d h in
       a.places d on
-      ∙ (ap (λ k. Some k) (counted_same (λ e. has_number m e && comes_before (a.paths e) (a.paths d)) (λ e. has_number n e && comes_before (b.paths e) (b.paths d)) 63 (λ e l. same_before g root m n cables top a b d on e))
+      ∙ (ap (λ k. Some k) (counted_same (λ e. has_number m e && comes_before (a.paths e) (a.paths d)) (λ e. has_number n e && comes_before (b.paths e) (b.paths d)) 63
+      (λ e l. same_before g root m n cables top a b d on e))
       ∙ sym (b.places d on))
   | inr h ↦ none_there (number_at m d) h ∙ sym (none_there (number_at n d) (sym (same_has g root root m n a b d) ∙ h))
 ]

@@ -1,10 +1,5 @@
 -- The rounds of each topology that can be made end with one root.
-use Rattle.std.proofs.Common.{◌≡◌, ◌⊎◌, inl, inr, ℕ, zero, suc, ◌<◌, ◌≤◌, ◌+◌, Bool, true, false, not, ◌&&◌, arith, refl, sym}
-use Rattle.fw_tree.specs.Cables.{Peers, is_seen}
-use Rattle.fw_tree.specs.Rounds.{stays}
-use Rattle.fw_tree.specs.Numbers.{counted}
-use Rattle.fw_tree.specs.Parents.{Settled}
-use Rattle.fw_tree.specs.Topology.{Topology, Made}
+use Rattle.fw_tree.proofs.Common.{◌≡◌, ◌⊎◌, inl, inr, ℕ, zero, suc, ◌<◌, ◌≤◌, ◌+◌, Bool, true, false, not, ◌&&◌, arith, refl, sym, Peers, is_seen, stays, counted, Settled, Topology, Made}
 use Rattle.fw_tree.specs.Numbering.{EndsWithOneRoot}
 use Rattle.fw_tree.proofs.ForestLaws.{first_of, second_of, not_false}
 use Rattle.fw_tree.proofs.CountLaws.{counted_most, counted_less}
@@ -57,5 +52,9 @@ ends_with_one_root p m =
       few = rest.few;
       rest = λ r d later low. same_from g rest.round r d s.range rest.settled later low;
       root = root.device;
-      is_root = record { is_on = bus.is_on.walk root.device root.is_on; is_root = root.is_root; alone = λ d w h. one_root g (is_seen bus.on) rest.round d root.device n (bus.is_on.has d w) root.is_on h root.is_root };
+      is_root = record {
+        is_on = bus.is_on.walk root.device root.is_on;
+        is_root = root.is_root;
+        alone = λ d w h. one_root g (is_seen bus.on) rest.round d root.device n (bus.is_on.has d w) root.is_on h root.is_root;
+      };
     }

@@ -1,15 +1,12 @@
 -- What the rounds note of a device.
-use Rattle.std.proofs.Common.{add-one, replicate, length-set, get_or-set_same, get_or-set_other, ◌≡◌, ◌⊎◌, inl, inr, ℕ, zero, suc, ◌<◌, ◌≤◌, ◌+◌, ◌==◌, nat_lt, ◌&&◌, ◌||◌, not, List, [], ◌∷◌, length, Option, Some, None, Bool, true, false, slice_set, arith, refl, sym, ap, subst, ◌∙◌}
-use Rattle.std.proofs.lemmas.Bool.{cases_eq}
+use Rattle.fw_tree.proofs.Common.{replicate, length-set, get_or-set_same, get_or-set_other, ◌≡◌, ◌⊎◌, inl, inr, ℕ, zero, suc, ◌<◌, ◌≤◌, ◌+◌, ◌==◌, nat_lt, ◌&&◌, ◌||◌, not, List, [], ◌∷◌, length}
+use Rattle.fw_tree.proofs.Common.{Option, Some, None, Bool, true, false, slice_set, arith, refl, sym, ap, subst, ◌∙◌, cases_eq, nat_tests, End, Parent, Peers, peer, InRange, is_seen, is_open}
+use Rattle.fw_tree.proofs.Common.{open_count, stays, LeavesBy, HasParent, AreCables, IsParent, Settled, parent_at}
+use Rattle.std.proofs.Common.{add-one}
 use Rattle.std.proofs.lemmas.List.{get_or-replicate}
-use Rattle.std.proofs.lemmas.Bool.Decides.{nat_tests}
 use Rattle.std.specs.Prelude.{IfNone}
-use Rattle.fw_tree.specs.declared.facts.End.{End}
-use Rattle.fw_tree.specs.declared.rounds.Parent.{Parent}
-use Rattle.fw_tree.specs.Cables.{Peers, peer, InRange, is_seen}
-use Rattle.fw_tree.specs.Rounds.{is_open, open_count, stays, LeavesBy, WinsTie, HasParent}
-use Rattle.fw_tree.specs.Forest.{AreCables}
-use Rattle.fw_tree.specs.Parents.{Notes, Noted, IsParent, Settled, parent_at, staying}
+use Rattle.fw_tree.specs.Rounds.{WinsTie}
+use Rattle.fw_tree.specs.Parents.{Notes, Noted, staying}
 use Rattle.fw_tree.proofs.ForestLaws.{truth, first_of, open_to, opened}
 use Rattle.fw_tree.proofs.RoundLaws.{same_port, same_end, open_same, in_range, always}
 
@@ -17,7 +14,8 @@ pub leaves_by : (g : Peers) (s : ℕ → Bool) (d p : ℕ) (e : End) → s d ≡
 leaves_by g s d p e still one is member = record { still = still; one = one; parent = opened s (peer g d p) e is member }
 
 -- the parent leaves too: it leaves towards the device
-pub wins_tie : (g : Peers) (s : ℕ → Bool) (d p : ℕ) (e : End) → AreCables g → s d ≡ true → open_count g s d ≡ 1 → peer g d p ≡ Some e → s e.device ≡ true → open_count g s e.device ≡ 1 → e.device < d → WinsTie g s d
+pub wins_tie : (g : Peers) (s : ℕ → Bool) (d p : ℕ) (e : End) → AreCables g → s d ≡ true → open_count g s d ≡ 1 → peer g d p ≡ Some e → s e.device ≡ true → open_count g s e.device ≡ 1 → e.device < d
+    → WinsTie g s d
 wins_tie g s d p e cables still one is member other less =
     let back = cables.back d p e is in (
       e.device,
@@ -67,14 +65,14 @@ left_first g s t d p e cables l is gone h =
     let other = one_of_left (nat_lt e.device d) (s e.device) (t e.device) (open_count g s e.device) h (gone e.device less) in
     wins_tie g s d p e cables l.still l.one is member other less
 
--- where the other has not left, or comes later, there is no tie to win
+-- if the other has not left, or comes later, there is no tie to win
 pub none_left : (g : Peers) (s t : ℕ → Bool) (d p : ℕ) (e : End) → LeavesBy g s d p → peer g d p ≡ Some e → GoneBefore g s t d
     → (nat_lt e.device d && s e.device && not (t e.device)) ≡ false → WinsTie g s d → ⊥
 none_left g s t d p e l is gone none w =
     let x = tie_with g s d p e l is w in
     let y = is_left (s e.device) (t e.device) (open_count g s e.device) e.device d x.0 x.1 x.2 (gone e.device x.0) in cc
 
--- where it does not have one open cable it stays
+-- if it does not have one open cable it stays
 pub stays_there : {X : Type 0} (o : Option X) (b : Bool) (n m : ℕ) → n ≡ m → IfNone o (n ≡ 1 → ⊥) → IfNone o ((b && (m == 1)) ≡ false)
 stays_there (Some x) b n m e h = tt
 stays_there None b n m e h = other b n m e h
@@ -104,7 +102,8 @@ pub set_seen_other : (xs : List Bool) (i k : ℕ) → (k ≡ i → ⊥) → is_s
 set_seen_other xs i k differ = get_or-set_other xs i k false false differ
 
 -- the device stays
-leave_stay : (g : Peers) (round : ℕ) (old now : List Bool) (was par : List (Option Parent)) (i : ℕ) → Leave g round old now was par i → (is_seen old i && (open_count g (is_seen old) i == 1)) ≡ false → Leave g round old now was par (i + 1)
+leave_stay : (g : Peers) (round : ℕ) (old now : List Bool) (was par : List (Option Parent)) (i : ℕ) → Leave g round old now was par i → (is_seen old i && (open_count g (is_seen old) i == 1)) ≡ false
+    → Leave g round old now was par (i + 1)
 leave_stay g round old now was par i l h = record {
   done = λ k m. elim (cases_eq k i) [
     | inl same ↦ rw same (l.still i (omega arith) ∙ still_there (is_seen old i) (open_count g (is_seen old) i == 1) h)
@@ -120,7 +119,9 @@ leave_stay g round old now was par i l h = record {
 }
 
 -- the device leaves
-leave_go : (g : Peers) (round : ℕ) (old now : List Bool) (was par next : List (Option Parent)) (i : ℕ) → i < 63 → Leave g round old now was par i → (is_seen old i && (open_count g (is_seen old) i == 1)) ≡ true → Notes g (is_seen old) round i (parent_at next i) → ((k : ℕ) → (k ≡ i → ⊥) → parent_at next k ≡ parent_at par k) → Leave g round old (slice_set now i false) was next (i + 1)
+leave_go : (g : Peers) (round : ℕ) (old now : List Bool) (was par next : List (Option Parent)) (i : ℕ) → i < 63 → Leave g round old now was par i
+    → (is_seen old i && (open_count g (is_seen old) i == 1)) ≡ true → Notes g (is_seen old) round i (parent_at next i) → ((k : ℕ) → (k ≡ i → ⊥) → parent_at next k ≡ parent_at par k)
+    → Leave g round old (slice_set now i false) was next (i + 1)
 leave_go g round old now was par next i within l h noted others =
     let set : is_seen (slice_set now i false) i ≡ false = get_or-set_same now i false false (let s = l.size in omega arith) in
     record {
@@ -137,7 +138,8 @@ leave_go g round old now was par next i within l h noted others =
       ];
       others = λ k m. elim (cases_eq k i) [
         | inl same ↦ elim m [
-          | inl kept ↦ absurd (let x : is_seen (slice_set now i false) i ≡ is_seen old i = rw same at kept in let y = first_of (is_seen old i) (open_count g (is_seen old) i == 1) h in let z : ⊥ = cc in z)
+          | inl kept ↦ absurd (let x : is_seen (slice_set now i false) i ≡ is_seen old i = rw same at kept in let y = first_of (is_seen old i) (open_count g (is_seen old) i == 1) h in
+              let z : ⊥ = cc in z)
           | inr high ↦ absurd (omega arith)
         ]
         | inr differ ↦ others k differ ∙ elim m [
@@ -148,7 +150,9 @@ leave_go g round old now was par next i within l h noted others =
       size = length-set now i false ∙ l.size;
     }
 
-pub leave_more : (g : Peers) (round : ℕ) (old now then : List Bool) (was par next : List (Option Parent)) (i : ℕ) (left : Bool) → i < 63 → Leave g round old now was par i → left ≡ (is_seen old i && (open_count g (is_seen old) i == 1)) → (left ≡ true → then ≡ slice_set now i false) → (left ≡ true → Notes g (is_seen old) round i (parent_at next i)) → ((k : ℕ) → (k ≡ i → ⊥) → parent_at next k ≡ parent_at par k) → (left ≡ false → then ≡ now) → (left ≡ false → next ≡ par) → Leave g round old then was next (i + 1)
+pub leave_more : (g : Peers) (round : ℕ) (old now then : List Bool) (was par next : List (Option Parent)) (i : ℕ) (left : Bool) → i < 63 → Leave g round old now was par i
+    → left ≡ (is_seen old i && (open_count g (is_seen old) i == 1)) → (left ≡ true → then ≡ slice_set now i false) → (left ≡ true → Notes g (is_seen old) round i (parent_at next i))
+    → ((k : ℕ) → (k ≡ i → ⊥) → parent_at next k ≡ parent_at par k) → (left ≡ false → then ≡ now) → (left ≡ false → next ≡ par) → Leave g round old then was next (i + 1)
 leave_more g round old now then was par next i true within l h gone noted others same same_par = rw (gone refl) (leave_go g round old now was par next i within l (sym h) (noted refl) others)
 leave_more g round old now then was par next i false within l h gone noted others same same_par = rw (same refl, same_par refl) (leave_stay g round old now was par i l (sym h))
 
@@ -159,10 +163,14 @@ staying_set (false ∷ xs) zero h = absurd (let e : ⊥ = cc in e)
 staying_set (true ∷ xs) (suc i) h = omega (arith, staying_set xs i h)
 staying_set (false ∷ xs) (suc i) h = staying_set xs i h
 
-pub leave_fewer : (g : Peers) (round : ℕ) (old now then : List Bool) (was par : List (Option Parent)) (i : ℕ) (changed left : Bool) → Leave g round old now was par i → (changed ≡ false → now ≡ old) → (changed ≡ true → staying now < staying old) → left ≡ (is_seen old i && (open_count g (is_seen old) i == 1)) → (left ≡ true → then ≡ slice_set now i false) → (left ≡ false → then ≡ now) → (changed || left) ≡ true → staying then < staying old
-leave_fewer g round old now then was par i true true l same fewer h gone kept t = let f = staying_set now i (l.still i (omega arith) ∙ first_of (is_seen old i) (open_count g (is_seen old) i == 1) (sym h)) in rw (gone refl) (omega (arith, fewer refl))
+pub leave_fewer : (g : Peers) (round : ℕ) (old now then : List Bool) (was par : List (Option Parent)) (i : ℕ) (changed left : Bool) → Leave g round old now was par i → (changed ≡ false → now ≡ old)
+    → (changed ≡ true → staying now < staying old) → left ≡ (is_seen old i && (open_count g (is_seen old) i == 1)) → (left ≡ true → then ≡ slice_set now i false) → (left ≡ false → then ≡ now)
+    → (changed || left) ≡ true → staying then < staying old
+leave_fewer g round old now then was par i true true l same fewer h gone kept t = let f =
+    staying_set now i (l.still i (omega arith) ∙ first_of (is_seen old i) (open_count g (is_seen old) i == 1) (sym h)) in rw (gone refl) (omega (arith, fewer refl))
 leave_fewer g round old now then was par i true false l same fewer h gone kept t = rw (kept refl) (fewer refl)
-leave_fewer g round old now then was par i false true l same fewer h gone kept t = let f = staying_set now i (l.still i (omega arith) ∙ first_of (is_seen old i) (open_count g (is_seen old) i == 1) (sym h)) in rw (gone refl) (rw (← same refl) f)
+leave_fewer g round old now then was par i false true l same fewer h gone kept t = let f =
+    staying_set now i (l.still i (omega arith) ∙ first_of (is_seen old i) (open_count g (is_seen old) i == 1) (sym h)) in rw (gone refl) (rw (← same refl) f)
 leave_fewer g round old now then was par i false false l same fewer h gone kept t = absurd (let e : ⊥ = cc in e)
 
 pub leave_same : (old now then : List Bool) (changed left : Bool) → (changed ≡ false → now ≡ old) → (left ≡ false → then ≡ now) → (changed || left) ≡ false → then ≡ old
@@ -229,7 +237,9 @@ After g now then = (d : ℕ) → d < 63 → is_seen then d ≡ (is_seen now d &&
 next_round : (g : Peers) (r : ℕ) (now : List Bool) (d : ℕ) → InRange g → AreSame (is_seen now) (stays g r) → d < 63 → (is_seen now d && not (open_count g (is_seen now) d == 1)) ≡ stays g (suc r) d
 next_round g r now d range same h = ap (λ b. b && not (open_count g (is_seen now) d == 1)) (same d h) ∙ ap (λ n. stays g r d && not (n == 1)) (open_same g (is_seen now) (stays g r) d range same)
 
-pub gone_more : (g : Peers) (r : ℕ) (now then : List Bool) (par next : List (Option Parent)) → InRange g → Gone g r now par → After g now then → ((d : ℕ) → d < 63 → is_seen now d ≡ true → is_seen then d ≡ false → Notes g (is_seen now) r d (parent_at next d)) → ((d : ℕ) → d < 63 → is_seen then d ≡ is_seen now d → parent_at next d ≡ parent_at par d) → staying then < staying now → Gone g (r + 1) then next
+pub gone_more : (g : Peers) (r : ℕ) (now then : List Bool) (par next : List (Option Parent)) → InRange g → Gone g r now par → After g now then
+    → ((d : ℕ) → d < 63 → is_seen now d ≡ true → is_seen then d ≡ false → Notes g (is_seen now) r d (parent_at next d))
+    → ((d : ℕ) → d < 63 → is_seen then d ≡ is_seen now d → parent_at next d ≡ parent_at par d) → staying then < staying now → Gone g (r + 1) then next
 gone_more g r now then par next range l after notes others fewer = rw add-one (record {
   same = λ d h. after d h ∙ next_round g r now d range l.same h;
   noted = λ d h e. elim (truth (is_seen now d)) [

@@ -1,15 +1,9 @@
 -- Each device of the bus has one path, and each path one device.
-use Rattle.std.proofs.Common.{◌≡◌, ◌⊎◌, inl, inr, ℕ, ◌<◌, ◌==◌, ◌&&◌, List, [], ◌∷◌, ◌++◌, Option, Some, None, true, arith, refl, sym, ap, subst, ◌∙◌}
-use Rattle.std.proofs.lemmas.Bool.{cases_eq, cases_lt}
-use Rattle.std.proofs.lemmas.Bool.Decides.{nat_tests}
-use Rattle.fw_tree.specs.declared.facts.End.{End}
-use Rattle.fw_tree.specs.declared.rounds.Parent.{Parent}
-use Rattle.fw_tree.specs.Cables.{Peers, peer}
-use Rattle.fw_tree.specs.Rounds.{stays, HasParent, IsRoot}
-use Rattle.fw_tree.specs.Forest.{AreCables}
-use Rattle.fw_tree.specs.Parents.{IsParent}
+use Rattle.fw_tree.proofs.Common.{◌≡◌, ◌⊎◌, inl, inr, ℕ, ◌<◌, ◌==◌, ◌&&◌, List, [], ◌∷◌, ◌++◌, Option, Some, None, true, arith, refl, sym, ap, subst, ◌∙◌, cases_eq, cases_lt, nat_tests, End, Parent}
+use Rattle.fw_tree.proofs.Common.{Peers, peer, stays, HasParent, AreCables, IsParent, rank}
+use Rattle.fw_tree.specs.Rounds.{IsRoot}
 use Rattle.fw_tree.specs.Paths.{is_front}
-use Rattle.fw_tree.specs.Numbers.{LeadsDown, at_root, down_to, rank}
+use Rattle.fw_tree.specs.Numbers.{LeadsDown, at_root, down_to}
 use Rattle.fw_tree.proofs.ForestLaws.{both, first_of, second_of, open_to}
 use Rattle.fw_tree.proofs.RoundLaws.{same_port, same_end, earlier, goes}
 use Rattle.fw_tree.proofs.RootLaws.{leaves_once, root_no_parent}
@@ -72,7 +66,7 @@ one_device g root v w d e (down_to {k = k} {d = a} u p q r is h split) (down_to 
     let here_too : peer g a p ≡ Some (record { device = e; port = n }) = rw (device, s.1) at in
     same_end (peer g a p) (record { device = d; port = q }) (record { device = e; port = n }) is here_too
 
--- a front of a path leads to a device
+-- a prefix of a path leads to a device
 front_snoc : (y k : List ℕ) (p : ℕ) → is_front y (k ++ p ∷ []) ≡ true → (is_front y k ≡ true) ⊎ (y ≡ k ++ p ∷ [])
 front_snoc [] k p h = inl refl
 front_snoc (y ∷ []) [] p h = inr (let e : y ≡ p = grind (arith, nat_tests) in cc)
@@ -82,7 +76,8 @@ front_snoc (y ∷ ys) (x ∷ k) p h = step y x ys k p (front_snoc ys k p) h
     eq : (y x : ℕ) → (y == x) ≡ true → y ≡ x
     eq y x h = grind (arith, nat_tests)
 
-    step : (y x : ℕ) (ys k : List ℕ) (p : ℕ) → (is_front ys (k ++ p ∷ []) ≡ true → (is_front ys k ≡ true) ⊎ (ys ≡ k ++ p ∷ [])) → ((y == x) && is_front ys (k ++ p ∷ [])) ≡ true → (((y == x) && is_front ys k) ≡ true) ⊎ (y ∷ ys ≡ x ∷ (k ++ p ∷ []))
+    step : (y x : ℕ) (ys k : List ℕ) (p : ℕ) → (is_front ys (k ++ p ∷ []) ≡ true → (is_front ys k ≡ true) ⊎ (ys ≡ k ++ p ∷ [])) → ((y == x) && is_front ys (k ++ p ∷ [])) ≡ true
+        → (((y == x) && is_front ys k) ≡ true) ⊎ (y ∷ ys ≡ x ∷ (k ++ p ∷ []))
     step y x ys k p f h =
         let a = first_of (y == x) (is_front ys (k ++ p ∷ [])) h in
         let same : y ≡ x = eq y x a in
@@ -117,5 +112,6 @@ later g d q r e (Some p) cables h low is w =
         let back = cables.back d q e is in
         elim (cases_lt e.device d) [
           | inl less ↦ h.below (wins_tie g (stays g r) d q e cables h.leaves.still h.leaves.one is member i.leaves.one less)
-          | inr most ↦ i.below (wins_tie g (stays g r) e.device e.port (record { device = d; port = q }) cables member i.leaves.one back h.leaves.still h.leaves.one (let differ = cables.apart d q e is in omega arith))
+          | inr most ↦ i.below (wins_tie g (stays g r) e.device e.port (record { device = d; port = q }) cables member i.leaves.one back h.leaves.still h.leaves.one
+              (let differ = cables.apart d q e is in omega arith))
         ]

@@ -1,17 +1,11 @@
--- Behind the ports that a device has no cable is, so that none needs to be looked at; and cables lead both ways.
-use Rattle.std.proofs.Common.{◌≡◌, inl, inr, ℕ, zero, suc, ◌+◌, ◌<◌, ◌≤◌, List, [], ◌∷◌, take, slice_index_or, Bool, cond, Option, Some, None, IfSome, IsTrue, arith, refl, ap, sym, subst, ◌∙◌}
+-- After the ports that a device has no cable is, so that none needs to be looked at; and cables lead both ways.
+use Rattle.fw_tree.proofs.Common.{◌≡◌, inl, inr, ℕ, zero, suc, ◌+◌, ◌<◌, ◌≤◌, List, [], ◌∷◌, take, slice_index_or, Bool, Option, Some, None, IfSome, IsTrue, arith, refl, ap, sym, subst, ◌∙◌, cases_lt}
+use Rattle.fw_tree.proofs.Common.{End, PhyFacts, Parent, Peers, peer, LeadsTo, Walk, here, along, is_seen, is_open, AreCables, Ports, facts_at}
+use Rattle.std.proofs.Common.{cond}
 use Rattle.std.specs.Prelude.{count_by}
 use Rattle.std.proofs.lemmas.List.Sums.{sum_by-cons}
-use Rattle.std.proofs.lemmas.Bool.{cases_lt}
-use Rattle.fw_tree.specs.declared.facts.End.{End}
-use Rattle.fw_tree.specs.declared.facts.PhyFacts.{PhyFacts}
-use Rattle.fw_tree.specs.declared.rounds.Parent.{Parent}
-use Rattle.fw_tree.specs.Cables.{Peers, peer, LeadsTo, AreJoined, Walk, here, along, is_seen, MarksPeers, AreMarked}
-use Rattle.fw_tree.specs.Rounds.{is_open}
-use Rattle.fw_tree.specs.Forest.{AreCables}
+use Rattle.fw_tree.specs.Cables.{AreJoined, MarksPeers, AreMarked}
 use Rattle.fw_tree.specs.Numbers.{IsChild}
-use Rattle.fw_tree.specs.Branch.{Ports}
-use Rattle.fw_tree.specs.SelfIds.{facts_at}
 use Rattle.fw_tree.specs.Topology.{ArePlaced, IsKept}
 use Rattle.fw_tree.proofs.TopologyLaws.{ports_at, ports_none as no_ports}
 use Rattle.fw_tree.proofs.TreeLaws.{ports_none}
@@ -43,9 +37,10 @@ open_step stays o row = sum_by-cons (λ x. cond (is_open stays x) 1 0) o row
 
 pub none_open : (stays : ℕ → Bool) (row : List (Option End)) → ((p : ℕ) → slice_index_or row p None ≡ None) → count_by (is_open stays) row ≡ 0
 none_open stays [] none = refl
-none_open stays (x ∷ row) none = let e : x ≡ None = none 0 in open_step stays x row ∙ (ap (λ o. cond (is_open stays o) 1 0 + count_by (is_open stays) row) e ∙ omega (arith, none_open stays row (λ p. none (suc p))))
+none_open stays (x ∷ row) none = let e : x ≡ None = none 0 in
+    open_step stays x row ∙ (ap (λ o. cond (is_open stays o) 1 0 + count_by (is_open stays) row) e ∙ omega (arith, none_open stays row (λ p. none (suc p))))
 
--- where two rows say the same of each port, as many of their cables are open
+-- if two rows say the same of each port, as many of their cables are open
 pub open_same : (stays : ℕ → Bool) (xs ys : List (Option End)) → ((p : ℕ) → slice_index_or xs p None ≡ slice_index_or ys p None) → count_by (is_open stays) xs ≡ count_by (is_open stays) ys
 open_same stays [] ys same = sym (none_open stays ys (λ p. sym (same p)))
 open_same stays (x ∷ xs) [] same = none_open stays (x ∷ xs) same
@@ -89,7 +84,8 @@ joined_back g a b cables j = go (peer g a j.port) refl j.leads
     go : (o : Option End) → peer g a j.port ≡ o → LeadsTo o b → AreJoined g b a
     go None is leads = absurd leads
     go (Some e) is leads =
-        let back : peer g b e.port ≡ Some (record { device = a; port = j.port }) = (let P : ℕ → Type 0 = λ d. peer g d e.port ≡ Some (record { device = a; port = j.port }) in subst P leads (cables.back a j.port e is)) in
+        let back : peer g b e.port ≡ Some (record { device = a; port = j.port }) =
+        (let P : ℕ → Type 0 = λ d. peer g d e.port ≡ Some (record { device = a; port = j.port }) in subst P leads (cables.back a j.port e is)) in
         record { port = e.port; leads = let Q : Option End → Type 0 = λ o. LeadsTo o a in subst Q (sym back) refl }
 
 further : (g : Peers) (a b c : ℕ) → AreJoined g a b → Walk g b c → Walk g a c

@@ -1,14 +1,12 @@
 -- What can be reached, found by a search; and what that says of each topology that can be made.
-use Rattle.std.proofs.Common.{◌≡◌, ◌⊎◌, inl, inr, ℕ, zero, suc, ◌<◌, ◌≤◌, List, [], length, Option, Some, None, IfSome, Bool, true, false, not, ◌&&◌, slice_index_or, slice_set, replicate, arith, refl, sym, ap, subst, ◌∙◌, length-set}
-use Rattle.std.proofs.lemmas.List.{length-replicate, get_or_past}
-use Rattle.std.proofs.lemmas.Bool.{cases_lt}
-use Rattle.fw_tree.specs.declared.facts.End.{End}
-use Rattle.fw_tree.specs.declared.facts.PhyFacts.{PhyFacts}
-use Rattle.fw_tree.specs.Cables.{Peers, peer, LeadsTo, Walk, along, InRange, AllReached, IsClosed, is_seen, unseen}
-use Rattle.fw_tree.specs.Parents.{IsOn}
+use Rattle.fw_tree.proofs.Common.{◌≡◌, ◌⊎◌, inl, inr, ℕ, zero, suc, ◌<◌, ◌≤◌, List, [], length, Option, Some, None, IfSome, Bool, true, false, not, ◌&&◌, slice_index_or, slice_set, replicate, arith}
+use Rattle.fw_tree.proofs.Common.{refl, sym, ap, subst, ◌∙◌, length-set, get_or_past, cases_lt, End, PhyFacts, Peers, peer, LeadsTo, Walk, along, InRange, is_seen, unseen, IsOn, Topology, Made}
+use Rattle.fw_tree.proofs.Common.{IsSound}
+use Rattle.std.proofs.lemmas.List.{length-replicate}
+use Rattle.fw_tree.specs.Cables.{AllReached, IsClosed}
 use Rattle.fw_tree.specs.declared.TreeFault.{TreeFault}
 use Rattle.fw_tree.specs.declared.TreeFault.TheVariants.{NoPort, PortUsed, Loop}
-use Rattle.fw_tree.specs.Topology.{Topology, Made, empty, device, cable, IsSound, IsFault, IsJoined, Separates, with_cable, has_port, are_used}
+use Rattle.fw_tree.specs.Topology.{empty, device, cable, IsFault, IsJoined, Separates, with_cable, has_port, are_used}
 use Rattle.fw_tree.proofs.ForestLaws.{truth, both, first_of, second_of}
 use Rattle.fw_tree.proofs.RoundLaws.{in_range}
 use Rattle.fw_tree.proofs.SeenLaws.{seen_same, seen_keeps, seen_from, unseen_set, only_from, reached_first, walked}
@@ -119,7 +117,8 @@ pub record Reach (g : Peers) (a : ℕ) : Type 0 where
 further : (g : Peers) (a : ℕ) (seen : List Bool) (s : Step g seen) → AllReached g a seen → AllReached g a (slice_set seen s.end.device true)
 further g a seen s all d h = elim (seen_from seen s.end.device d h) [
   | inl old ↦ all d old
-  | inr same ↦ let P : ℕ → Type 0 = Walk g a in subst P (sym same) (along (all s.device s.from) (record { port = s.port; leads = let Q : Option End → Type 0 = λ o. LeadsTo o s.end.device in subst Q (sym s.is) refl }))
+  | inr same ↦ let P : ℕ → Type 0 = Walk g a in subst P (sym same)
+      (along (all s.device s.from) (record { port = s.port; leads = let Q : Option End → Type 0 = λ o. LeadsTo o s.end.device in subst Q (sym s.is) refl }))
 ]
 
 search_from : (g : Peers) (a fuel : ℕ) (seen : List Bool) → InRange g → AllReached g a seen → is_seen seen a ≡ true → length seen ≡ 63 → unseen seen ≤ fuel → Reach g a
@@ -149,7 +148,7 @@ pub record Bus (g : Peers) : Type 0 where
 pub bus_of : (g : Peers) → InRange g → Bus g
 bus_of g range = let r = reach_of g 0 range (omega arith) in record { on = r.seen; is_on = record { walk = r.reached; has = λ d w. walked g r.seen 0 d r.closed r.first w } }
 
--- where no walk leads to a device, some set without it has no cable that leads out
+-- if no walk leads to a device, some set without it has no cable that leads out
 pub apart_of : (g : Peers) (a b : ℕ) → InRange g → a < 63 → (Walk g a b → ⊥) → Separates g a b
 apart_of g a b range low none =
     let r = reach_of g a range low in
@@ -168,7 +167,8 @@ sound_made q (cable {p = p} m a b j) =
     let P : Topology → Type 0 = IsSound in
     let s = sound_made p m in
     let w = ends_within p.devices a b s.devices s.few j.ports in
-    subst P (sym (topology_is q p.devices (with_cable p.cables a b) j.same j.added)) (sound_join p.devices p.cables a b s j.ports j.free (apart_of p.cables a.device b.device s.range w.a_device j.apart))
+    subst P (sym (topology_is q p.devices (with_cable p.cables a b) j.same j.added))
+    (sound_join p.devices p.cables a b s j.ports j.free (apart_of p.cables a.device b.device s.range w.a_device j.apart))
 
 -- what a cable between two ports makes of the topology
 pub record Joins (fs : List PhyFacts) (g : Peers) (a b : End) : Type 0 where
@@ -176,13 +176,15 @@ pub record Joins (fs : List PhyFacts) (g : Peers) (a b : End) : Type 0 where
   pub is : IsJoined (record { devices = fs; cables = g }) (record { devices = fs; cables = with_cable g a b }) a b
   pub sound : IsSound (record { devices = fs; cables = with_cable g a b })
 
-joins : (fs : List PhyFacts) (g : Peers) (a b : End) → IsSound (record { devices = fs; cables = g }) → IsJoined (record { devices = fs; cables = g }) (record { devices = fs; cables = with_cable g a b }) a b → Joins fs g a b
+joins : (fs : List PhyFacts) (g : Peers) (a b : End) → IsSound (record { devices = fs; cables = g })
+    → IsJoined (record { devices = fs; cables = g }) (record { devices = fs; cables = with_cable g a b }) a b → Joins fs g a b
 joins fs g a b s j =
     let w = ends_within fs a b s.devices s.few j.ports in
     record { ends = w; is = j; sound = sound_join fs g a b s j.ports j.free (apart_of g a.device b.device s.range w.a_device j.apart) }
 
--- where no fault holds
-pub joins_of : (fs : List PhyFacts) (g : Peers) (a b : End) → IsSound (record { devices = fs; cables = g }) → ((f : TreeFault) → IsFault (record { devices = fs; cables = g }) a b f → ⊥) → Joins fs g a b
+-- if no fault holds
+pub joins_of : (fs : List PhyFacts) (g : Peers) (a b : End) → IsSound (record { devices = fs; cables = g }) → ((f : TreeFault) → IsFault (record { devices = fs; cables = g }) a b f → ⊥)
+    → Joins fs g a b
 joins_of fs g a b s none = elim (truth (has_port (record { devices = fs; cables = g }) a && has_port (record { devices = fs; cables = g }) b)) [
   | inr lacks ↦ absurd (none NoPort lacks)
   | inl has ↦ elim (truth (are_used g a b)) [

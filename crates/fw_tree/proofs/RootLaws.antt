@@ -1,11 +1,7 @@
 -- Exactly one device of the bus is root.
-use Rattle.std.proofs.Common.{◌≡◌, ◌⊎◌, inl, inr, ℕ, zero, suc, ◌<◌, ◌&&◌, Option, Some, None, Bool, true, false, arith, refl, sym, subst, ◌∙◌, slice_index_or, List, []}
-use Rattle.std.proofs.lemmas.Bool.{cases_eq, cases_lt}
-use Rattle.fw_tree.specs.Cables.{Peers, peer, Walk, here, along, LeadsTo, InRange, is_seen}
-use Rattle.fw_tree.specs.Rounds.{open_count, stays, LeavesBy, Tie, WinsTie, HasParent, IsRoot}
-use Rattle.fw_tree.specs.declared.rounds.Parent.{Parent}
-use Rattle.fw_tree.specs.Parents.{IsParent, IsOn, Settled}
-use Rattle.fw_tree.specs.Forest.{HasNoLoop, AreCables}
+use Rattle.fw_tree.proofs.Common.{◌≡◌, ◌⊎◌, inl, inr, ℕ, zero, suc, ◌<◌, ◌&&◌, Option, Some, None, Bool, true, false, arith, refl, sym, subst, ◌∙◌, slice_index_or, List, [], cases_eq, cases_lt, Peers}
+use Rattle.fw_tree.proofs.Common.{peer, Walk, here, along, LeadsTo, InRange, is_seen, open_count, stays, LeavesBy, HasParent, Parent, IsParent, IsOn, Settled, HasNoLoop, AreCables}
+use Rattle.fw_tree.specs.Rounds.{Tie, WinsTie, IsRoot}
 use Rattle.fw_tree.proofs.ForestLaws.{truth, both, first_of, second_of, open_to, opened}
 use Rattle.fw_tree.proofs.RoundLaws.{one_of, leaves, goes, stayed, earlier, always, both_stay, pair, bus_splits, Ended, between, one_stays, in_range, led}
 
@@ -88,7 +84,18 @@ tie_root g on r n l =
     let b : LeavesBy g (stays g l.round) o.end.device o.end.port = record { still = o.member; one = other_one; parent = back_open } in
     elim (cases_lt o.end.device l.device) [
       | inl less ↦ record { device = l.device; is_on = l.is_on; is_root = inr (l.round, (o.end.device, less, record { port = w.port; other = o.end.port; first = (a, o.is); second = (b, back) })) }
-      | inr most ↦ record { device = o.end.device; is_on = on_other; is_root = inr (l.round, (l.device, (let differ = n.cables.apart l.device w.port o.end o.is in omega arith), record { port = o.end.port; other = w.port; first = (b, back); second = (a, o.is) })) }
+      | inr most ↦ record {
+        device = o.end.device;
+        is_on = on_other;
+        is_root = inr (
+          l.round,
+          (
+            l.device,
+            (let differ = n.cables.apart l.device w.port o.end o.is in omega arith),
+            record { port = o.end.port; other = w.port; first = (b, back); second = (a, o.is) },
+          ),
+        );
+      }
     ]
   where
     gone : (d : ℕ) → on d ≡ true → stays g (suc l.round) d ≡ false

@@ -1,13 +1,11 @@
 -- The rounds of tree identification leave one root.
-use Rattle.std.proofs.Common.{◌≡◌, ◌⊎◌, inl, inr, ℕ, zero, suc, ◌<◌, ◌≤◌, ◌+◌, ◌==◌, ◌&&◌, not, List, [], ◌∷◌, Option, Some, None, IfSome, Bool, true, false, slice_index_or, count_by, cond, arith, refl, sym, ap, subst, ◌∙◌}
-use Rattle.std.proofs.lemmas.Bool.{cases_eq, cases_lt}
-use Rattle.std.proofs.lemmas.Bool.Decides.{nat_tests}
+use Rattle.fw_tree.proofs.Common.{◌≡◌, ◌⊎◌, inl, inr, ℕ, zero, suc, ◌<◌, ◌≤◌, ◌+◌, ◌==◌, ◌&&◌, not, List, [], ◌∷◌, Option, Some, None, IfSome, Bool, true, false, slice_index_or, arith, refl, sym, ap}
+use Rattle.fw_tree.proofs.Common.{subst, ◌∙◌, cases_eq, cases_lt, nat_tests, End, Peers, peer, Walk, here, along, LeadsTo, InRange, is_open, open_count, stays, HasNoLoop, AreCables, Settled}
+use Rattle.std.proofs.Common.{count_by, cond}
 use Rattle.std.proofs.lemmas.List.Sums.{sum_by-cons}
-use Rattle.fw_tree.specs.declared.facts.End.{End}
-use Rattle.fw_tree.specs.Cables.{Peers, peer, Walk, here, along, AreJoined, LeadsTo, InRange}
-use Rattle.fw_tree.specs.Rounds.{is_open, open_count, stays, Tie}
-use Rattle.fw_tree.specs.Forest.{Splits, Leaf, HasNoLoop, AreCables}
-use Rattle.fw_tree.specs.Parents.{Settled}
+use Rattle.fw_tree.specs.Cables.{AreJoined}
+use Rattle.fw_tree.specs.Rounds.{Tie}
+use Rattle.fw_tree.specs.Forest.{Splits, Leaf}
 use Rattle.fw_tree.proofs.ForestLaws.{truth, both, first_of, second_of, open_to, opened, open_or_not}
 
 -- the device at the other end
@@ -38,7 +36,8 @@ none_open s (o ∷ ports) h p t = elim (truth (is_open s o)) [
   | inr shut ↦ later s o ports shut (λ q. none_open s ports (sym (count_shut s o ports shut) ∙ h) q) p t
 ]
   where
-    later : (s : ℕ → Bool) (o : Option End) (ports : List (Option End)) → is_open s o ≡ false → ((p : ℕ) → is_open s (slice_index_or ports p None) ≡ true → ⊥) → (p : ℕ) → is_open s (slice_index_or (o ∷ ports) p None) ≡ true → ⊥
+    later : (s : ℕ → Bool) (o : Option End) (ports : List (Option End)) → is_open s o ≡ false → ((p : ℕ) → is_open s (slice_index_or ports p None) ≡ true → ⊥) → (p : ℕ)
+        → is_open s (slice_index_or (o ∷ ports) p None) ≡ true → ⊥
     later s o ports shut f zero t = cc
     later s o ports shut f (suc p) t = f p t
 
@@ -66,7 +65,8 @@ one_of s (o ∷ ports) h = elim (truth (is_open s o)) [
     later s o ports shut w zero t = cc
     later s o ports shut w (suc q) t = ap (λ n. suc n) (w.only q t)
 
-pub is_one : (s : ℕ → Bool) (ports : List (Option End)) (p : ℕ) → is_open s (slice_index_or ports p None) ≡ true → ((q : ℕ) → is_open s (slice_index_or ports q None) ≡ true → q ≡ p) → count_by (is_open s) ports ≡ 1
+pub is_one : (s : ℕ → Bool) (ports : List (Option End)) (p : ℕ) → is_open s (slice_index_or ports p None) ≡ true → ((q : ℕ) → is_open s (slice_index_or ports q None) ≡ true → q ≡ p)
+    → count_by (is_open s) ports ≡ 1
 is_one s [] p h f = absurd (let e : ⊥ = cc in e)
 is_one s (o ∷ ports) zero h f = count_open s o ports h ∙ ap (λ n. 1 + n) (none_count s ports (λ q t. let e = f (suc q) t in omega arith))
 is_one s (o ∷ ports) (suc p) h f = elim (truth (is_open s o)) [
@@ -160,7 +160,7 @@ alone g r a c shut (step {b = b} w p q is s) =
     let y : is_open (stays g r) (peer g b p) ≡ false = rw same (shut p) in
     cc
 
--- where two leave towards each other, none but them are left
+-- if two leave towards each other, none but them are left
 pub pair : (g : Peers) (r d e b : ℕ) → Tie g (stays g r) d e → Within g r d b → (b ≡ d) ⊎ (b ≡ e)
 pair g r d e b t (begin s) = inl refl
 pair g r d e c t (step {b = b} w p q is s) = elim (pair g r d e b t w) [
@@ -178,7 +178,8 @@ pair g r d e c t (step {b = b} w p q is s) = elim (pair g r d e b t w) [
       inl (same_end (peer g e t.other) (record { device = c; port = q }) (record { device = d; port = t.port }) l t.second.1)
 ]
 
-count_same : (f h : ℕ → Bool) (ports : List (Option End)) → ((p : ℕ) (e : End) → slice_index_or ports p None ≡ Some e → f e.device ≡ h e.device) → count_by (is_open f) ports ≡ count_by (is_open h) ports
+count_same : (f h : ℕ → Bool) (ports : List (Option End)) → ((p : ℕ) (e : End) → slice_index_or ports p None ≡ Some e → f e.device ≡ h e.device)
+    → count_by (is_open f) ports ≡ count_by (is_open h) ports
 count_same f h [] k = refl
 count_same f h (o ∷ ports) k =
     sum_by-cons (λ x. cond (is_open f x) 1 0) o ports
@@ -265,7 +266,7 @@ pub record Ended (g : Peers) (on : ℕ → Bool) (r : ℕ) : Type 0 where
 pub between : (g : Peers) (on : ℕ → Bool) (r d e : ℕ) → Ended g on r → on d ≡ true → on e ≡ true → Walk g d e
 between g on r d e n h k = joins g d 0 e (walk_back g 0 d n.cables (n.bus.walk d h)) (n.bus.walk e k)
 
--- where two stay, one of them has an open port: so none do
+-- if two stay, one of them has an open port: so none do
 pub one_stays : (g : Peers) (on : ℕ → Bool) (r d e : ℕ) → Ended g on r → on d ≡ true → on e ≡ true → stays g r d ≡ true → stays g r e ≡ true → d ≡ e
 one_stays g on r d e n i j s t = elim (cases_eq d e) [
   | inl same ↦ same

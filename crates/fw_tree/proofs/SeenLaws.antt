@@ -1,9 +1,8 @@
 -- Laws of what was seen.
-use Rattle.std.proofs.Common.{◌≡◌, ◌⊎◌, inl, inr, ℕ, zero, suc, ◌<◌, List, [], ◌∷◌, length, Bool, true, false, IsTrue, slice_index_or, replicate, slice_set, Option, Some, None, IfSome, arith, refl, sym, subst, ◌∙◌, get_or-set_other}
+use Rattle.fw_tree.proofs.Common.{◌≡◌, ◌⊎◌, inl, inr, ℕ, zero, suc, ◌<◌, List, [], ◌∷◌, length, Bool, true, false, IsTrue, slice_index_or, replicate, slice_set, Option, Some, None, IfSome, arith}
+use Rattle.fw_tree.proofs.Common.{refl, sym, subst, ◌∙◌, get_or-set_other, cases_eq, End, Peers, peer, Walk, here, along, is_seen, unseen, LeadsTo}
 use Rattle.std.proofs.lemmas.Grind.{common_steps}
-use Rattle.std.proofs.lemmas.Bool.{cases_eq}
-use Rattle.fw_tree.specs.declared.facts.End.{End}
-use Rattle.fw_tree.specs.Cables.{Peers, peer, Walk, here, along, is_seen, AllReached, AreMarked, IsClosed, unseen, LeadsTo, MarksPeers, Spreads}
+use Rattle.fw_tree.specs.Cables.{AllReached, AreMarked, IsClosed, MarksPeers, Spreads}
 
 -- what is seen after a mark
 pub seen_same : (xs : List Bool) (e : ℕ) → e < length xs → IsTrue (is_seen (slice_set xs e true) e)

@@ -1,24 +1,24 @@
 -- What is true of each cabling stays true.
-use Rattle.std.proofs.Common.{◌≡◌, inl, inr, ℕ, zero, suc, ◌<◌, ◌≤◌, ◌==◌, ◌&&◌, ◌||◌, nat_lt, List, [], ◌∷◌, ◌++◌, length, Option, Some, None, IfSome, Bool, true, false, slice_index_or, slice_set, take, replicate, arith, refl, sym, ap, subst, ◌∙◌, length-set, length-append, get_or-set_same, get_or-set_other}
+use Rattle.fw_tree.proofs.Common.{◌≡◌, inl, inr, ℕ, zero, suc, ◌<◌, ◌≤◌, ◌==◌, ◌&&◌, ◌||◌, nat_lt, List, [], ◌∷◌, ◌++◌, length, Option, Some, None, IfSome, Bool, true, false, slice_index_or}
+use Rattle.fw_tree.proofs.Common.{slice_set, take, replicate, arith, refl, sym, ap, subst, ◌∙◌, length-set, get_or-set_same, get_or-set_other, cases_eq, nat_tests, End, PhyFacts, Peers, peer, InRange}
+use Rattle.fw_tree.proofs.Common.{is_seen, is_open, AreCables, IsSound}
+use Rattle.std.proofs.Common.{length-append}
 use Rattle.std.proofs.lemmas.List.{length-replicate}
-use Rattle.std.proofs.lemmas.Bool.{cases_eq}
 use Rattle.std.proofs.lemmas.Grind.{common_steps}
-use Rattle.std.proofs.lemmas.Bool.Decides.{nat_tests}
-use Rattle.fw_tree.specs.declared.facts.End.{End}
-use Rattle.fw_tree.specs.declared.facts.PhyFacts.{PhyFacts}
-use Rattle.fw_tree.specs.Cables.{Peers, peer, InRange, IsClosed, is_seen}
-use Rattle.fw_tree.specs.Rounds.{is_open}
-use Rattle.fw_tree.specs.Forest.{Splits, AreCables, IsAdded}
-use Rattle.fw_tree.specs.Topology.{ports_of, has_cable, are_used, put, with_cable, AreDevices, IsSound, Separates}
+use Rattle.fw_tree.specs.Cables.{IsClosed}
+use Rattle.fw_tree.specs.Forest.{Splits, IsAdded}
+use Rattle.fw_tree.specs.Topology.{ports_of, has_cable, are_used, put, with_cable, AreDevices, Separates}
 use Rattle.fw_tree.proofs.ForestLaws.{first_of, second_of, still_no_loop, still_cables, is_at}
 
 -- a store in a list of lists
 pub peer_same : (g : Peers) (e : End) (o : Option End) → e.device < length g → e.port < length (slice_index_or g e.device []) → peer (put g e o) e.device e.port ≡ o
-peer_same g e o h k = ap (λ row. slice_index_or row e.port None) (get_or-set_same g e.device (slice_set (slice_index_or g e.device []) e.port o) [] h) ∙ get_or-set_same (slice_index_or g e.device []) e.port o None k
+peer_same g e o h k = ap (λ row. slice_index_or row e.port None) (get_or-set_same g e.device (slice_set (slice_index_or g e.device []) e.port o) [] h)
+    ∙ get_or-set_same (slice_index_or g e.device []) e.port o None k
 
 pub peer_other : (g : Peers) (e : End) (o : Option End) (d p : ℕ) → e.device < length g → ((d ≡ e.device) × (p ≡ e.port) → ⊥) → peer (put g e o) d p ≡ peer g d p
 peer_other g e o d p h differ = elim (cases_eq d e.device) [
-  | inl same ↦ rw same (ap (λ row. slice_index_or row p None) (get_or-set_same g e.device (slice_set (slice_index_or g e.device []) e.port o) [] h) ∙ get_or-set_other (slice_index_or g e.device []) e.port p o None (λ q. differ (same, q)))
+  | inl same ↦ rw same (ap (λ row. slice_index_or row p None) (get_or-set_same g e.device (slice_set (slice_index_or g e.device []) e.port o) [] h)
+      ∙ get_or-set_other (slice_index_or g e.device []) e.port p o None (λ q. differ (same, q)))
   | inr apart ↦ ap (λ row. slice_index_or row p None) (get_or-set_other g e.device d (slice_set (slice_index_or g e.device []) e.port o) [] apart)
 ]
 
@@ -30,7 +30,8 @@ alike o u e h = subst Within (sym e) h
 
 put_row : (g : Peers) (e : End) (o : Option End) (k : ℕ) → InRange g → e.device < 63 → k < 63 → length (slice_index_or (put g e o) k []) ≡ 27
 put_row g e o k r h l = elim (cases_eq k e.device) [
-  | inl same ↦ rw same (ap length (get_or-set_same g e.device (slice_set (slice_index_or g e.device []) e.port o) [] (omega (arith, r.devices))) ∙ length-set (slice_index_or g e.device []) e.port o ∙ r.ports e.device h)
+  | inl same ↦ rw same (ap length (get_or-set_same g e.device (slice_set (slice_index_or g e.device []) e.port o) [] (omega (arith, r.devices))) ∙ length-set (slice_index_or g e.device []) e.port o
+      ∙ r.ports e.device h)
   | inr apart ↦ ap length (get_or-set_other g e.device k (slice_set (slice_index_or g e.device []) e.port o) [] apart) ∙ r.ports k l
 ]
 
@@ -97,7 +98,8 @@ devices_more : (fs : List PhyFacts) (f : PhyFacts) → AreDevices fs → 0 < f.p
 devices_more [] f a h k l = (h, k, l, tt)
 devices_more (x ∷ fs) f a h k l = (a.0, a.1, a.2, devices_more fs f a.3 h k l)
 
-pub sound_add : (fs : List PhyFacts) (g : Peers) (f : PhyFacts) → IsSound (record { devices = fs; cables = g }) → length fs < 63 → 0 < f.ports → f.ports ≤ 27 → f.speed ≤ 2 → IsSound (record { devices = fs ++ f ∷ []; cables = g })
+pub sound_add : (fs : List PhyFacts) (g : Peers) (f : PhyFacts) → IsSound (record { devices = fs; cables = g }) → length fs < 63 → 0 < f.ports → f.ports ≤ 27 → f.speed ≤ 2
+    → IsSound (record { devices = fs ++ f ∷ []; cables = g })
 sound_add fs g f s room h k l = record {
   few = omega (arith, length-append fs (f ∷ []));
   devices = devices_more fs f s.devices h k l;
@@ -144,14 +146,16 @@ to_seen seen None e is h = cc
 to_seen seen (Some f) e is h = let k : f ≡ e = cc in rw (← k) h
 
 pub splits : (g : Peers) (seen : List Bool) → AreCables g → IsClosed g seen → Splits g (is_seen seen)
-splits g seen cables closed d p e is = same (is_seen seen e.device) (is_seen seen d) (λ h. to_seen seen (peer g e.device e.port) (record { device = d; port = p }) (cables.back d p e is) (closed e.device e.port h)) (λ h. to_seen seen (peer g d p) e is (closed d p h))
+splits g seen cables closed d p e is = same (is_seen seen e.device) (is_seen seen d)
+    (λ h. to_seen seen (peer g e.device e.port) (record { device = d; port = p }) (cables.back d p e is) (closed e.device e.port h)) (λ h. to_seen seen (peer g d p) e is (closed d p h))
   where
     same : (x y : Bool) → (x ≡ true → y ≡ true) → (y ≡ true → x ≡ true) → x ≡ y
     same true y f h = sym (f refl)
     same false true f h = h refl
     same false false f h = refl
 
-pub sound_join : (fs : List PhyFacts) (g : Peers) (a b : End) → IsSound (record { devices = fs; cables = g }) → (nat_lt a.port (ports_of fs a.device) && nat_lt b.port (ports_of fs b.device)) ≡ true → are_used g a b ≡ false → Separates g a.device b.device → IsSound (record { devices = fs; cables = with_cable g a b })
+pub sound_join : (fs : List PhyFacts) (g : Peers) (a b : End) → IsSound (record { devices = fs; cables = g }) → (nat_lt a.port (ports_of fs a.device) && nat_lt b.port (ports_of fs b.device)) ≡ true
+    → are_used g a b ≡ false → Separates g a.device b.device → IsSound (record { devices = fs; cables = with_cable g a b })
 sound_join fs g a b s has free apart =
     let w = ends_within fs a b s.devices s.few has in
     let differ : a.device ≡ b.device → ⊥ = λ e. let k = apart.first in let l = apart.second in cc in
@@ -169,7 +173,7 @@ sound_join fs g a b s has free apart =
       ];
     }
 
--- where no cable is
+-- if no cable is
 abbrev Ports : Type 0
 Ports = List (Option End)
 

@@ -1,19 +1,11 @@
 -- What the walk over the tree has numbered.
-use Rattle.std.proofs.Common.{replicate, ◌≡◌, inl, inr, ℕ, zero, suc, ◌<◌, ◌≤◌, ◌+◌, ◌==◌, ◌&&◌, ◌||◌, nat_lt, List, [], ◌∷◌, ◌++◌, length, Option, Some, None, Bool, true, false, slice_index_or, slice_set, if◌then◌else◌, arith, refl, sym, ap, subst, ◌∙◌}
-use Rattle.std.proofs.lemmas.Bool.{cases_eq, cases_lt}
-use Rattle.std.proofs.lemmas.List.{get_or_past}
-use Rattle.std.proofs.lemmas.Bool.Decides.{nat_tests}
-use Rattle.fw_tree.specs.declared.facts.End.{End}
-use Rattle.fw_tree.specs.declared.rounds.Parent.{Parent}
-use Rattle.fw_tree.specs.Cables.{Peers, peer, Walk, InRange, is_seen, here, along}
-use Rattle.fw_tree.specs.Rounds.{stays, HasParent}
-use Rattle.fw_tree.specs.Forest.{AreCables, HasNoLoop}
-use Rattle.fw_tree.specs.Parents.{IsOn, IsTheRoot, IsParent, Settled, parent_at}
+use Rattle.fw_tree.proofs.Common.{replicate, ◌≡◌, inl, inr, ℕ, zero, suc, ◌<◌, ◌≤◌, ◌+◌, ◌==◌, ◌&&◌, ◌||◌, nat_lt, List, [], ◌∷◌, ◌++◌, length, Option, Some, None, Bool, true, false, slice_index_or}
+use Rattle.fw_tree.proofs.Common.{slice_set, if◌then◌else◌, arith, refl, sym, ap, subst, ◌∙◌, cases_eq, cases_lt, get_or_past, nat_tests, End, Parent, Peers, peer, Walk, InRange, is_seen, here, along}
+use Rattle.fw_tree.proofs.Common.{stays, HasParent, AreCables, HasNoLoop, IsOn, IsParent, Settled, parent_at, rank, counted, number_at, is_there, has_number, AreNodes, Ports, PhyFacts, IsSound}
+use Rattle.fw_tree.specs.Parents.{IsTheRoot}
 use Rattle.fw_tree.specs.Paths.{comes_before, is_left, is_front}
-use Rattle.fw_tree.specs.Numbers.{LeadsDown, at_root, down_to, IsChild, rank, counted, number_at, is_there, has_number, AreNumbers, AreParents, IsParentPort, shown, AreNodes}
-use Rattle.fw_tree.specs.Branch.{Tree, ArePaths, Done, Branch, Ports}
-use Rattle.fw_tree.specs.declared.facts.PhyFacts.{PhyFacts}
-use Rattle.fw_tree.specs.Topology.{IsSound}
+use Rattle.fw_tree.specs.Numbers.{LeadsDown, at_root, down_to, IsChild, AreNumbers, AreParents, IsParentPort, shown}
+use Rattle.fw_tree.specs.Branch.{Tree, ArePaths, Done, Branch}
 use Rattle.fw_tree.proofs.TopologyLaws.{ports_within}
 use Rattle.fw_tree.proofs.ForestLaws.{truth, both, open_to}
 use Rattle.fw_tree.proofs.RoundLaws.{in_range, bus_splits, led}
@@ -22,10 +14,12 @@ use Rattle.fw_tree.proofs.PathLaws.{one_parent, one_path, one_device, snoc_same,
 use Rattle.fw_tree.proofs.CountLaws.{counted_same, set_there, set_else, there, nodes_blank, nodes_set}
 use Rattle.fw_tree.proofs.StepLaws.{irreflexive, PortsBelow, down, next, last}
 
-further : (g : Peers) (root : ℕ) (d p r : ℕ) (e : End) (w : (v : List ℕ) × LeadsDown g root v e.device) → peer g e.device e.port ≡ Some (record { device = d; port = p }) → HasParent g d p r → (v : List ℕ) × LeadsDown g root v d
+further : (g : Peers) (root : ℕ) (d p r : ℕ) (e : End) (w : (v : List ℕ) × LeadsDown g root v e.device) → peer g e.device e.port ≡ Some (record { device = d; port = p }) → HasParent g d p r
+    → (v : List ℕ) × LeadsDown g root v d
 further g root d p r e w back h = (w.0 ++ e.port ∷ [], down_to {k = w.0} w.1 e.port p r back h refl)
 
-path_to : (g : Peers) (par : List (Option Parent)) (root : ℕ) (on : ℕ → Bool) → Tree g par root on → (n d : ℕ) (o : Option Parent) → on d ≡ true → IsParent g d o → 63 ≤ n + rank o → (v : List ℕ) × LeadsDown g root v d
+path_to : (g : Peers) (par : List (Option Parent)) (root : ℕ) (on : ℕ → Bool) → Tree g par root on → (n d : ℕ) (o : Option Parent) → on d ≡ true → IsParent g d o → 63 ≤ n + rank o → (v : List ℕ)
+    × LeadsDown g root v d
 path_to g par root on t n d None i w h = let P : ℕ → Type 0 = LeadsDown g root [] in ([], subst P (sym (t.alone d i w)) at_root)
 path_to g par root on t zero d (Some p) i w h = absurd (let low = w.0 in omega arith)
 path_to g par root on t (suc n) d (Some p) i w h =
@@ -51,7 +45,8 @@ has_some : (g : Peers) (c : ℕ) (o : Option Parent) (p : Parent) → o ≡ Some
 has_some g c None p e w = absurd (let z : ⊥ = cc in z)
 has_some g c (Some q) p e w = let k : q ≡ p = cc in rw (← k) w.2
 
-pub child_path : (g : Peers) (par : List (Option Parent)) (root : ℕ) (on : ℕ → Bool) (paths : ℕ → List ℕ) (d p c : ℕ) → Tree g par root on → ArePaths g root on paths → on d ≡ true → IsChild g par d p c → OnPath on paths d p c
+pub child_path : (g : Peers) (par : List (Option Parent)) (root : ℕ) (on : ℕ → Bool) (paths : ℕ → List ℕ) (d p c : ℕ) → Tree g par root on → ArePaths g root on paths → on d ≡ true
+    → IsChild g par d p c → OnPath on paths d p c
 child_path g par root on paths d p c t a i h =
     let on_c : on c ≡ true = rw (← h.device) (t.splits d p h.end h.is ∙ i) in
     let w = has_some g c (parent_at par c) h.parent h.noted (t.parents c (t.within c on_c)) in
@@ -59,8 +54,9 @@ child_path g par root on paths d p c t a i h =
     let at : peer g d p ≡ Some (record { device = c; port = h.end.port }) = let Q : ℕ → Type 0 = λ n. peer g d p ≡ Some (record { device = n; port = h.end.port }) in subst Q h.device h.is in
     record { is_on = on_c; path = one_path g root (paths c) (paths d ++ p ∷ []) c c t.cables t.top (a.lead c on_c) (down_to (a.lead d i) p h.end.port h.parent.round at (subst P h.port w) refl) refl }
 
--- where a device has no child at a port, no path goes on there
-no_way : (g : Peers) (par : List (Option Parent)) (root : ℕ) (on : ℕ → Bool) (d p : ℕ) (k v : List ℕ) (c : ℕ) → Tree g par root on → LeadsDown g root k d → LeadsDown g root v c → v ≡ k ++ p ∷ [] → ((e : ℕ) → IsChild g par d p e → ⊥) → ⊥
+-- if a device has no child at a port, no path goes on there
+no_way : (g : Peers) (par : List (Option Parent)) (root : ℕ) (on : ℕ → Bool) (d p : ℕ) (k v : List ℕ) (c : ℕ) → Tree g par root on → LeadsDown g root k d → LeadsDown g root v c → v ≡ k ++ p ∷ []
+    → ((e : ℕ) → IsChild g par d p e → ⊥) → ⊥
 no_way g par root on d p [] v c t l at_root split shut = cc
 no_way g par root on d p (x ∷ k) v c t l at_root split shut = cc
 no_way g par root on d p k v c t l (down_to {k = j} {d = b} u m q r is h apart) split shut =
@@ -69,11 +65,20 @@ no_way g par root on d p k v c t l (down_to {k = j} {d = b} u m q r is h apart) 
     let at : peer g d p ≡ Some (record { device = c; port = q }) = rw (device, s.1) is in
     of_parent g par d p q r c at h (parent_at par c) refl (t.parents c (in_range g t.range d p (record { device = c; port = q }) at)) shut
   where
-    of_parent : (g : Peers) (par : List (Option Parent)) (d p q r c : ℕ) → peer g d p ≡ Some (record { device = c; port = q }) → HasParent g c q r → (o : Option Parent) → parent_at par c ≡ o → IsParent g c o → ((e : ℕ) → IsChild g par d p e → ⊥) → ⊥
+    of_parent : (g : Peers) (par : List (Option Parent)) (d p q r c : ℕ) → peer g d p ≡ Some (record { device = c; port = q }) → HasParent g c q r → (o : Option Parent) → parent_at par c ≡ o
+        → IsParent g c o → ((e : ℕ) → IsChild g par d p e → ⊥) → ⊥
     of_parent g par d p q r c at h None e w shut = root_no_parent g c q r w h
-    of_parent g par d p q r c at h (Some m) e w shut = shut c (record { end = record { device = c; port = q }; parent = m; is = at; device = refl; noted = e; port = one_parent g c m.port q m.round r w.2 h })
+    of_parent g par d p q r c at h (Some m) e w shut = shut c (record {
+      end = record { device = c; port = q };
+      parent = m;
+      is = at;
+      device = refl;
+      noted = e;
+      port = one_parent g c m.port q m.round r w.2 h;
+    })
 
-pub no_child : (g : Peers) (par : List (Option Parent)) (root : ℕ) (on : ℕ → Bool) (paths : ℕ → List ℕ) (d p : ℕ) → Tree g par root on → ArePaths g root on paths → on d ≡ true → ((e : ℕ) → IsChild g par d p e → ⊥) → (v : ℕ) → on v ≡ true → is_front (paths d ++ p ∷ []) (paths v) ≡ false
+pub no_child : (g : Peers) (par : List (Option Parent)) (root : ℕ) (on : ℕ → Bool) (paths : ℕ → List ℕ) (d p : ℕ) → Tree g par root on → ArePaths g root on paths → on d ≡ true
+    → ((e : ℕ) → IsChild g par d p e → ⊥) → (v : ℕ) → on v ≡ true → is_front (paths d ++ p ∷ []) (paths v) ≡ false
 no_child g par root on paths d p t a i shut v j = elim (truth (is_front (paths d ++ p ∷ []) (paths v))) [
   | inl front ↦ let w = front_device g root (paths v) (paths d ++ p ∷ []) v (a.lead v j) front in absurd (no_way g par root on d p (paths d) (paths d ++ p ∷ []) w.0 t (a.lead d i) w.1 refl shut)
   | inr off ↦ off
@@ -120,22 +125,29 @@ front_self : (k : List ℕ) → is_front k k ≡ true
 front_self [] = refl
 front_self (x ∷ k) = let e = front_self k in grind (arith, nat_tests)
 
--- the loop over the ports of a device, at its first port, at the next ones, and behind the last
-pub done_first : (on : ℕ → Bool) (paths : ℕ → List ℕ) (k : List ℕ) (number : List (Option ℕ)) → Done on paths (λ v. is_left (paths v) k) number → Done on paths (λ v. is_left (paths v) (k ++ 0 ∷ [])) number
+-- the loop over the ports of a device, at its first port, at the next ones, and after the last
+pub done_first : (on : ℕ → Bool) (paths : ℕ → List ℕ) (k : List ℕ) (number : List (Option ℕ)) → Done on paths (λ v. is_left (paths v) k) number
+    → Done on paths (λ v. is_left (paths v) (k ++ 0 ∷ [])) number
 done_first on paths k number l = done_same on paths (λ v. is_left (paths v) k) (λ v. is_left (paths v) (k ++ 0 ∷ [])) number (λ v i. sym (down (paths v) k)) l
 
-pub done_child : (on : ℕ → Bool) (paths : ℕ → List ℕ) (k c : List ℕ) (p : ℕ) (number : List (Option ℕ)) → c ≡ k ++ p ∷ [] → Done on paths (λ v. is_left (paths v) c || is_front c (paths v)) number → Done on paths (λ v. is_left (paths v) (k ++ (p + 1) ∷ [])) number
-done_child on paths k c p number e l = done_same on paths (λ v. is_left (paths v) c || is_front c (paths v)) (λ v. is_left (paths v) (k ++ (p + 1) ∷ [])) number (λ v i. rw e (sym (next (paths v) k p))) l
+pub done_child : (on : ℕ → Bool) (paths : ℕ → List ℕ) (k c : List ℕ) (p : ℕ) (number : List (Option ℕ)) → c ≡ k ++ p ∷ [] → Done on paths (λ v. is_left (paths v) c || is_front c (paths v)) number
+    → Done on paths (λ v. is_left (paths v) (k ++ (p + 1) ∷ [])) number
+done_child on paths k c p number e l = done_same on paths (λ v. is_left (paths v) c || is_front c (paths v)) (λ v. is_left (paths v) (k ++ (p + 1) ∷ [])) number
+    (λ v i. rw e (sym (next (paths v) k p))) l
 
-pub done_none : (on : ℕ → Bool) (paths : ℕ → List ℕ) (k : List ℕ) (p : ℕ) (number : List (Option ℕ)) → ((v : ℕ) → on v ≡ true → is_front (k ++ p ∷ []) (paths v) ≡ false) → Done on paths (λ v. is_left (paths v) (k ++ p ∷ [])) number → Done on paths (λ v. is_left (paths v) (k ++ (p + 1) ∷ [])) number
-done_none on paths k p number shut l = done_same on paths (λ v. is_left (paths v) (k ++ p ∷ [])) (λ v. is_left (paths v) (k ++ (p + 1) ∷ [])) number (λ v i. or_not (is_left (paths v) (k ++ p ∷ [])) (is_front (k ++ p ∷ []) (paths v)) (shut v i) ∙ sym (next (paths v) k p)) l
+pub done_none : (on : ℕ → Bool) (paths : ℕ → List ℕ) (k : List ℕ) (p : ℕ) (number : List (Option ℕ)) → ((v : ℕ) → on v ≡ true → is_front (k ++ p ∷ []) (paths v) ≡ false)
+    → Done on paths (λ v. is_left (paths v) (k ++ p ∷ [])) number → Done on paths (λ v. is_left (paths v) (k ++ (p + 1) ∷ [])) number
+done_none on paths k p number shut l = done_same on paths (λ v. is_left (paths v) (k ++ p ∷ [])) (λ v. is_left (paths v) (k ++ (p + 1) ∷ [])) number
+    (λ v i. or_not (is_left (paths v) (k ++ p ∷ [])) (is_front (k ++ p ∷ []) (paths v)) (shut v i) ∙ sym (next (paths v) k p)) l
   where
     or_not : (a b : Bool) → b ≡ false → a ≡ (a || b)
     or_not true b e = refl
     or_not false b e = sym e
 
-pub done_last : (g : Peers) (root : ℕ) (on : ℕ → Bool) (paths : ℕ → List ℕ) (k : List ℕ) (number : List (Option ℕ)) → InRange g → AreCables g → ArePaths g root on paths → Done on paths (λ v. is_left (paths v) (k ++ 27 ∷ [])) number → Done on paths (λ v. comes_before (paths v) k) number
-done_last g root on paths k number range cables a l = done_same on paths (λ v. is_left (paths v) (k ++ 27 ∷ [])) (λ v. comes_before (paths v) k) number (λ v i. last (paths v) k 27 (low_ports g root (paths v) v range cables (a.lead v i))) l
+pub done_last : (g : Peers) (root : ℕ) (on : ℕ → Bool) (paths : ℕ → List ℕ) (k : List ℕ) (number : List (Option ℕ)) → InRange g → AreCables g → ArePaths g root on paths
+    → Done on paths (λ v. is_left (paths v) (k ++ 27 ∷ [])) number → Done on paths (λ v. comes_before (paths v) k) number
+done_last g root on paths k number range cables a l = done_same on paths (λ v. is_left (paths v) (k ++ 27 ∷ [])) (λ v. comes_before (paths v) k) number
+    (λ v i. last (paths v) k 27 (low_ports g root (paths v) v range cables (a.lead v i))) l
 
 -- what is numbered once a device is, among which it is the last
 abbrev Upto : List ℕ → List ℕ → Bool
@@ -148,7 +160,8 @@ upto_self k v e = rw e (or_true (is_left k k) (is_front k k) (front_self k))
     or_true true b h = refl
     or_true false b h = h
 
-has_of : (on : ℕ → Bool) (paths : ℕ → List ℕ) (d n : ℕ) (number : List (Option ℕ)) → on d ≡ true → d < length number → (v : ℕ) → has_number number v ≡ (on v && comes_before (paths v) (paths d)) → (on v ≡ true → (v ≡ d → ⊥) → Upto (paths d) (paths v) ≡ comes_before (paths v) (paths d)) → has_number (slice_set number d (Some n)) v ≡ (on v && Upto (paths d) (paths v))
+has_of : (on : ℕ → Bool) (paths : ℕ → List ℕ) (d n : ℕ) (number : List (Option ℕ)) → on d ≡ true → d < length number → (v : ℕ) → has_number number v ≡ (on v && comes_before (paths v) (paths d))
+    → (on v ≡ true → (v ≡ d → ⊥) → Upto (paths d) (paths v) ≡ comes_before (paths v) (paths d)) → has_number (slice_set number d (Some n)) v ≡ (on v && Upto (paths d) (paths v))
 has_of on paths d n number i size v l upto = elim (cases_eq v d) [
   | inl same ↦ rw same (there (number_at (slice_set number d (Some n)) d) n (set_there number d n size) ∙ sym (both (on d) (Upto (paths d) (paths d)) i (upto_self (paths d) (paths d) refl)))
   | inr differ ↦ ap is_there (set_else number d n v differ) ∙ (l ∙ same (on v) (comes_before (paths v) (paths d)) (Upto (paths d) (paths v)) (λ j. sym (upto j differ)))
@@ -158,7 +171,10 @@ has_of on paths d n number i size v l upto = elim (cases_eq v d) [
     same true b c e = e refl
     same false b c e = refl
 
-place_of : (on : ℕ → Bool) (paths : ℕ → List ℕ) (d n : ℕ) (number : List (Option ℕ)) → d < length number → n ≡ counted (λ e. on e && comes_before (paths e) (paths d)) 63 → (v : ℕ) → (comes_before (paths v) (paths d) ≡ true → number_at number v ≡ Some (counted (λ e. on e && comes_before (paths e) (paths v)) 63)) → ((v ≡ d → ⊥) → Upto (paths d) (paths v) ≡ comes_before (paths v) (paths d)) → Upto (paths d) (paths v) ≡ true → number_at (slice_set number d (Some n)) v ≡ Some (counted (λ e. on e && comes_before (paths e) (paths v)) 63)
+place_of : (on : ℕ → Bool) (paths : ℕ → List ℕ) (d n : ℕ) (number : List (Option ℕ)) → d < length number → n ≡ counted (λ e. on e && comes_before (paths e) (paths d)) 63 → (v : ℕ)
+    → (comes_before (paths v) (paths d) ≡ true → number_at number v ≡ Some (counted (λ e. on e && comes_before (paths e) (paths v)) 63))
+    → ((v ≡ d → ⊥) → Upto (paths d) (paths v) ≡ comes_before (paths v) (paths d)) → Upto (paths d) (paths v) ≡ true
+    → number_at (slice_set number d (Some n)) v ≡ Some (counted (λ e. on e && comes_before (paths e) (paths v)) 63)
 place_of on paths d n number size count v l upto t = elim (cases_eq v d) [
   | inl same ↦ rw same (set_there number d n size ∙ ap (λ m. Some m) count)
   | inr differ ↦ set_else number d n v differ ∙ l (sym (upto differ) ∙ t)
@@ -169,7 +185,9 @@ no_part true b h = h
 no_part false b h = refl
 
 -- the device itself
-pub done_number : (g : Peers) (root : ℕ) (on : ℕ → Bool) (paths : ℕ → List ℕ) (d n : ℕ) (number : List (Option ℕ)) → ArePaths g root on paths → on d ≡ true → d < length number → d < 63 → Done on paths (λ v. comes_before (paths v) (paths d)) number → n ≡ counted (has_number number) 63 → Done on paths (λ v. is_left (paths v) (paths d) || is_front (paths d) (paths v)) (slice_set number d (Some n))
+pub done_number : (g : Peers) (root : ℕ) (on : ℕ → Bool) (paths : ℕ → List ℕ) (d n : ℕ) (number : List (Option ℕ)) → ArePaths g root on paths → on d ≡ true → d < length number → d < 63
+    → Done on paths (λ v. comes_before (paths v) (paths d)) number → n ≡ counted (has_number number) 63
+    → Done on paths (λ v. is_left (paths v) (paths d) || is_front (paths d) (paths v)) (slice_set number d (Some n))
 done_number g root on paths d n number a i size low l e =
     let count : n ≡ counted (λ e. on e && comes_before (paths e) (paths d)) 63 = e ∙ counted_same (has_number number) (λ e. on e && comes_before (paths e) (paths d)) 63 (λ k h. l.has k) in
     record {
@@ -185,38 +203,46 @@ done_number g root on paths d n number a i size low l e =
 pub ports_first : (g : Peers) (par : List (Option Parent)) (root : ℕ) (on : ℕ → Bool) (paths : ℕ → List ℕ) (d : ℕ) (number : List (Option ℕ)) → Ports g par root on paths d 0 number number
 ports_first g par root on paths d number t a i l = done_first on paths (paths d) number l
 
-pub ports_child : (g : Peers) (par : List (Option Parent)) (root : ℕ) (on : ℕ → Bool) (paths : ℕ → List ℕ) (d p c : ℕ) (old now new : List (Option ℕ)) → IsChild g par d p c → Ports g par root on paths d p old now → Branch g par root on paths c now new → Ports g par root on paths d (p + 1) old new
+pub ports_child : (g : Peers) (par : List (Option Parent)) (root : ℕ) (on : ℕ → Bool) (paths : ℕ → List ℕ) (d p c : ℕ) (old now new : List (Option ℕ)) → IsChild g par d p c
+    → Ports g par root on paths d p old now → Branch g par root on paths c now new → Ports g par root on paths d (p + 1) old new
 ports_child g par root on paths d p c old now new h ports branch t a i l =
     let w = child_path g par root on paths d p c t a i h in
     let P : List ℕ → Type 0 = λ k. Done on paths (λ v. is_left (paths v) k) now in
     done_child on paths (paths d) (paths c) p new w.path (branch t a w.is_on (subst P (sym w.path) (ports t a i l)))
 
-pub ports_none : (g : Peers) (par : List (Option Parent)) (root : ℕ) (on : ℕ → Bool) (paths : ℕ → List ℕ) (d p : ℕ) (old now : List (Option ℕ)) → ((c : ℕ) → IsChild g par d p c → ⊥) → Ports g par root on paths d p old now → Ports g par root on paths d (p + 1) old now
+pub ports_none : (g : Peers) (par : List (Option Parent)) (root : ℕ) (on : ℕ → Bool) (paths : ℕ → List ℕ) (d p : ℕ) (old now : List (Option ℕ)) → ((c : ℕ) → IsChild g par d p c → ⊥)
+    → Ports g par root on paths d p old now → Ports g par root on paths d (p + 1) old now
 ports_none g par root on paths d p old now shut ports t a i l = done_none on paths (paths d) p now (no_child g par root on paths d p t a i shut) (ports t a i l)
 
-pub branch_of : (g : Peers) (par : List (Option Parent)) (root : ℕ) (on : ℕ → Bool) (paths : ℕ → List ℕ) (d n : ℕ) (old now : List (Option ℕ)) → d < length now → n ≡ counted (has_number now) 63 → Ports g par root on paths d 27 old now → Branch g par root on paths d old (slice_set now d (Some n))
-branch_of g par root on paths d n old now size e ports t a i l = done_number g root on paths d n now a i size (t.within d i) (done_last g root on paths (paths d) now t.range t.cables a (ports t a i l)) e
+pub branch_of : (g : Peers) (par : List (Option Parent)) (root : ℕ) (on : ℕ → Bool) (paths : ℕ → List ℕ) (d n : ℕ) (old now : List (Option ℕ)) → d < length now → n ≡ counted (has_number now) 63
+    → Ports g par root on paths d 27 old now → Branch g par root on paths d old (slice_set now d (Some n))
+branch_of g par root on paths d n old now size e ports t a i l =
+    done_number g root on paths d n now a i size (t.within d i) (done_last g root on paths (paths d) now t.range t.cables a (ports t a i l)) e
 
 -- a device that has a number is none whose branch is numbered
-pub branch_none : (g : Peers) (par : List (Option Parent)) (root : ℕ) (on : ℕ → Bool) (paths : ℕ → List ℕ) (d : ℕ) (old now : List (Option ℕ)) → has_number now d ≡ true → Ports g par root on paths d 27 old now → Branch g par root on paths d old now
+pub branch_none : (g : Peers) (par : List (Option Parent)) (root : ℕ) (on : ℕ → Bool) (paths : ℕ → List ℕ) (d : ℕ) (old now : List (Option ℕ)) → has_number now d ≡ true
+    → Ports g par root on paths d 27 old now → Branch g par root on paths d old now
 branch_none g par root on paths d old now has ports t a i l =
     let before = done_last g root on paths (paths d) now t.range t.cables a (ports t a i l) in
     let none = before.has d ∙ no_part (on d) (comes_before (paths d) (paths d)) (irreflexive (paths d)) in
     absurd (let z : ⊥ = cc in z)
 
 -- a child leaves before its parent
-pub child_lower : (g : Peers) (par : List (Option Parent)) (d p c : ℕ) → AreCables g → ((k : ℕ) → k < 63 → IsParent g k (parent_at par k)) → d < 63 → c < 63 → IsChild g par d p c → rank (parent_at par c) < rank (parent_at par d)
+pub child_lower : (g : Peers) (par : List (Option Parent)) (d p c : ℕ) → AreCables g → ((k : ℕ) → k < 63 → IsParent g k (parent_at par k)) → d < 63 → c < 63 → IsChild g par d p c
+    → rank (parent_at par c) < rank (parent_at par d)
 child_lower g par d p c cables parents low also h =
     let w = has_some g c (parent_at par c) h.parent h.noted (parents c also) in
     let at : peer g d p ≡ Some (record { device = c; port = h.end.port }) = let Q : ℕ → Type 0 = λ n. peer g d p ≡ Some (record { device = n; port = h.end.port }) in subst Q h.device h.is in
     let back : peer g c h.parent.port ≡ Some (record { device = d; port = p }) = rw h.port (cables.back d p (record { device = c; port = h.end.port }) at) in
-    rw h.noted (later g c h.parent.port h.parent.round (record { device = d; port = p }) (parent_at par d) cables w (round_low g c (parent_at par c) h.parent h.noted (parents c also)) back (parents d low))
+    rw h.noted (later g c h.parent.port h.parent.round (record { device = d; port = p }) (parent_at par d) cables w (round_low g c (parent_at par c) h.parent h.noted (parents c also)) back
+    (parents d low))
   where
     round_low : (g : Peers) (c : ℕ) (o : Option Parent) (p : Parent) → o ≡ Some p → IsParent g c o → p.round < 63
     round_low g c None p e w = absurd (let z : ⊥ = cc in z)
     round_low g c (Some q) p e w = let k : q ≡ p = cc in rw (← k) w.0
 
-pub tree_of : (g : Peers) (par : List (Option Parent)) (root r : ℕ) (on : List Bool) → InRange g → AreCables g → HasNoLoop g → IsOn g on → Settled g r → ((k : ℕ) → k < 63 → IsParent g k (parent_at par k)) → IsTheRoot g root → Tree g par root (is_seen on)
+pub tree_of : (g : Peers) (par : List (Option Parent)) (root r : ℕ) (on : List Bool) → InRange g → AreCables g → HasNoLoop g → IsOn g on → Settled g r
+    → ((k : ℕ) → k < 63 → IsParent g k (parent_at par k)) → IsTheRoot g root → Tree g par root (is_seen on)
 tree_of g par root r on range cables none bus settled parents top =
     let n = ended g on r range cables none bus settled in
     record {
@@ -254,7 +280,8 @@ pub record Numbered (g : Peers) (root : ℕ) (number : List (Option ℕ)) : Type
   pub numbers : AreNumbers g root number
   pub nodes : AreNodes number (counted (has_number number) 63)
 
-pub numbers_of : (g : Peers) (par : List (Option Parent)) (root : ℕ) (on : List Bool) (old now : List (Option ℕ)) → Tree g par root (is_seen on) → IsOn g on → Walk g 0 root → ((d : ℕ) → number_at old d ≡ None) → ((paths : ℕ → List ℕ) → Branch g par root (is_seen on) paths root old now) → Numbered g root now
+pub numbers_of : (g : Peers) (par : List (Option Parent)) (root : ℕ) (on : List Bool) (old now : List (Option ℕ)) → Tree g par root (is_seen on) → IsOn g on → Walk g 0 root
+    → ((d : ℕ) → number_at old d ≡ None) → ((paths : ℕ → List ℕ) → Branch g par root (is_seen on) paths root old now) → Numbered g root now
 numbers_of g par root on old now t bus top blank branch = given (λ d. (choose g par root (is_seen on) t d).0) (λ d h. (choose g par root (is_seen on) t d).1 h)
   where
     given : (paths : ℕ → List ℕ) → ((d : ℕ) → is_seen on d ≡ true → LeadsDown g root (paths d) d) → Numbered g root now
@@ -273,13 +300,16 @@ numbers_of g par root on old now t bus top blank branch = given (λ d. (choose g
           numbers = record {
             paths = paths;
             lead = λ d w. lead d (bus.has d w);
-            places = λ d w. end.place d (bus.has d w) (all_upto (paths d) (paths root) empty) ∙ ap (λ n. Some n) (counted_same (λ e. is_seen on e && comes_before (paths e) (paths d)) (λ e. has_number now e && comes_before (paths e) (paths d)) 63 (λ k l. ap (λ b. b && comes_before (paths k) (paths d)) (sym (all k))));
+            places = λ d w. end.place d (bus.has d w) (all_upto (paths d) (paths root) empty)
+                ∙ ap (λ n. Some n) (counted_same (λ e. is_seen on e && comes_before (paths e) (paths d)) (λ e. has_number now e && comes_before (paths e) (paths d)) 63
+                (λ k l. ap (λ b. b && comes_before (paths k) (paths d)) (sym (all k))));
             only = λ d h. bus.walk d (sym (all d) ∙ h);
           };
           nodes = end.nodes;
         }
 
-pub parents_of : (g : Peers) (par : List (Option Parent)) (on : List Bool) (ports : List (Option ℕ)) → IsOn g on → ((d : ℕ) → is_seen on d ≡ true → d < 63) → ((k : ℕ) → k < 63 → IsParent g k (parent_at par k)) → ((d : ℕ) → d < 63 → number_at ports d ≡ shown (is_seen on d) (parent_at par d)) → length ports ≡ 63 → AreParents g ports
+pub parents_of : (g : Peers) (par : List (Option Parent)) (on : List Bool) (ports : List (Option ℕ)) → IsOn g on → ((d : ℕ) → is_seen on d ≡ true → d < 63)
+    → ((k : ℕ) → k < 63 → IsParent g k (parent_at par k)) → ((d : ℕ) → d < 63 → number_at ports d ≡ shown (is_seen on d) (parent_at par d)) → length ports ≡ 63 → AreParents g ports
 parents_of g par on ports bus within parents is size = record {
   on = λ d w.
       let i = bus.has d w in
@@ -308,5 +338,6 @@ on_declared fs g s some d (along {b = b} w j) =
     let back = s.cables.back b j.port (record { device = d; port = k.0 }) k.1 in
     (ports_within fs d k.0 s.devices (s.placed d k.0 (record { device = b; port = j.port }) back)).0
 
-pub placed_of : (fs : List PhyFacts) (g : Peers) (root : ℕ) (number : List (Option ℕ)) → IsSound (record { devices = fs; cables = g }) → 0 < length fs → AreNumbers g root number → (d : ℕ) → has_number number d ≡ true → d < length fs
+pub placed_of : (fs : List PhyFacts) (g : Peers) (root : ℕ) (number : List (Option ℕ)) → IsSound (record { devices = fs; cables = g }) → 0 < length fs → AreNumbers g root number → (d : ℕ)
+    → has_number number d ≡ true → d < length fs
 placed_of fs g root number s some numbers d h = on_declared fs g s some d (numbers.only d h)

@@ -28,10 +28,12 @@ pub record Done (on : ℕ → Bool) (paths : ℕ → List ℕ) (f : ℕ → Bool
   pub place : (v : ℕ) → on v ≡ true → f v ≡ true → number_at number v ≡ Some (counted (λ e. on e && comes_before (paths e) (paths v)) 63)
   pub nodes : AreNodes number (counted (has_number number) 63)
 
--- where all left of the device had its number, the device and its branch have theirs too
+-- if all left of the device had its number, the device and its branch have theirs too
 abbrev pub Branch : Peers → List (Option Parent) → ℕ → (ℕ → Bool) → (ℕ → List ℕ) → ℕ → List (Option ℕ) → List (Option ℕ) → Type 0
-Branch g par root on paths d old now = Tree g par root on → ArePaths g root on paths → on d ≡ true → Done on paths (λ v. is_left (paths v) (paths d)) old → Done on paths (λ v. is_left (paths v) (paths d) || is_front (paths d) (paths v)) now
+Branch g par root on paths d old now = Tree g par root on → ArePaths g root on paths → on d ≡ true → Done on paths (λ v. is_left (paths v) (paths d)) old
+    → Done on paths (λ v. is_left (paths v) (paths d) || is_front (paths d) (paths v)) now
 
 -- the same as far as a port of the device
 abbrev pub Ports : Peers → List (Option Parent) → ℕ → (ℕ → Bool) → (ℕ → List ℕ) → ℕ → ℕ → List (Option ℕ) → List (Option ℕ) → Type 0
-Ports g par root on paths d p old now = Tree g par root on → ArePaths g root on paths → on d ≡ true → Done on paths (λ v. is_left (paths v) (paths d)) old → Done on paths (λ v. is_left (paths v) (paths d ++ p ∷ [])) now
+Ports g par root on paths d p old now = Tree g par root on → ArePaths g root on paths → on d ≡ true → Done on paths (λ v. is_left (paths v) (paths d)) old
+    → Done on paths (λ v. is_left (paths v) (paths d ++ p ∷ [])) now

@@ -71,7 +71,7 @@ pub record AreParents (g : Peers) (ports : List (Option ℕ)) : Type 0 where
   pub on : (d : ℕ) → IsOnBus g d → IsParentPort g d (number_at ports d)
   pub only : (d p : ℕ) → number_at ports d ≡ Some p → IsOnBus g d
 
--- the port, where the device is on the bus
+-- the port, if the device is on the bus
 abbrev pub shown : Bool → Option Parent → Option ℕ
 shown false o = None
 shown true None = None

@@ -7,13 +7,13 @@ use Rattle.fw_tree.specs.declared.facts.PhyFacts.{PhyFacts}
 use Rattle.fw_tree.specs.Cables.{Peers}
 use Rattle.fw_tree.specs.Numbers.{number_at}
 
--- the code of a port: 2 to the parent, 3 to a child, 1 where no cable is
+-- the code of a port: 2 to the parent, 3 to a child, 1 if no cable is
 abbrev pub cable_code : Option End → Option ℕ → ℕ → ℕ
 cable_code None parent p = 1
 cable_code (Some e) None p = 3
 cable_code (Some e) (Some q) p = if p == q then 2 else 3
 
--- the same, and 0 where the device has no such port
+-- the same, and 0 if the device has no such port
 abbrev pub port_code : ℕ → List (Option End) → Option ℕ → ℕ → ℕ
 port_code ports cables parent p = if nat_lt p ports then cable_code (slice_index_or cables p None) parent p else 0
 
@@ -48,13 +48,14 @@ more_packet f cables parent phy number =
       more = nat_lt (at + 8) f.ports;
     })
 
--- an extended packet, where the device has the port at which it begins
+-- an extended packet, if the device has the port at which it begins
 abbrev pub further_packet : PhyFacts → List (Option End) → Option ℕ → ℕ → ℕ → List PhyPacket
 further_packet f cables parent phy number = if nat_lt (first_port number) f.ports then more_packet f cables parent phy number ∷ [] else []
 
 -- the fewest packets that hold the device's ports
 abbrev pub node_packets : PhyFacts → List (Option End) → Option ℕ → ℕ → Bool → List PhyPacket
-node_packets f cables parent phy initiator = first_packet f cables parent phy initiator ∷ [] ++ further_packet f cables parent phy 0 ++ further_packet f cables parent phy 1 ++ further_packet f cables parent phy 2
+node_packets f cables parent phy initiator = first_packet f cables parent phy initiator ∷ [] ++ further_packet f cables parent phy 0 ++ further_packet f cables parent phy 1
+    ++ further_packet f cables parent phy 2
 
 -- the facts of a device
 abbrev pub facts_at : List PhyFacts → ℕ → PhyFacts
@@ -63,4 +64,5 @@ facts_at devices d = slice_index_or devices d (record { ports = 0; speed = 0; li
 -- the packets of the nodes below n, in order of node
 pub data ArePackets (devices : List PhyFacts) (g : Peers) (number parents : List (Option ℕ)) (initiator : ℕ) : ℕ → List PhyPacket → Type 0 where
   no_node : ArePackets devices g number parents initiator 0 []
-  node : {n : ℕ} {ps qs : List PhyPacket} → ArePackets devices g number parents initiator n ps → (d : ℕ) → number_at number d ≡ Some n → qs ≡ ps ++ node_packets (facts_at devices d) (slice_index_or g d []) (number_at parents d) n (d == initiator) → ArePackets devices g number parents initiator (suc n) qs
+  node : {n : ℕ} {ps qs : List PhyPacket} → ArePackets devices g number parents initiator n ps → (d : ℕ) → number_at number d ≡ Some n
+      → qs ≡ ps ++ node_packets (facts_at devices d) (slice_index_or g d []) (number_at parents d) n (d == initiator) → ArePackets devices g number parents initiator (suc n) qs

@@ -13,7 +13,7 @@ pub record Topology : Type 0 where
   pub devices : List PhyFacts
   pub cables : Peers
 
--- how many ports a device has: none where there is no such device
+-- how many ports a device has: none if there is no such device
 abbrev pub ports_of : List PhyFacts → ℕ → ℕ
 ports_of [] d = 0
 ports_of (f ∷ fs) zero = f.ports

@@ -59,7 +59,7 @@ impl Cabling {
 
     /// Adds a device, and answers its number. It has 1 to 27 ports and a speed of at most 2.
     ///
-    /// `TooMany` comes exactly where 63 devices are there; then nothing changes.
+    /// `TooMany` comes exactly if 63 devices are there; then nothing changes.
     pub fn add(&mut self, facts: PhyFacts) -> Result<u8, TreeFault>
         requires some { 0 < facts.ports }
         requires most { facts.ports ≤ 27 }
@@ -77,14 +77,14 @@ impl Cabling {
         Ok(number)
     }
 
-    /// How many ports a device has: none where there is no such device.
+    /// How many ports a device has: none if there is no such device.
     pub fn ports(&self, device: u8) -> u8
         ensures { result ≡ ports_of self.now.devices device }
     {
         ports_at(&self.facts, self.count, device)
     }
 
-    /// The other end of the cable at a port. None where no cable is, and where there is no such port.
+    /// The other end of the cable at a port. None if no cable is, and where there is no such port.
     pub fn peer(&self, end: End) -> Option<End>
         ensures { result ≡ peer self.now.cables end.device end.port }
     {
@@ -93,8 +93,8 @@ impl Cabling {
 
     /// What `join` would answer of these two ports.
     ///
-    /// The first fault that holds is answered: `NoPort` where one of the devices has no such port, `PortUsed` where
-    /// one of the ports has a cable or both ends are one port, `Loop` where a walk of cables leads from the one device
+    /// The first fault that holds is answered: `NoPort` if one of the devices has no such port, `PortUsed` if
+    /// one of the ports has a cable or both ends are one port, `Loop` if a walk of cables leads from the one device
     /// to the other already, or they are one. `TooMany` is never answered.
     pub fn check(&self, a: End, b: End) -> Result<(), TreeFault>
         ensures refused { IfErr result (λ f. IsFault self.now a b f) }
@@ -112,7 +112,7 @@ impl Cabling {
         Ok(())
     }
 
-    /// Joins two ports by a cable. Where `check` answers a fault of them, that is answered, and nothing changes.
+    /// Joins two ports by a cable. If `check` answers a fault of them, that is answered, and nothing changes.
     pub fn join(&mut self, a: End, b: End) -> Result<(), TreeFault>
         ensures refused { IfErr result (λ f. IsFault self.old a b f × (self.new ≡ self.old)) }
         ensures joined { IfOk result (λ _. IsJoined self.old self.new a b) }

@@ -35,7 +35,7 @@ fn same_ports(ports: &[Option<End>], others: &[Option<End>]) -> bool
     true
 }
 
-// Whether the first devices have the same cables: where no port is, none is looked at.
+// Whether the first devices have the same cables: if no port is, none is looked at.
 fn same_cables(
     cables: &AllCables,
     facts: &[PhyFacts; 63],

@@ -20,7 +20,7 @@ pub struct End {
     pub port: u8,
 }
 
-/// The far end of the cable at each port of a device; None where no cable is.
+/// The far end of the cable at each port of a device; None if no cable is.
 pub type DeviceCables = [Option<End>; 27];
 
 /// The cables of each device.

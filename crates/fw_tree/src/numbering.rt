@@ -17,7 +17,7 @@ pub struct Numbering {
 }
 
 /// The device of each node, by the numbers of a numbering that gives `count` of them: the other half of their two-way map.
-/// Places behind the last node have no meaning.
+/// Places after the last node have no meaning.
 pub fn devices_of(number: &[Option<u8>; 63], count: u8) -> [u8; 63]
     requires nodes { AreNodes number.now count }
     requires few { count ≤ 63 }

@@ -97,7 +97,7 @@ pub fn numbers_from(
     number
 }
 
-// The port at which the parent is, where the device is on the bus.
+// The port at which the parent is, if the device is on the bus.
 fn shown(on: bool, parent: &Option<Parent>) -> Option<u8>
     ensures { result ≡ shown on parent.now }
 {

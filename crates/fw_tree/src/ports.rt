@@ -6,7 +6,7 @@ ghost use Rattle.fw_tree.specs.Topology.{AreDevices, ArePlaced, ports_of, are_us
 use crate::facts::AllCables;
 use crate::{End, PhyFacts};
 
-/// How many ports a device has: none where there is no such device.
+/// How many ports a device has: none if there is no such device.
 pub fn ports_at(facts: &[PhyFacts; 63], count: u8, device: u8) -> u8
     requires count { count ≤ 63 }
     requires devices { AreDevices (take count facts.now) }
@@ -34,7 +34,7 @@ pub fn have_ports(facts: &[PhyFacts; 63], count: u8, a: End, b: End) -> bool
     a.port < ports_at(facts, count, a.device) && b.port < ports_at(facts, count, b.device)
 }
 
-/// What is at each port of a device, or of none where there is no such device: behind these no cable is.
+/// What is at each port of a device, or of none if there is no such device: after these no cable is.
 pub fn cables_of<'a>(g: &'a AllCables, facts: &[PhyFacts; 63], d: usize) -> &'a [Option<End>]
     requires range { InRange g.now }
     requires placed { ArePlaced facts.now g.now }
@@ -52,7 +52,7 @@ pub fn cables_of<'a>(g: &'a AllCables, facts: &[PhyFacts; 63], d: usize) -> &'a 
     }
 }
 
-/// The far end of the cable at a port. None where no cable is, and where there is no such port.
+/// The far end of the cable at a port. None if no cable is, and where there is no such port.
 pub fn peer_at(g: &AllCables, e: End) -> Option<End>
     ensures { result ≡ peer g.now e.device e.port }
 {

@@ -34,7 +34,7 @@ struct Round {
     due: [bool; 63],
 }
 
-// The one cable that leads to a device that stays: None where there is none, or more than one.
+// The one cable that leads to a device that stays: None if there is none, or more than one.
 fn only_open(ports: &[Option<End>], stays: &[bool; 63]) -> Option<Cable>
     requires most { length ports.now ≤ 27 }
     requires ends { (p : ℕ) → IfSome (slice_index_or ports.now p None) (λ e. e.device < 63) }
@@ -57,7 +57,7 @@ fn only_open(ports: &[Option<End>], stays: &[bool; 63]) -> Option<Cable>
     if count == 1 { open } else { None }
 }
 
-// The cable by which a device leaves in a round at whose start these stay, where it leaves.
+// The cable by which a device leaves in a round at whose start these stay, if it leaves.
 fn way_out(g: &AllCables, facts: &[PhyFacts; 63], d: usize, stays: &[bool; 63]) -> Option<Cable>
     requires range { InRange g.now }
     requires placed { ArePlaced facts.now g.now }

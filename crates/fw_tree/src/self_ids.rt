@@ -5,7 +5,7 @@ use crate::facts::DeviceCables;
 use crate::{End, PhyFacts};
 use fw_phy::{PhyPacket, SelfId, SelfIdMore, SelfIds};
 
-// 3 to a child, 2 to the parent, 1 where no cable is, 0 where the device has no such port.
+// 3 to a child, 2 to the parent, 1 if no cable is, 0 if the device has no such port.
 fn port_code(ports: u8, cables: &DeviceCables, parent: Option<u8>, p: u8) -> u8
     requires { p < 27 }
     ensures { result ≡ port_code ports cables.now parent p }
@@ -85,7 +85,7 @@ fn more_packet(
     })
 }
 
-// Appends an extended packet, where the device has the port at which it begins.
+// Appends an extended packet, if the device has the port at which it begins.
 fn push_further(
     facts: &PhyFacts,
     cables: &DeviceCables,

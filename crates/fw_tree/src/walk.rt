@@ -49,7 +49,7 @@ pub fn mark_peers(ports: &[Option<End>], seen: &mut [bool; 63]) -> bool
     changed
 }
 
-// Marks what is joined to a device, where that was seen, and says whether any of it is new.
+// Marks what is joined to a device, if that was seen, and says whether any of it is new.
 fn spread_from(g: &AllCables, facts: &[PhyFacts; 63], d: usize, seen: &mut [bool; 63]) -> bool
     requires range { InRange g.now }
     requires placed { ArePlaced facts.now g.now }

@@ -1,9 +1,9 @@
 -- Channels that are late, one after another.
 use Rattle.std.proofs.Common.{◌≡◌, refl, ap, sym, ◌∙◌, ℕ, zero, suc, [], ◌++◌, Option, Some, None, is_some, false}
-use Rattle.fw_remarks.specs.Remarks.{Told, told}
-use Rattle.fw_known.specs.declared.channels.Late.{Late}
-use Rattle.fw_known.specs.declared.state.State.{State}
-use Rattle.fw_known.specs.Channels.{late_to}
+use Rattle.fw_watch_remarks.specs.Remarks.{Told, told}
+use Rattle.fw_watch_known.specs.declared.channels.Late.{Late}
+use Rattle.fw_watch_known.specs.declared.state.State.{State}
+use Rattle.fw_watch_known.specs.Channels.{late_to}
 use Rattle.fw_watch.specs.Holding.{late_remarks, after_late, held_remarks, after_held}
 use Rattle.fw_watch.proofs.WatchLaws.{told_more}
 
@@ -20,7 +20,7 @@ pub after_more : (n m cycle : ℕ) (s : State) → n ≡ suc m → after_held n 
 unfolding after_held
 after_more n m cycle s e = ap (λ (k : ℕ). after_held k cycle s) e
 
--- where none is late, none is told
+-- if none is late, none is told
 pub none_held : (n cycle : ℕ) (s : State) → late_to 64 s.channels cycle ≡ None → held_remarks n cycle s ≡ []
 unfolding held_remarks
 none_held zero cycle s e = refl
@@ -43,7 +43,7 @@ pub no_late : (o : Option Late) → is_some o ≡ false → o ≡ None
 no_late None e = refl
 no_late (Some late) e = cc
 
--- where none is late, the rest tells nothing
+-- if none is late, the rest tells nothing
 pub stop_lines : (m cycle : ℕ) (s : State) (j j' : Told) → j' ≡ told j (late_remarks (late_to 64 s.channels cycle)) → late_to 64 s.channels cycle ≡ None
     → j' ≡ told j (held_remarks m cycle s)
 stop_lines m cycle s j j' e none = e ∙ ap (λ (o : Option Late). told j (late_remarks o)) none ∙ ap (told j) (sym (none_held m cycle s none))

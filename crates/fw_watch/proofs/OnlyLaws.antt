@@ -3,11 +3,11 @@ use Rattle.std.proofs.Common.{◌≡◌, refl, ap, sym, ◌∙◌, ℕ, zero, su
 use Rattle.std.specs.Prelude.{if◌then◌else◌}
 use Rattle.std.proofs.Math.Nat.{eq-or-lt_of_le}
 use Rattle.std.proofs.lemmas.List.{append-nil}
-use Rattle.fw_remarks.specs.Knowing.{bit_of}
-use Rattle.fw_remarks.specs.Remarks.{Said}
-use Rattle.fw_known.specs.Changes.{DifferAt}
-use Rattle.fw_known.specs.declared.state.State.{State}
-use Rattle.fw_known.specs.declared.swap.Made.{Made}
+use Rattle.fw_watch_remarks.specs.Knowing.{bit_of}
+use Rattle.fw_watch_remarks.specs.Remarks.{Said}
+use Rattle.fw_watch_known.specs.Changes.{DifferAt}
+use Rattle.fw_watch_known.specs.declared.state.State.{State}
+use Rattle.fw_watch_known.specs.declared.swap.Made.{Made}
 use Rattle.fw_watch.specs.Swaps.{change_remarks, taken_remarks, changes_remarks, next_count, changes_to, several_remarks, channels_remarks}
 
 none : (a b : Bool) (x y : List Said) → a ≡ b → (if a then (if b then [] else x) else (if b then y else [])) ≡ []

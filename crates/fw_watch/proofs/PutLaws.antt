@@ -1,10 +1,10 @@
 -- What is told, and what is known, after one entry more.
 use Rattle.std.proofs.Common.{◌≡◌, subst, Result, Ok, Err, OnOk, ap, sym, ◌∙◌, ℕ, List, [], ◌∷◌, ◌++◌, if◌then◌else◌}
 use Rattle.std.proofs.lemmas.List.{append-nil}
-use Rattle.fw_entry.specs.declared.entry.Timed.{Timed}
-use Rattle.fw_remarks.specs.Remarks.{Said, Told, told, with_line, is_finding, counted}
-use Rattle.fw_known.specs.declared.state.State.{State}
-use Rattle.fw_known.specs.States.{no_state}
+use Rattle.fw_log_entry.specs.declared.entry.Timed.{Timed}
+use Rattle.fw_watch_remarks.specs.Remarks.{Said, Told, told, with_line, is_finding, counted}
+use Rattle.fw_watch_known.specs.declared.state.State.{State}
+use Rattle.fw_watch_known.specs.States.{no_state}
 use Rattle.fw_watch.specs.Steps.{remarks, after}
 use Rattle.fw_watch.specs.Watched.{known, all_remarks, lines, watched, findings_from, Room, Watches, judged_text, last_text, watched_end}
 use Rattle.fw_watch.proofs.WatchLaws.{told_more, known_from_more, remarks_from_more, told_text}
@@ -42,7 +42,7 @@ put_watches old new before t w e f =
           ∙ ap (findings_from 0) (sym more);
     }
 
--- what follows of a fact, follows where all went well
+-- what follows of a fact, follows if all went well
 pub on_ok : {A E P Q : Type 0} → (r : Result A E) → (P → Q) → OnOk r P → OnOk r Q
 on_ok (Ok v) f p = f p
 on_ok (Err e) f p = tt

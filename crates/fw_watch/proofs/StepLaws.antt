@@ -1,20 +1,20 @@
 -- Entries that are taken without a value made of them: what they tell, and what is known after them.
 use Rattle.std.proofs.Common.{◌≡◌, ap, sym, ◌∙◌, ℕ, true, List, [], ◌++◌, Option}
-use Rattle.fw_entry.specs.declared.nodes.NodeRow.{NodeRow}
-use Rattle.fw_entry.specs.declared.entry.ResetEntry.{ResetEntry}
-use Rattle.fw_entry.specs.declared.entry.Entry.{Entry}
-use Rattle.fw_known.specs.declared.hear.Packet.{Packet}
-use Rattle.fw_known.specs.declared.state.State.{State}
+use Rattle.fw_log_entry.specs.declared.nodes.NodeRow.{NodeRow}
+use Rattle.fw_log_entry.specs.declared.entry.ResetEntry.{ResetEntry}
+use Rattle.fw_log_entry.specs.declared.entry.Entry.{Entry}
+use Rattle.fw_watch_known.specs.declared.hear.Packet.{Packet}
+use Rattle.fw_watch_known.specs.declared.state.State.{State}
 use Rattle.fw_async.specs.declared.packet.Packet.{Packet as AsyncPacket}
-use Rattle.fw_known.specs.declared.asked.Answer.{Answer}
-use Rattle.fw_known.specs.declared.asked.Asked.{Asked}
-use Rattle.fw_known.specs.Standing.{answer_of, standing_behind}
+use Rattle.fw_watch_known.specs.declared.asked.Answer.{Answer}
+use Rattle.fw_watch_known.specs.declared.asked.Asked.{Asked}
+use Rattle.fw_watch_known.specs.Standing.{answer_of, standing_behind}
 use Rattle.fw_watch.specs.Answering.{answered_remarks, after_answered, with_packet, packet_remarks, after_packet}
-use Rattle.fw_known.specs.declared.hear.Heard.{Heard}
-use Rattle.fw_known.specs.Heard.{is_usual, heard}
-use Rattle.fw_known.specs.States.{reset_state}
-use Rattle.fw_known.proofs.UsualLaws.{usual_row, usual_heard}
-use Rattle.fw_remarks.specs.Remarks.{Told, told}
+use Rattle.fw_watch_known.specs.declared.hear.Heard.{Heard}
+use Rattle.fw_watch_known.specs.Heard.{is_usual, heard}
+use Rattle.fw_watch_known.specs.States.{reset_state}
+use Rattle.fw_watch_known.proofs.UsualLaws.{usual_row, usual_heard}
+use Rattle.fw_watch_remarks.specs.Remarks.{Told, told}
 use Rattle.fw_watch.specs.Hearing.{start_remarks, two_remarks, free_remarks, owners_remarks, wrong_remarks, heard_remarks}
 use Rattle.fw_watch.specs.Holding.{held_remarks}
 use Rattle.fw_watch.specs.Steps.{IsBusOf, at_cycle, reset_remarks, what_remarks, after_what, ticked, remarks, after}

@@ -1,8 +1,8 @@
 -- What loops over the channels of a half make, one more.
 use Rattle.std.proofs.Common.{◌≡◌, refl, ℕ, zero, suc, ◌+◌, ◌≤◌, Bool, true, false, [], ◌++◌, add-one, arith}
-use Rattle.fw_remarks.specs.Knowing.{bit_of}
-use Rattle.fw_known.specs.declared.state.State.{State}
-use Rattle.fw_known.specs.declared.swap.Made.{Made}
+use Rattle.fw_watch_remarks.specs.Knowing.{bit_of}
+use Rattle.fw_watch_known.specs.declared.state.State.{State}
+use Rattle.fw_watch_known.specs.declared.swap.Made.{Made}
 use Rattle.fw_watch.specs.Swaps.{change_remarks, changes_remarks, next_count, changes_to}
 
 pub no_changes : (s : State) (m : Made) (first : ℕ) → changes_remarks 0 s m first ≡ []

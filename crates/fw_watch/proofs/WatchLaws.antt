@@ -1,10 +1,10 @@
 -- What is known, and what is told, after one entry more.
 use Rattle.std.proofs.Common.{◌≡◌, refl, ap, sym, ◌∙◌, ℕ, List, [], ◌∷◌, ◌++◌, append_assoc}
 use Rattle.std.proofs.lemmas.List.{append-nil}
-use Rattle.fw_entry.specs.declared.entry.Timed.{Timed}
-use Rattle.fw_remarks.specs.Remarks.{Said, Told, told, line, with_line}
-use Rattle.fw_known.specs.declared.state.State.{State}
-use Rattle.fw_known.specs.States.{no_state}
+use Rattle.fw_log_entry.specs.declared.entry.Timed.{Timed}
+use Rattle.fw_watch_remarks.specs.Remarks.{Said, Told, told, line, with_line}
+use Rattle.fw_watch_known.specs.declared.state.State.{State}
+use Rattle.fw_watch_known.specs.States.{no_state}
 use Rattle.fw_watch.specs.Steps.{remarks, after}
 use Rattle.fw_watch.specs.Watched.{known_from, known, remarks_from, lines, watched}
 

@@ -2,18 +2,18 @@
 use Rattle.std.specs.Prelude.{ℕ, ◌&&◌, not, nat_le, List, [], ◌∷◌, ◌++◌, Option, Some, None, if◌then◌else◌}
 use Rattle.fw_words.specs.declared.swap.Swap.{Swap}
 use Rattle.fw_async.specs.declared.packet.Packet.{Packet}
-use Rattle.fw_remarks.specs.declared.register.At.{At}
-use Rattle.fw_remarks.specs.declared.remark.Remark.TheVariants.{NotManager}
-use Rattle.fw_remarks.specs.Registers.{is_managed}
-use Rattle.fw_remarks.specs.Knowing.{nothing_known}
-use Rattle.fw_remarks.specs.Remarks.{Said, said}
-use Rattle.fw_known.specs.declared.asked.Answer.{Answer}
-use Rattle.fw_known.specs.declared.state.State.{State}
-use Rattle.fw_known.specs.declared.swap.Made.{Made}
-use Rattle.fw_known.specs.Standing.{answer_of, standing_behind}
-use Rattle.fw_known.specs.States.{manager_by, manager_node, is_manager, with_known}
-use Rattle.fw_known.specs.Judging.{judged}
-use Rattle.fw_known.specs.Swapped.{swapped}
+use Rattle.fw_watch_remarks.specs.declared.register.At.{At}
+use Rattle.fw_watch_remarks.specs.declared.remark.Remark.TheVariants.{NotManager}
+use Rattle.fw_watch_remarks.specs.Registers.{is_managed}
+use Rattle.fw_watch_remarks.specs.Knowing.{nothing_known}
+use Rattle.fw_watch_remarks.specs.Remarks.{Said, said}
+use Rattle.fw_watch_known.specs.declared.asked.Answer.{Answer}
+use Rattle.fw_watch_known.specs.declared.state.State.{State}
+use Rattle.fw_watch_known.specs.declared.swap.Made.{Made}
+use Rattle.fw_watch_known.specs.Standing.{answer_of, standing_behind}
+use Rattle.fw_watch_known.specs.States.{manager_by, manager_node, is_manager, with_known}
+use Rattle.fw_watch_known.specs.Judging.{judged}
+use Rattle.fw_watch_known.specs.Swapped.{swapped}
 use Rattle.fw_watch.specs.declared.answer.Heed.{Heed}
 use Rattle.fw_watch.specs.declared.answer.Heed.TheVariants.{Ignore, Refuse, Follow}
 use Rattle.fw_watch.specs.Judging.{judge_remarks}

@@ -1,12 +1,12 @@
 -- The lines of isochronous packets: whose they are, and what is wrong with that.
 use Rattle.std.specs.Prelude.{ℕ, ◌==◌, Bool, List, [], ◌∷◌, ◌++◌, Option, Some, None, if◌then◌else◌}
-use Rattle.fw_remarks.specs.declared.remark.Remark.TheVariants.{Sends, TwoSenders, NotTaken, OtherPlug}
-use Rattle.fw_known.specs.declared.state.State.{State}
-use Rattle.fw_known.specs.declared.hear.Heard.{Heard}
-use Rattle.fw_known.specs.declared.hear.Packet.{Packet}
-use Rattle.fw_remarks.specs.Remarks.{Said, said}
-use Rattle.fw_known.specs.Channels.{channel_at}
-use Rattle.fw_known.specs.Heard.{heard}
+use Rattle.fw_watch_remarks.specs.declared.remark.Remark.TheVariants.{Sends, TwoSenders, NotTaken, OtherPlug}
+use Rattle.fw_watch_known.specs.declared.state.State.{State}
+use Rattle.fw_watch_known.specs.declared.hear.Heard.{Heard}
+use Rattle.fw_watch_known.specs.declared.hear.Packet.{Packet}
+use Rattle.fw_watch_remarks.specs.Remarks.{Said, said}
+use Rattle.fw_watch_known.specs.Channels.{channel_at}
+use Rattle.fw_watch_known.specs.Heard.{heard}
 
 -- a node began to send
 unfoldable pub start_remarks : Option ℕ → Packet → List Said

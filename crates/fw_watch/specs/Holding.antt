@@ -1,10 +1,10 @@
 -- Channels that nobody has used in the second since they were taken.
 use Rattle.std.specs.Prelude.{ℕ, zero, suc, ◌+◌, List, [], ◌∷◌, ◌++◌, slice_set, Option, Some, None}
-use Rattle.fw_remarks.specs.declared.remark.Remark.TheVariants.{Held}
-use Rattle.fw_remarks.specs.Remarks.{Said, said}
-use Rattle.fw_known.specs.declared.channels.Late.{Late}
-use Rattle.fw_known.specs.declared.state.State.{State}
-use Rattle.fw_known.specs.Channels.{undue, channel_at, late_to}
+use Rattle.fw_watch_remarks.specs.declared.remark.Remark.TheVariants.{Held}
+use Rattle.fw_watch_remarks.specs.Remarks.{Said, said}
+use Rattle.fw_watch_known.specs.declared.channels.Late.{Late}
+use Rattle.fw_watch_known.specs.declared.state.State.{State}
+use Rattle.fw_watch_known.specs.Channels.{undue, channel_at, late_to}
 
 -- a channel that is late, in the cycle in which it became that
 abbrev pub late_remarks : Option Late → List Said

@@ -2,23 +2,23 @@
 use Rattle.std.specs.Prelude.{◌≡◌, ℕ, ◌+◌, ◌==◌, ◌&&◌, not, List, [], ◌∷◌, ◌++◌, length, Option, Some, None, if◌then◌else◌}
 use Rattle.fw_csr.specs.declared.offset.TheConstants.{REGISTER_SPACE}
 use Rattle.fw_cip.specs.declared.packet.IsoPacket.{IsoPacket}
-use Rattle.fw_entry.specs.declared.codes.event.TheConstants as Events
-use Rattle.fw_entry.specs.declared.entry.ResetEntry.{ResetEntry}
-use Rattle.fw_entry.specs.declared.entry.EventEntry.{EventEntry}
-use Rattle.fw_entry.specs.declared.entry.ShownEntry.{ShownEntry}
-use Rattle.fw_entry.specs.declared.entry.Entry.{Entry}
-use Rattle.fw_entry.specs.declared.entry.Entry.TheVariants.{Reset as ResetOf, Async, Iso, Event, Outcome, Shown, End}
-use Rattle.fw_entry.specs.declared.entry.Timed.{Timed}
-use Rattle.fw_remarks.specs.declared.register.Register.{Register}
-use Rattle.fw_remarks.specs.declared.register.At.{At}
-use Rattle.fw_remarks.specs.declared.remark.Remark.TheVariants.{Reset}
-use Rattle.fw_remarks.specs.Registers.{register_at, is_managed}
-use Rattle.fw_remarks.specs.Remarks.{Said, said}
-use Rattle.fw_known.specs.declared.hear.Packet.{Packet}
-use Rattle.fw_known.specs.declared.state.State.{State}
-use Rattle.fw_known.specs.States.{is_manager, node_of_device, reset_state, after_death, ended_second, ticked_second}
-use Rattle.fw_known.specs.Judging.{judged}
-use Rattle.fw_known.specs.Heard.{after_heard}
+use Rattle.fw_log_entry.specs.declared.codes.event.TheConstants as Events
+use Rattle.fw_log_entry.specs.declared.entry.ResetEntry.{ResetEntry}
+use Rattle.fw_log_entry.specs.declared.entry.EventEntry.{EventEntry}
+use Rattle.fw_log_entry.specs.declared.entry.ShownEntry.{ShownEntry}
+use Rattle.fw_log_entry.specs.declared.entry.Entry.{Entry}
+use Rattle.fw_log_entry.specs.declared.entry.Entry.TheVariants.{Reset as ResetOf, Async, Iso, Event, Outcome, Shown, End}
+use Rattle.fw_log_entry.specs.declared.entry.Timed.{Timed}
+use Rattle.fw_watch_remarks.specs.declared.register.Register.{Register}
+use Rattle.fw_watch_remarks.specs.declared.register.At.{At}
+use Rattle.fw_watch_remarks.specs.declared.remark.Remark.TheVariants.{Reset}
+use Rattle.fw_watch_remarks.specs.Registers.{register_at, is_managed}
+use Rattle.fw_watch_remarks.specs.Remarks.{Said, said}
+use Rattle.fw_watch_known.specs.declared.hear.Packet.{Packet}
+use Rattle.fw_watch_known.specs.declared.state.State.{State}
+use Rattle.fw_watch_known.specs.States.{is_manager, node_of_device, reset_state, after_death, ended_second, ticked_second}
+use Rattle.fw_watch_known.specs.Judging.{judged}
+use Rattle.fw_watch_known.specs.Heard.{after_heard}
 use Rattle.fw_watch.specs.Judging.{judge_remarks}
 use Rattle.fw_watch.specs.Hearing.{heard_remarks}
 use Rattle.fw_watch.specs.Holding.{held_remarks, after_held}
@@ -47,7 +47,7 @@ shown_at_node s (Some node) None = None
 shown_at_node s (Some node) (Some register) =
     if is_managed register && not (is_manager node s.manager) then None else Some (record { node = node; register = register })
 
--- the watched register that a word is shown of, where it is followed
+-- the watched register that a word is shown of, if it is followed
 unfoldable pub shown_at : State → ShownEntry → Option At
 shown_at s w = shown_at_node s (node_of_device w.device s.nodes) (register_at (REGISTER_SPACE + w.offset))
 

@@ -1,18 +1,18 @@
 -- Swaps that were made and changed something: what they change, and what they tell.
 use Rattle.std.specs.Prelude.{ℕ, zero, suc, ◌+◌, ◌-◌, ◌==◌, ◌&&◌, not, nat_lt, Bool, true, false, List, [], ◌∷◌, ◌++◌, Option, Some, None, unwrap_or, if◌then◌else◌}
 use Rattle.fw_words.specs.Quadlet.{field}
-use Rattle.fw_remarks.specs.declared.register.Register.{Register}
-use Rattle.fw_remarks.specs.declared.register.Register.TheVariants.{Bandwidth, ChannelsHigh, ChannelsLow, Output, Input}
-use Rattle.fw_known.specs.declared.second.Before.{Before}
-use Rattle.fw_known.specs.declared.second.Before.TheVariants.{Nothing, Dark, Words}
-use Rattle.fw_known.specs.declared.second.Second.{Second}
-use Rattle.fw_known.specs.declared.state.State.{State}
-use Rattle.fw_known.specs.declared.swap.Made.{Made}
-use Rattle.fw_remarks.specs.declared.remark.Remark.TheVariants.{Units, Takes, Returns, Plug, TooMany, UnitsInSecond, NewInSecond, Several, MoreThanMove}
-use Rattle.fw_remarks.specs.Registers.{is_output}
-use Rattle.fw_remarks.specs.Knowing.{bit_of, is_connected, is_known_set}
-use Rattle.fw_remarks.specs.Remarks.{Said, said}
-use Rattle.fw_known.specs.States.{counted_second}
+use Rattle.fw_watch_remarks.specs.declared.register.Register.{Register}
+use Rattle.fw_watch_remarks.specs.declared.register.Register.TheVariants.{Bandwidth, ChannelsHigh, ChannelsLow, Output, Input}
+use Rattle.fw_watch_known.specs.declared.second.Before.{Before}
+use Rattle.fw_watch_known.specs.declared.second.Before.TheVariants.{Nothing, Dark, Words}
+use Rattle.fw_watch_known.specs.declared.second.Second.{Second}
+use Rattle.fw_watch_known.specs.declared.state.State.{State}
+use Rattle.fw_watch_known.specs.declared.swap.Made.{Made}
+use Rattle.fw_watch_remarks.specs.declared.remark.Remark.TheVariants.{Units, Takes, Returns, Plug, TooMany, UnitsInSecond, NewInSecond, Several, MoreThanMove}
+use Rattle.fw_watch_remarks.specs.Registers.{is_output}
+use Rattle.fw_watch_remarks.specs.Knowing.{bit_of, is_connected, is_known_set}
+use Rattle.fw_watch_remarks.specs.Remarks.{Said, said}
+use Rattle.fw_watch_known.specs.States.{counted_second}
 
 -- ---- the swap of a plug
 
@@ -28,7 +28,7 @@ are_next n m = if n + 1 == m then true else m + 1 == n
 unfoldable pub moves_one : ℕ → ℕ → Bool
 moves_one old new = if same_bits old new 1 1 then are_next (field old 2 7) (field new 2 7) else same_bits old new 2 7
 
--- the first bit after the counters that a move keeps: bit 8, but where the plug was or is not connected, an iPCR may have another channel (to bit 15),
+-- the first bit after the counters that a move keeps: bit 8, but if the plug was or is not connected, an iPCR may have another channel (to bit 15),
 -- and an oPCR another channel, rate and overhead (to bit 21)
 unfoldable pub first_kept : Register → ℕ → ℕ → ℕ
 first_kept register old new = if is_connected old && is_connected new then 8 else if is_output register then 22 else 16
@@ -49,7 +49,7 @@ is_new (Words words) (Input number) at = false
 is_new Nothing register at = false
 is_new Dark register at = false
 
--- how many units were held before the second, where that is known: those that were not left
+-- how many units were held before the second, if that is known: those that were not left
 abbrev pub units_held : Before → Option ℕ
 units_held Nothing = None
 units_held Dark = None
@@ -77,7 +77,7 @@ units_beyond (Some held) s m =
     then said m.cycle (UnitsInSecond m.by (epoch_of s) (taken_with m s.second) held) ∷ []
     else []
 
--- that is told where it is known what was held
+-- that is told if it is known what was held
 unfoldable pub new_units_remarks : State → Made → List Said
 new_units_remarks s m = units_beyond (units_held s.second.before) s m
 

@@ -1,10 +1,10 @@
 -- What a log tells: the remarks of its entries, a line each, and at its end how much was judged.
 use Rattle.std.specs.Prelude.{◌≡◌, ℕ, List, [], ◌∷◌, ◌++◌, codes, decimal}
-use Rattle.fw_entry.specs.declared.entry.Timed.{Timed}
-use Rattle.fw_remarks.specs.Remarks.{Said, Told, told, line}
-use Rattle.fw_known.specs.declared.counts.Counts.{Counts}
-use Rattle.fw_known.specs.declared.state.State.{State}
-use Rattle.fw_known.specs.States.{no_state}
+use Rattle.fw_log_entry.specs.declared.entry.Timed.{Timed}
+use Rattle.fw_watch_remarks.specs.Remarks.{Said, Told, told, line}
+use Rattle.fw_watch_known.specs.declared.counts.Counts.{Counts}
+use Rattle.fw_watch_known.specs.declared.state.State.{State}
+use Rattle.fw_watch_known.specs.States.{no_state}
 use Rattle.fw_watch.specs.Steps.{remarks, after}
 
 -- what is known after entries that follow

@@ -1,11 +1,11 @@
 //! Answers about watched registers.
 
 ghost use Rattle.std.specs.Prelude.{◌≡◌, OnOk};
-ghost use Rattle.fw_remarks.specs.Remarks.{told};
+ghost use Rattle.fw_watch_remarks.specs.Remarks.{told};
 ghost use Rattle.fw_async.specs.Reader.{IsPacket, Spells};
 ghost use Rattle.fw_async.specs.declared.packet.Packet.{Packet as AsyncPacket};
-ghost use Rattle.fw_known.specs.Judging.{judged};
-ghost use Rattle.fw_known.specs.Swapped.{swapped};
+ghost use Rattle.fw_watch_known.specs.Judging.{judged};
+ghost use Rattle.fw_watch_known.specs.Swapped.{swapped};
 ghost use Rattle.fw_watch.specs.Judging.{judge_remarks};
 ghost use Rattle.fw_watch.specs.Swaps.{swap_remarks};
 ghost use Rattle.fw_watch.specs.Answering.{heed, made, not_manager_remarks, made_remarks, after_made, found_remarks, after_found, with_manager, followed_remarks, after_followed, answer_remarks, after_answer, packet_remarks, after_packet};
@@ -13,8 +13,8 @@ ghost use Rattle.fw_watch.specs.Answering.{heed, made, not_manager_remarks, made
 use crate::judge::tell_judged;
 use crate::tell_swap::tell_swap;
 use fw_async::Packet;
-use fw_known::{Answer, Made, State};
-use fw_remarks::{At, Journal, Known, Remark};
+use fw_watch_known::{Answer, Made, State};
+use fw_watch_remarks::{At, Journal, Known, Remark};
 use fw_words::Swap;
 use std::alloc::AllocError;
 
@@ -161,7 +161,7 @@ fn take_found(
     take_swap(state, journal, cycle, a)
 }
 
-// The node of a register has answered as the resource manager, where the register is one of its.
+// The node of a register has answered as the resource manager, if the register is one of its.
 #[inline(always)]
 #[tactic(auto, unfolding(crate::specs::Answering::with_manager))]
 fn note_manager(state: &mut State, at: At)

@@ -1,12 +1,12 @@
 //! The lines of isochronous packets.
 
 ghost use Rattle.std.specs.Prelude.{◌≡◌, OnOk};
-ghost use Rattle.fw_remarks.specs.Remarks.{told};
-ghost use Rattle.fw_known.specs.Heard.{after_heard};
+ghost use Rattle.fw_watch_remarks.specs.Remarks.{told};
+ghost use Rattle.fw_watch_known.specs.Heard.{after_heard};
 ghost use Rattle.fw_watch.specs.Hearing.{start_remarks, two_remarks, free_remarks, owners_remarks, wrong_remarks, heard_remarks};
 
-use fw_known::{Channel, Heard, Packet, State};
-use fw_remarks::{Journal, Remark};
+use fw_watch_known::{Channel, Heard, Packet, State};
+use fw_watch_remarks::{Journal, Remark};
 use std::alloc::AllocError;
 
 // Tells that a node began to send.

@@ -1,12 +1,12 @@
 //! Channels that nobody has used in the second since they were taken.
 
 ghost use Rattle.std.specs.Prelude.{◌≡◌, IfOk, OnOk, is_some};
-ghost use Rattle.fw_remarks.specs.Remarks.{told};
-ghost use Rattle.fw_known.specs.Channels.{late_to};
+ghost use Rattle.fw_watch_remarks.specs.Remarks.{told};
+ghost use Rattle.fw_watch_known.specs.Channels.{late_to};
 ghost use Rattle.fw_watch.specs.Holding.{late_remarks, after_late, held_remarks, after_held};
 
-use fw_known::State;
-use fw_remarks::{Journal, Remark};
+use fw_watch_known::State;
+use fw_watch_remarks::{Journal, Remark};
 use std::alloc::AllocError;
 
 // Tells the channel that is late and was taken first, if one is, and answers whether one was.

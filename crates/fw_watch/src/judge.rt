@@ -1,14 +1,14 @@
 //! The lines of words that changed unseen.
 
 ghost use Rattle.std.specs.Prelude.{◌≡◌, OnOk};
-ghost use Rattle.fw_remarks.specs.Remarks.{told};
+ghost use Rattle.fw_watch_remarks.specs.Remarks.{told};
 ghost use Rattle.fw_watch.specs.Judging.{judge_remarks};
 
-use fw_known::State;
-use fw_remarks::{At, Journal, Remark};
+use fw_watch_known::State;
+use fw_watch_remarks::{At, Journal, Remark};
 use std::alloc::AllocError;
 
-/// Tells where a word that is found differs from what is known.
+/// Tells if a word that is found differs from what is known.
 #[tactic(auto, unfolding(crate::specs::Judging::judge_remarks))]
 pub(crate) fn tell_judged(
     state: &State,

@@ -1,12 +1,12 @@
 //! One entry: what it tells, and what is known after it.
 
 ghost use Rattle.std.specs.Prelude.{◌≡◌, OnOk};
-ghost use Rattle.fw_remarks.specs.Remarks.{told};
-ghost use Rattle.fw_known.specs.States.{reset_state};
+ghost use Rattle.fw_watch_remarks.specs.Remarks.{told};
+ghost use Rattle.fw_watch_known.specs.States.{reset_state};
 ghost use Rattle.fw_async.specs.Reader.{IsPacket, Spells};
 ghost use Rattle.fw_async.specs.declared.packet.Packet.{Packet as AsyncPacket};
-ghost use Rattle.fw_entry.specs.declared.entry.Entry.TheVariants.{Async, Iso, Reset as ResetOf};
-ghost use Rattle.fw_entry.specs.declared.entry.ResetEntry.{ResetEntry as AReset};
+ghost use Rattle.fw_log_entry.specs.declared.entry.Entry.TheVariants.{Async, Iso, Reset as ResetOf};
+ghost use Rattle.fw_log_entry.specs.declared.entry.ResetEntry.{ResetEntry as AReset};
 ghost use Rattle.fw_watch.specs.Holding.{held_remarks};
 ghost use Rattle.fw_watch.specs.Steps.{at_cycle, ticked, IsBusOf, reset_remarks, shown_at, shown_remarks, after_shown, after_event, what_remarks, after_what, remarks, after};
 
@@ -16,10 +16,10 @@ use crate::held::tell_if_held;
 use crate::judge::tell_judged;
 use fw_cip::IsoPacket;
 use fw_csr::offset::REGISTER_SPACE;
-use fw_entry::codes::event;
-use fw_entry::{Entry, EventEntry, ResetEntry, ShownEntry, Timed};
-use fw_known::{Packet, State};
-use fw_remarks::{At, Journal, Register, Remark};
+use fw_log_entry::codes::event;
+use fw_log_entry::{Entry, EventEntry, ResetEntry, ShownEntry, Timed};
+use fw_watch_known::{Packet, State};
+use fw_watch_remarks::{At, Journal, Register, Remark};
 use std::alloc::AllocError;
 
 // Takes a bus reset.
@@ -55,7 +55,7 @@ fn take_event(state: &mut State, e: &EventEntry)
     }
 }
 
-// The watched register that a word is shown of, where it is followed.
+// The watched register that a word is shown of, if it is followed.
 #[tactic(auto, unfolding(crate::specs::Steps::shown_at))]
 fn shown_at(state: &State, s: &ShownEntry) -> Option<At>
     ensures { result ≡ shown_at state.now s.now }

@@ -1,11 +1,11 @@
 //! Swaps that were made: what they change.
 
 ghost use Rattle.std.specs.Prelude.{◌≡◌, ◌<◌, ◌≤◌};
-ghost use Rattle.fw_remarks.specs.Knowing.{bit_of};
+ghost use Rattle.fw_watch_remarks.specs.Knowing.{bit_of};
 ghost use Rattle.fw_watch.specs.Swaps.{same_bits, moves_one, first_kept, is_move, next_count, changes_to, is_new, units_held};
 
-use fw_known::{Before, Second};
-use fw_remarks::{Register, bit, is_connected};
+use fw_watch_known::{Before, Second};
+use fw_watch_remarks::{Register, bit, is_connected};
 use fw_words::Quadlet;
 
 /// All units that a bus has (IEEE 1394-1995, BANDWIDTH_AVAILABLE).
@@ -34,7 +34,7 @@ fn moves_one(old: u32, new: u32) -> bool
     }
 }
 
-// The first bit after the counters that a move keeps: where the plug was or is not connected, it may have another channel, and an
+// The first bit after the counters that a move keeps: if the plug was or is not connected, it may have another channel, and an
 // output plug another rate and overhead.
 #[tactic(auto, unfolding(crate::specs::Swaps::first_kept))]
 fn first_kept(register: Register, old: u32, new: u32) -> u8
@@ -72,7 +72,7 @@ pub(crate) fn is_new(second: &Second, register: Register, at: u8) -> bool
     }
 }
 
-// How many units were held before the second, where that is known.
+// How many units were held before the second, if that is known.
 pub(crate) fn units_held(second: &Second) -> Option<u32>
     ensures { result ≡ units_held second.now.before }
 {

@@ -1,12 +1,12 @@
 //! The lines of swaps that were made.
 
 ghost use Rattle.std.specs.Prelude.{◌≡◌, ◌<◌, ◌≤◌, OnOk};
-ghost use Rattle.fw_remarks.specs.Remarks.{told};
+ghost use Rattle.fw_watch_remarks.specs.Remarks.{told};
 ghost use Rattle.fw_watch.specs.Swaps.{many_remarks, new_units_remarks, units_remarks, taken_remarks, change_remarks, changes_remarks, channels_remarks, plug_remarks, swap_remarks};
 
 use crate::swap::{ALL_UNITS, changes, is_move, is_new, units_held};
-use fw_known::{Made, State, only_change};
-use fw_remarks::{Journal, Register, Remark, bit};
+use fw_watch_known::{Made, State, only_change};
+use fw_watch_remarks::{Journal, Register, Remark, bit};
 use std::alloc::AllocError;
 
 // Tells a swap that leaves more units than there are.

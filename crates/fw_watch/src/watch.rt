@@ -1,19 +1,19 @@
 //! What a log shows of a bus, entry by entry.
 
 ghost use Rattle.std.specs.Prelude.{◌≡◌, ◌++◌, ◌∷◌, [], List, IfOk, OnOk, string_bytes};
-ghost use Rattle.fw_entry.specs.declared.entry.Timed.{Timed};
+ghost use Rattle.fw_log_entry.specs.declared.entry.Timed.{Timed};
 ghost use Rattle.fw_async.specs.Reader.{IsPacket, Spells};
 ghost use Rattle.fw_async.specs.declared.packet.Packet.{Packet as AsyncPacket};
-ghost use Rattle.fw_entry.specs.declared.entry.Entry.TheVariants.{Async, Iso, Reset as ResetOf};
-ghost use Rattle.fw_entry.specs.declared.entry.ResetEntry.{ResetEntry as AReset};
+ghost use Rattle.fw_log_entry.specs.declared.entry.Entry.TheVariants.{Async, Iso, Reset as ResetOf};
+ghost use Rattle.fw_log_entry.specs.declared.entry.ResetEntry.{ResetEntry as AReset};
 ghost use Rattle.fw_watch.specs.Steps.{at_cycle, IsBusOf};
 ghost use Rattle.fw_watch.specs.Watched.{Watches, watched, watched_end, resets_text, unseen_text, judged_text, last_text};
 
 use crate::step::{step, step_iso, step_packet, step_reset};
 use fw_cip::IsoPacket;
-use fw_entry::{ResetEntry, Timed};
-use fw_known::{Counts, State};
-use fw_remarks::Journal;
+use fw_log_entry::{ResetEntry, Timed};
+use fw_watch_known::{Counts, State};
+use fw_watch_remarks::Journal;
 use std::alloc::{AllocError, Global};
 use std::marker::Model;
 

@@ -1,18 +1,10 @@
 -- What of the account no packet changes, and no event but the end of a second.
-use Rattle.std.proofs.Common.{◌≡◌, refl, ap, sym, ◌∙◌, ℕ, ◌==◌, ◌&&◌, Bool, true, false, if◌then◌else◌, Option, Some, None, is_none}
-use Rattle.std.proofs.lemmas.Option.{same_Some}
-use Rattle.fw_words.specs.Quadlet.{quadlet_at}
-use Rattle.fw_base.specs.declared.plug.PlugAt.{PlugAt}
-use Rattle.fw_base.specs.declared.label.Label.TheVariants.{Procedure}
-use Rattle.fw_base.specs.Labels.{label_code}
-use Rattle.fw_async.specs.declared.packet.Packet.{Packet}
-use Rattle.fw_async.specs.declared.packet.Packet.TheVariants.{WriteQuadlet, WriteBlock, WriteReply, ReadQuadlet, ReadBlock, ReadQuadletReply, ReadBlockReply, CycleStart, Lock as LockRequest, LockReply}
-use Rattle.fw_entry.specs.Network.{device_of_id}
-use Rattle.fw_account.specs.Account.{Account, Operation, Reads, Locks, Request}
-use Rattle.fw_account.specs.Moves.{Move, AllocateChannel, AllocateUnits, ConnectFirst, ConnectOverlaid, ConnectInput, DisconnectInput, DisconnectOutput, ReleaseUnits, ReleaseChannel, after}
-use Rattle.fw_account.specs.Decode.{move_at}
-use Rattle.fw_account.specs.Words.{Register as Place, register_of}
-use Rattle.fw_account.specs.Packets.{asked, asked_by, Reply, Read as ReadReply, Locked, ended, moved, swapped, is_swapped, replied, is_reply_to, replied_to, answered, after_packet}
+use Rattle.fw_watch_laws.proofs.Common.{◌≡◌, refl, ap, sym, ◌∙◌, ℕ, ◌==◌, ◌&&◌, Bool, true, false, if◌then◌else◌, Option, Some, None, is_none, same_Some, quadlet_at, PlugAt, Procedure, label_code}
+use Rattle.fw_watch_laws.proofs.Common.{Packet, WriteQuadlet, WriteBlock, WriteReply, ReadQuadlet, ReadBlock, ReadQuadletReply, ReadBlockReply, CycleStart, LockRequest, LockReply, device_of_id}
+use Rattle.fw_watch_laws.proofs.Common.{Account, Operation, Reads, Locks, Request, Move, AllocateChannel, AllocateUnits, ConnectFirst, ConnectOverlaid, ConnectInput, DisconnectInput, DisconnectOutput}
+use Rattle.fw_watch_laws.proofs.Common.{ReleaseUnits, ReleaseChannel, move_at, Place, register_of, asked, asked_by, Reply, ReadReply, Locked, ended, is_swapped, replied, is_reply_to}
+use Rattle.fw_model_account.specs.Moves.{after}
+use Rattle.fw_model_account.specs.Packets.{moved, swapped, replied_to, answered, after_packet}
 
 -- the second and its flows are as they were
 pub record SecondKept (l m : Account) : Type 0 where

@@ -1,26 +1,10 @@
 -- What `watch` knows of requests and of the resource manager agrees with the account of a log without an audit fault.
-use Rattle.std.proofs.Common.{◌≡◌, refl, ap, sym, ◌∙◌, subst, ℕ, ◌+◌, ◌==◌, not, Bool, true, false, List, [], if◌then◌else◌, Option, Some, None, arith}
-use Rattle.std.specs.Bool.{⊤}
-use Rattle.std.specs.List.{All}
-use Rattle.std.proofs.lemmas.List.Elements.{All-filter}
-use Rattle.std.proofs.lemmas.Option.{same_Some}
-use Rattle.fw_entry.specs.declared.codes.event.TheConstants as Events
-use Rattle.fw_entry.specs.declared.entry.EventEntry.{EventEntry}
-use Rattle.fw_entry.specs.declared.entry.ResetEntry.{ResetEntry}
-use Rattle.fw_entry.specs.declared.entry.Entry.{Entry}
-use Rattle.fw_entry.specs.declared.entry.Entry.TheVariants.{Reset, Async, Iso, Event, Outcome, Shown, End}
-use Rattle.fw_entry.specs.declared.entry.Timed.{Timed}
-use Rattle.fw_entry.specs.Log.{Fits}
-use Rattle.fw_account.specs.Account.{Account}
-use Rattle.fw_account.specs.Fold.{no_account, next_account}
-use Rattle.fw_known.specs.declared.asked.Asked.{Asked}
-use Rattle.fw_known.specs.declared.second.Second.{Second}
-use Rattle.fw_known.specs.declared.state.State.{State}
-use Rattle.fw_known.specs.Heard.{after_heard}
-use Rattle.fw_known.specs.Standing.{answer_of, is_from, without_source}
-use Rattle.fw_known.specs.States.{manager_of, reset_state, ended_second, node_of_device, buried, after_death, no_state}
-use Rattle.fw_watch.specs.Answering.{with_packet, after_packet}
-use Rattle.fw_watch.specs.Steps.{shown_at, after_shown, after_event, after_what, packet_of, after}
+use Rattle.fw_watch_laws.proofs.Common.{◌≡◌, refl, ap, sym, ◌∙◌, subst, ℕ, ◌+◌, ◌==◌, not, Bool, true, false, List, [], if◌then◌else◌, Option, Some, None, arith, ⊤, All, All-filter, same_Some}
+use Rattle.fw_watch_laws.proofs.Common.{EventEntry, ResetEntry, Entry, Reset, Async, Iso, Event, Outcome, Shown, End, Timed, Fits, Account, no_account, next_account, Asked, Second, State, after_heard}
+use Rattle.fw_watch_laws.proofs.Common.{answer_of, is_from, without_source, reset_state, ended_second, node_of_device, buried, after_death, no_state, with_packet, after_packet, shown_at, after_shown}
+use Rattle.fw_watch_laws.proofs.Common.{after_event, after_what, packet_of, after}
+use Rattle.fw_log_entry.specs.declared.codes.event.TheConstants as Events
+use Rattle.fw_watch_known.specs.States.{manager_of}
 use Rattle.fw_watch_laws.specs.Orderly.{IsLabelledIn}
 use Rattle.fw_watch_laws.proofs.Frames.{answered_frame, word_frame, heard_frame, aside, ticked_only}
 use Rattle.fw_watch_laws.proofs.Matches.{IsApart}

@@ -1,20 +1,12 @@
 -- The request that a response answers, and the swap that an answer has made.
-use Rattle.std.proofs.Common.{◌≡◌, refl, ap, sym, ◌∙◌, subst, ℕ, ◌<◌, ◌==◌, ◌&&◌, not, Bool, true, false, List, length, if◌then◌else◌, Option, Some, None, get_or}
-use Rattle.std.specs.List.{All, position}
-use Rattle.std.proofs.lemmas.Bool.{eqb-true}
+use Rattle.fw_watch_laws.proofs.Common.{◌≡◌, refl, ap, sym, ◌∙◌, subst, ℕ, ◌<◌, ◌==◌, ◌&&◌, not, Bool, true, false, List, length, if◌then◌else◌, Option, Some, None, get_or, All, eqb-true, same_Some}
+use Rattle.fw_watch_laws.proofs.Common.{quadlet_at, Swap, COMPARE_SWAP, Head, Packet, ReadQuadletReply, LockReply, Asking, Read, SwapOf, Asked, Answer, is_read, answers, answered, node_of, old_word}
+use Rattle.fw_watch_laws.proofs.Common.{made_by, lock_answer}
+use Rattle.std.specs.List.{position}
 use Rattle.std.proofs.lemmas.List.Quantifiers.{position-Some}
-use Rattle.std.proofs.lemmas.Option.{same_Some, cond_some, get_or_from_slice_get}
-use Rattle.fw_words.specs.Quadlet.{quadlet_at}
-use Rattle.fw_words.specs.declared.swap.Swap.{Swap}
-use Rattle.fw_words.specs.declared.swap.TheConstants.{COMPARE_SWAP}
-use Rattle.fw_async.specs.declared.packet.Head.{Head}
-use Rattle.fw_async.specs.declared.packet.Packet.{Packet}
-use Rattle.fw_async.specs.declared.packet.Packet.TheVariants.{ReadQuadletReply, LockReply}
-use Rattle.fw_known.specs.declared.asked.Asking.{Asking}
-use Rattle.fw_known.specs.declared.asked.Asking.TheVariants.{Read, Swap as SwapOf, Lock}
-use Rattle.fw_known.specs.declared.asked.Asked.{Asked}
-use Rattle.fw_known.specs.declared.asked.Answer.{Answer}
-use Rattle.fw_known.specs.Standing.{is_read, alike, answers, asked_at, answered, node_of, old_word, made_by, answer_of_node, read_answer, lock_answer}
+use Rattle.std.proofs.lemmas.Option.{cond_some, get_or_from_slice_get}
+use Rattle.fw_watch_known.specs.declared.asked.Asking.TheVariants.{Lock}
+use Rattle.fw_watch_known.specs.Standing.{alike, asked_at, answer_of_node, read_answer}
 
 -- ---- requests
 

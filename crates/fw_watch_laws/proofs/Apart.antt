@@ -1,12 +1,9 @@
 -- No two node IDs of a bus reset are of one device.
-use Rattle.std.proofs.Common.{◌≡◌, refl, sym, ◌∙◌, inl, inr, ℕ, zero, suc, ◌-◌, ◌<◌, nat_le, Bool, true, false, List, [], ◌∷◌, length, if◌then◌else◌, Option, Some, None, slice_get, arith}
+use Rattle.fw_watch_laws.proofs.Common.{◌≡◌, refl, sym, ◌∙◌, inl, inr, ℕ, zero, suc, ◌-◌, ◌<◌, nat_le, Bool, true, false, List, [], ◌∷◌, length, if◌then◌else◌, Option, Some, None, slice_get, arith}
+use Rattle.fw_watch_laws.proofs.Common.{same_Some, NodeRow, ResetEntry, first_id}
 use Rattle.std.specs.Prelude.{option_map, slice_index}
 use Rattle.std.proofs.lemmas.Bool.{cases_lt, cases_eq}
-use Rattle.std.proofs.lemmas.Option.{same_Some}
-use Rattle.fw_entry.specs.declared.nodes.NodeRow.{NodeRow}
-use Rattle.fw_entry.specs.declared.entry.ResetEntry.{ResetEntry}
-use Rattle.fw_entry.specs.Log.{devices, AreApart, ResetFits}
-use Rattle.fw_entry.specs.Network.{first_id}
+use Rattle.fw_log_entry.specs.Log.{devices, AreApart, ResetFits}
 use Rattle.fw_watch_laws.proofs.Matches.{IsApart}
 
 -- the device in a row

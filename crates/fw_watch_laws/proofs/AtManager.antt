@@ -1,30 +1,11 @@
 -- No swap is told as made at a node that is not the resource manager; and what else is not told of swaps.
-use Rattle.std.proofs.Common.{◌≡◌, refl, ap, sym, ◌∙◌, ℕ, ◌&&◌, not, nat_le, Bool, true, false, List, [], ◌∷◌, ◌++◌, if◌then◌else◌, Option, Some, None}
-use Rattle.std.specs.Bool.{⊤}
-use Rattle.std.specs.List.{list_any}
-use Rattle.fw_words.specs.declared.swap.Swap.{Swap}
-use Rattle.fw_entry.specs.declared.entry.ResetEntry.{ResetEntry}
-use Rattle.fw_entry.specs.declared.entry.Timed.{Timed}
-use Rattle.fw_account.specs.Account.{Account}
-use Rattle.fw_account.specs.Fold.{no_account}
-use Rattle.fw_account.specs.Words.{Register as Place, register_at as place_at, is_node}
-use Rattle.fw_remarks.specs.declared.register.At.{At}
-use Rattle.fw_remarks.specs.declared.register.Register.{Register}
-use Rattle.fw_remarks.specs.declared.register.Register.TheVariants.{Bandwidth, ChannelsHigh, ChannelsLow, Output, Input}
-use Rattle.fw_remarks.specs.Registers.{is_managed}
-use Rattle.fw_remarks.specs.Remarks.{Said}
-use Rattle.fw_known.specs.declared.asked.Answer.{Answer}
-use Rattle.fw_known.specs.declared.channel.Channel.{Channel}
-use Rattle.fw_known.specs.declared.second.Second.{Second}
-use Rattle.fw_known.specs.declared.state.Manager.{Manager}
-use Rattle.fw_known.specs.declared.state.State.{State}
-use Rattle.fw_known.specs.declared.swap.Made.{Made}
-use Rattle.fw_known.specs.States.{manager_of, manager_by, is_manager}
-use Rattle.fw_watch.specs.declared.answer.Heed.TheVariants.{Ignore, Refuse, Follow}
-use Rattle.fw_watch.specs.Answering.{heed, made}
-use Rattle.fw_watch.specs.Steps.{ticked}
-use Rattle.fw_watch.specs.Watched.{known, all_remarks}
-use Rattle.fw_watch_laws.specs.Orderly.{IsOrderly, offset_of, is_not_manager, HasNone}
+use Rattle.fw_watch_laws.proofs.Common.{◌≡◌, refl, ap, sym, ◌∙◌, ℕ, ◌&&◌, not, nat_le, Bool, true, false, List, [], ◌∷◌, ◌++◌, if◌then◌else◌, Option, Some, None, ⊤, list_any, Swap, ResetEntry, Timed}
+use Rattle.fw_watch_laws.proofs.Common.{Account, no_account, Place, place_at, is_node, At, Register, Bandwidth, ChannelsHigh, ChannelsLow, Output, Input, is_managed, Said, Answer, Channel, Second}
+use Rattle.fw_watch_laws.proofs.Common.{State, Made, manager_by, is_manager, Ignore, Refuse, Follow, heed, made, ticked, known, IsOrderly, offset_of, HasNone}
+use Rattle.fw_watch_known.specs.declared.state.Manager.{Manager}
+use Rattle.fw_watch_known.specs.States.{manager_of}
+use Rattle.fw_watch.specs.Watched.{all_remarks}
+use Rattle.fw_watch_laws.specs.Orderly.{is_not_manager}
 use Rattle.fw_watch_laws.proofs.Frames.{aside}
 use Rattle.fw_watch_laws.proofs.Agrees.{IsManager}
 use Rattle.fw_watch_laws.proofs.Offsets.{managed_place}

@@ -1,21 +1,13 @@
 -- The numbers of the last line are those of entries and lines.
-use Rattle.std.proofs.Common.{◌≡◌, refl, ap, sym, ◌∙◌, ℕ, ◌+◌, ◌==◌, not, Bool, true, false, List, [], ◌∷◌, ◌++◌, length, if◌then◌else◌, Option, Some, None, arith}
+use Rattle.fw_watch_laws.proofs.Common.{◌≡◌, refl, ap, sym, ◌∙◌, ℕ, ◌+◌, ◌==◌, not, Bool, true, false, List, [], ◌∷◌, ◌++◌, length, if◌then◌else◌, Option, Some, None, arith, Entry, Reset, Async, Iso}
+use Rattle.fw_watch_laws.proofs.Common.{Event, Outcome, Shown, End, Timed, Known, differing, Said, State, judged_counts, known_of, no_state, judge_remarks, remarks, after, known_from, known, Glimpse}
+use Rattle.fw_watch_laws.proofs.Common.{glimpse}
 use Rattle.std.specs.List.{count_by}
 use Rattle.std.proofs.lemmas.List.Sums.{length-filter, sum_by-append}
-use Rattle.fw_entry.specs.declared.entry.Entry.{Entry}
-use Rattle.fw_entry.specs.declared.entry.Entry.TheVariants.{Reset, Async, Iso, Event, Outcome, Shown, End}
-use Rattle.fw_entry.specs.declared.entry.Timed.{Timed}
-use Rattle.fw_remarks.specs.declared.known.Known.{Known}
-use Rattle.fw_remarks.specs.Knowing.{differing}
-use Rattle.fw_remarks.specs.Remarks.{Said, Told, told, with_line, is_finding, counted}
-use Rattle.fw_known.specs.declared.counts.Counts.{Counts}
-use Rattle.fw_known.specs.declared.state.State.{State}
-use Rattle.fw_known.specs.Judging.{judged_counts}
-use Rattle.fw_known.specs.States.{capped, known_of, no_state}
-use Rattle.fw_watch.specs.Judging.{judge_remarks}
-use Rattle.fw_watch.specs.Steps.{remarks, after}
-use Rattle.fw_watch.specs.Watched.{known_from, known, remarks_from, all_remarks}
-use Rattle.fw_watch_laws.specs.LastKnown.{Glimpse, glimpse}
+use Rattle.fw_watch_remarks.specs.Remarks.{Told, told, with_line, is_finding, counted}
+use Rattle.fw_watch_known.specs.declared.counts.Counts.{Counts}
+use Rattle.fw_watch_known.specs.States.{capped}
+use Rattle.fw_watch.specs.Watched.{remarks_from, all_remarks}
 use Rattle.fw_watch_laws.specs.ChangedUnseen.{is_unseen}
 use Rattle.fw_watch_laws.specs.Counting.{is_reset, is_iso, can_judge, is_first, seen_so, one_if, count_from, AreCounted}
 use Rattle.fw_watch_laws.proofs.Tallies.{found_counts, seen_counts, entry_counts, step_counts}

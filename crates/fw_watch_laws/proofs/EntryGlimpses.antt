@@ -1,24 +1,10 @@
 -- What an entry shows of a register is the account's word.
-use Rattle.std.proofs.Common.{◌≡◌, ◌≢◌, refl, ap, sym, ◌∙◌, subst, inl, inr, ℕ, ◌==◌, Bool, true, false, List, if◌then◌else◌, Option, Some, None, is_none, IfSome}
-use Rattle.std.specs.List.{All}
-use Rattle.std.proofs.lemmas.Bool.{eqb-true, eq-eqb}
-use Rattle.std.proofs.lemmas.Option.{same_Some}
-use Rattle.fw_base.specs.declared.label.Label.TheVariants.{Procedure}
-use Rattle.fw_base.specs.Labels.{label_code}
-use Rattle.fw_async.specs.declared.packet.Head.{Head}
-use Rattle.fw_async.specs.declared.packet.Packet.{Packet}
-use Rattle.fw_async.specs.declared.packet.Packet.TheVariants.{WriteQuadlet, WriteBlock, WriteReply, ReadQuadlet, ReadBlock, ReadQuadletReply, ReadBlockReply, CycleStart, Lock as LockRequest, LockReply}
-use Rattle.fw_entry.specs.Network.{device_of_id}
-use Rattle.fw_account.specs.Account.{Account, Reads, Locks, Request}
-use Rattle.fw_account.specs.Packets.{asked, asked_by, Read as ReadReply, Locked, answered as answered_to, after_packet}
-use Rattle.fw_account.specs.Sound.{IsSound}
-use Rattle.fw_account.specs.Words.{word_of, word_at}
-use Rattle.fw_faults.specs.Looked.{looked_packet, ShowsWords}
-use Rattle.fw_known.specs.declared.asked.Answer.{Answer}
-use Rattle.fw_known.specs.declared.state.State.{State}
-use Rattle.fw_known.specs.Standing.{answered, lock_answer, answer_of}
-use Rattle.fw_watch_laws.specs.LastKnown.{answer_glimpse}
-use Rattle.fw_watch_laws.specs.Orderly.{offset_of}
+use Rattle.fw_watch_laws.proofs.Common.{◌≡◌, ◌≢◌, refl, ap, sym, ◌∙◌, subst, inl, inr, ℕ, ◌==◌, Bool, true, false, List, if◌then◌else◌, Option, Some, None, is_none, IfSome, All, eqb-true, eq-eqb}
+use Rattle.fw_watch_laws.proofs.Common.{same_Some, Procedure, label_code, Head, Packet, WriteQuadlet, WriteBlock, WriteReply, ReadQuadlet, ReadBlock, ReadQuadletReply, ReadBlockReply, CycleStart}
+use Rattle.fw_watch_laws.proofs.Common.{LockRequest, LockReply, device_of_id, Account, Reads, Locks, Request, asked, asked_by, ReadReply, Locked, IsSound, word_of, looked_packet, ShowsWords, Answer}
+use Rattle.fw_watch_laws.proofs.Common.{State, answered, lock_answer, answer_of, answer_glimpse, offset_of}
+use Rattle.fw_model_account.specs.Packets.{answered as answered_to, after_packet}
+use Rattle.fw_model_account.specs.Words.{word_at}
 use Rattle.fw_watch_laws.proofs.SwapAnswers.{answer_is}
 use Rattle.fw_watch_laws.proofs.Numbers.{IsAt, IsOf as IsNumbered, answer_within}
 use Rattle.fw_watch_laws.proofs.Outstanding.{IsReplyTo, reply_to}

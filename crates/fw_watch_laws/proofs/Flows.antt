@@ -1,16 +1,12 @@
 -- The flows that may be allocated again in the second after a bus reset, held against what was known before it.
-use Rattle.std.proofs.Common.{◌≡◌, ◌≢◌, refl, ap, sym, ◌∙◌, subst, inl, inr, ◌⊎◌, ℕ, ◌+◌, ◌-◌, ◌<◌, ◌≤◌, ◌==◌, ◌&&◌, not, Bool, true, false, Option, Some, None, arith}
-use Rattle.std.proofs.lemmas.Bool.Decides.{nat_tests}
-use Rattle.fw_base.proofs.Tables.{sum_to_le}
-use Rattle.fw_plug.specs.Words.{flag, units_of}
-use Rattle.fw_account.specs.Account.{Account, Connected, Allocation, Flow, allocated, flow_units, total, reclaimable_total, is_free, is_withheld}
-use Rattle.fw_account.specs.Events.{talker_at}
-use Rattle.fw_account.specs.Sound.{IsSound}
-use Rattle.fw_account.specs.Words.{BandwidthAvailable, ChannelsAvailable, word_of}
-use Rattle.fw_account.proofs.Events.{IsTalker, talker_at_is, talker_is_allocated}
-use Rattle.fw_remarks.specs.declared.known.Known.{Known}
-use Rattle.fw_remarks.specs.declared.known.Managed.{Managed}
-use Rattle.fw_remarks.specs.Knowing.{all_known, bit_of, is_known_set}
+use Rattle.fw_watch_laws.proofs.Common.{◌≡◌, ◌≢◌, refl, ap, sym, ◌∙◌, subst, inl, inr, ◌⊎◌, ℕ, ◌+◌, ◌-◌, ◌<◌, ◌≤◌, ◌==◌, ◌&&◌, not, Bool, true, false, Option, Some, None, arith, nat_tests, flag}
+use Rattle.fw_watch_laws.proofs.Common.{Account, Allocation, total, IsSound, BandwidthAvailable, ChannelsAvailable, word_of, Known, Managed, all_known, bit_of}
+use Rattle.fw_terms.proofs.Tables.{sum_to_le}
+use Rattle.fw_plug.specs.Words.{units_of}
+use Rattle.fw_model_account.specs.Account.{Connected, Flow, allocated, flow_units, reclaimable_total, is_free, is_withheld}
+use Rattle.fw_model_account.specs.Events.{talker_at}
+use Rattle.fw_model_account.proofs.Events.{IsTalker, talker_at_is, talker_is_allocated}
+use Rattle.fw_watch_remarks.specs.Knowing.{is_known_set}
 use Rattle.fw_watch_laws.proofs.Several.{channel_bit}
 
 -- ---- what is known of the resource manager's registers
@@ -48,7 +44,7 @@ same_held w l m e h = record {
   low = λ at f a b g. h.low at f a b (ap (λ (t : ℕ → Option Flow). t (32 + at)) (sym e) ∙ g);
 }
 
--- ---- where no second ran, the flows are those of talkers, and these are allocated
+-- ---- if no second ran, the flows are those of talkers, and these are allocated
 
 -- what is allocated is not free
 pub taken_bit : (l : Account) (base at : ℕ) (x : Allocation) → at < 32 → l.allocations (base + at) ≡ Some x → bit_of (word_of l (ChannelsAvailable base)) at ≡ false

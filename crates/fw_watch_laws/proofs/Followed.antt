@@ -1,26 +1,10 @@
 -- What `watch` knows of registers is the account's, at each bit that it knows.
-use Rattle.std.proofs.Common.{◌≡◌, ◌≢◌, refl, ap, sym, ◌∙◌, subst, ℕ, Bool, true, false, if◌then◌else◌, Option, Some, None, unwrap_or, arith, true≢false}
-use Rattle.std.proofs.lemmas.Option.{same_Some}
-use Rattle.fw_async.specs.declared.packet.Packet.{Packet}
-use Rattle.fw_entry.specs.declared.entry.ResetEntry.{ResetEntry}
-use Rattle.fw_entry.specs.declared.entry.Entry.{Entry}
-use Rattle.fw_entry.specs.declared.entry.Entry.TheVariants.{Reset, Async, Iso, Event, Outcome, Shown, End}
-use Rattle.fw_entry.specs.declared.entry.Timed.{Timed}
-use Rattle.fw_account.specs.Account.{Account}
-use Rattle.fw_account.specs.Events.{after_reset}
-use Rattle.fw_account.specs.Fold.{next_account}
-use Rattle.fw_account.specs.Sound.{IsSound}
-use Rattle.fw_account.specs.Words.{Register as Place, word_of}
-use Rattle.fw_account.proofs.Bounds.{register_there}
-use Rattle.fw_faults.specs.Looked.{looked, ShowsWords}
-use Rattle.fw_remarks.specs.declared.known.Known.{Known}
-use Rattle.fw_remarks.specs.declared.register.Register.{Register}
-use Rattle.fw_remarks.specs.Knowing.{differing}
-use Rattle.fw_known.specs.declared.state.State.{State}
-use Rattle.fw_known.specs.States.{known_of}
-use Rattle.fw_watch.specs.Steps.{after}
-use Rattle.fw_watch_laws.specs.LastKnown.{IsPlace, Glimpse, glimpse, is_same, left_by, left, fixed}
-use Rattle.fw_watch_laws.specs.Orderly.{offset_of}
+use Rattle.fw_watch_laws.proofs.Common.{◌≡◌, ◌≢◌, refl, ap, sym, ◌∙◌, subst, ℕ, Bool, true, false, if◌then◌else◌, Option, Some, None, unwrap_or, arith, true≢false, same_Some, Packet, ResetEntry}
+use Rattle.fw_watch_laws.proofs.Common.{Entry, Reset, Async, Iso, Event, Outcome, Shown, End, Timed, Account, after_reset, next_account, IsSound, Place, word_of, ShowsWords, Known, Register}
+use Rattle.fw_watch_laws.proofs.Common.{differing, State, known_of, after, IsPlace, Glimpse, glimpse, left, fixed, offset_of}
+use Rattle.fw_model_account.proofs.Bounds.{register_there}
+use Rattle.fw_model_audit.specs.Looked.{looked}
+use Rattle.fw_watch_laws.specs.LastKnown.{is_same, left_by}
 use Rattle.fw_watch_laws.proofs.Keeps.{Whole}
 use Rattle.fw_watch_laws.proofs.Knows.{known_step}
 use Rattle.fw_watch_laws.proofs.Latest.{latest_after}
@@ -68,7 +52,7 @@ after_glimpse (Some gl) s l m n g v x a k y = sees_if (is_same gl.at (record { n
 
 -- ---- entries
 
--- what an entry shows is the account's, where it is no bus reset
+-- what an entry shows is the account's, if it is no bus reset
 unfoldable pub SeenIn : Entry → State → Account → Account → Type 0
 SeenIn (Reset r) s l m = Unit {0}
 SeenIn (Async p) s l m = Seen l m (glimpse s (Async p))

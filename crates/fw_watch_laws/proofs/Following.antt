@@ -1,26 +1,11 @@
 -- Requests that stand and requests that are outstanding, after an entry.
-use Rattle.std.proofs.Common.{◌≡◌, refl, ap, sym, ◌∙◌, subst, ℕ, ◌+◌, ◌==◌, not, Bool, true, false, List, [], if◌then◌else◌, Option, Some, None, is_some, arith, get_or}
-use Rattle.std.proofs.lemmas.List.Elements.{All-filter}
-use Rattle.std.proofs.lemmas.Option.{same_Some}
-use Rattle.fw_entry.specs.declared.codes.event.TheConstants as Events
-use Rattle.fw_entry.specs.declared.entry.EventEntry.{EventEntry}
-use Rattle.fw_entry.specs.declared.entry.ResetEntry.{ResetEntry}
-use Rattle.fw_entry.specs.declared.entry.Entry.{Entry}
-use Rattle.fw_entry.specs.declared.entry.Entry.TheVariants.{Reset, Async, Iso, Event, Outcome, Shown, End}
-use Rattle.fw_entry.specs.declared.entry.Timed.{Timed}
-use Rattle.fw_entry.specs.Network.{device_of_id}
-use Rattle.fw_account.specs.Account.{Account, Request}
-use Rattle.fw_account.specs.Events.{after_second, after_withholding, after_death as death_in}
-use Rattle.fw_account.specs.Fold.{after_event as event_in, next_account}
-use Rattle.fw_known.specs.declared.asked.Asked.{Asked}
-use Rattle.fw_known.specs.declared.channel.Channel.{Channel}
-use Rattle.fw_known.specs.declared.second.Second.{Second}
-use Rattle.fw_known.specs.declared.state.State.{State}
-use Rattle.fw_known.specs.Heard.{after_heard}
-use Rattle.fw_known.specs.Standing.{answer_of, is_from, without_source}
-use Rattle.fw_known.specs.States.{reset_state, ended_second, node_of_device, buried, after_death}
-use Rattle.fw_watch.specs.Answering.{with_packet, after_packet}
-use Rattle.fw_watch.specs.Steps.{shown_at, after_shown, after_event, after_what, after}
+use Rattle.fw_watch_laws.proofs.Common.{◌≡◌, refl, ap, sym, ◌∙◌, subst, ℕ, ◌+◌, ◌==◌, not, Bool, true, false, List, [], if◌then◌else◌, Option, Some, None, is_some, arith, get_or, All-filter}
+use Rattle.fw_watch_laws.proofs.Common.{same_Some, EventEntry, ResetEntry, Entry, Reset, Async, Iso, Event, Outcome, Shown, End, Timed, device_of_id, Account, Request, after_second, after_withholding}
+use Rattle.fw_watch_laws.proofs.Common.{next_account, Asked, Channel, Second, State, after_heard, answer_of, is_from, without_source, reset_state, ended_second, node_of_device, buried, after_death}
+use Rattle.fw_watch_laws.proofs.Common.{with_packet, after_packet, shown_at, after_shown, after_event, after_what, after}
+use Rattle.fw_log_entry.specs.declared.codes.event.TheConstants as Events
+use Rattle.fw_model_account.specs.Events.{after_death as death_in}
+use Rattle.fw_model_account.specs.Fold.{after_event as event_in}
 use Rattle.fw_watch_laws.proofs.Frames.{answered_frame, word_frame, aside, ticked_only}
 use Rattle.fw_watch_laws.proofs.Matches.{IsApart, IsMatched}
 use Rattle.fw_watch_laws.proofs.Matching.{AllMatched, packet_matched, IsEnded, ended_all}
@@ -28,7 +13,7 @@ use Rattle.fw_watch_laws.proofs.Matching.{AllMatched, packet_matched, IsEnded, e
 pub none_matched : (l : Account) → AllMatched l []
 none_matched l k d h = absurd (omega (arith, h))
 
--- where the nodes and what is outstanding are as they were
+-- if the nodes and what is outstanding are as they were
 same_asks : (l m : Account) (xs : List Asked) → m.latest ≡ l.latest → m.outstanding ≡ l.outstanding → AllMatched l xs → AllMatched m xs
 same_asks l m xs e f a k d n =
     λ c r label of out target.
@@ -96,7 +81,7 @@ what_matched cycle (Shown w) l m s c d i n a =
     subst P (sym (word_frame (shown_at (aside s c d) w) w.word (aside s c d)).standing) (same_account l m s.standing n a)
 what_matched cycle End l m s c d i n a = same_account l m s.standing n a
 
--- they are matched after an entry, where the account goes on
+-- they are matched after an entry, if the account goes on
 pub step_matched : (t : Timed) (l m : Account) (s : State) → IsApart l.latest → next_account l t.what ≡ Some m → AllMatched l s.standing → AllMatched m (after s t).standing
 unfolding after
 step_matched t l m s i n a =

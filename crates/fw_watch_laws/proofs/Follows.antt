@@ -1,18 +1,9 @@
 -- A register of the account is followed.
-use Rattle.std.proofs.Common.{◌≡◌, refl, sym, subst, ℕ, ◌<◌, ◌&&◌, not, nat_le, Bool, true, false, length, if◌then◌else◌, Option, Some, None, IfSome, arith}
-use Rattle.std.proofs.lemmas.Bool.{eqb-true}
-use Rattle.std.proofs.lemmas.Bool.Decides.{nat_tests}
-use Rattle.std.proofs.lemmas.Option.{slice_get_within, same_Some}
-use Rattle.fw_entry.specs.declared.entry.ResetEntry.{ResetEntry}
-use Rattle.fw_entry.specs.Log.{ResetFits}
-use Rattle.fw_account.specs.Words.{Register as Place, is_node}
-use Rattle.fw_remarks.specs.declared.register.Register.{Register}
-use Rattle.fw_remarks.specs.declared.register.Register.TheVariants.{Bandwidth, ChannelsHigh, ChannelsLow, Output, Input}
-use Rattle.fw_remarks.specs.Registers.{is_managed}
-use Rattle.fw_known.specs.declared.state.State.{State}
-use Rattle.fw_known.specs.States.{manager_by, is_manager}
-use Rattle.fw_watch.specs.declared.answer.Heed.TheVariants.{Ignore, Refuse, Follow}
-use Rattle.fw_watch.specs.Answering.{heed}
+use Rattle.fw_watch_laws.proofs.Common.{◌≡◌, refl, sym, subst, ℕ, ◌<◌, ◌&&◌, not, nat_le, Bool, true, false, length, if◌then◌else◌, Option, Some, None, IfSome, arith, eqb-true, nat_tests, same_Some}
+use Rattle.fw_watch_laws.proofs.Common.{ResetEntry, Place, is_node, Register, Bandwidth, ChannelsHigh, ChannelsLow, Output, Input, is_managed, State, manager_by, is_manager, Ignore, Refuse, Follow}
+use Rattle.fw_watch_laws.proofs.Common.{heed}
+use Rattle.std.proofs.lemmas.Option.{slice_get_within}
+use Rattle.fw_log_entry.specs.Log.{ResetFits}
 use Rattle.fw_watch_laws.proofs.Agrees.{IsManager}
 use Rattle.fw_watch_laws.proofs.Offsets.{managed_place}
 use Rattle.fw_watch_laws.proofs.PlugPlaces.{output_place, input_place}

@@ -1,31 +1,16 @@
 -- What answers, shown words and packets leave as it was.
-use Rattle.std.proofs.Common.{◌≡◌, refl, ap, ◌∙◌, ℕ, zero, suc, Bool, true, false, List, length, if◌then◌else◌, Option, Some, None}
+use Rattle.fw_watch_laws.proofs.Common.{◌≡◌, refl, ap, ◌∙◌, ℕ, zero, suc, Bool, true, false, List, length, if◌then◌else◌, Option, Some, None, Known, At, Register, Bandwidth, ChannelsHigh, ChannelsLow}
+use Rattle.fw_watch_laws.proofs.Common.{Output, Input, is_managed, nothing_known, all_known, Swap, Answer, Channel, Second, State, Made, after_heard, judged, judged_counts, known_of, with_known}
+use Rattle.fw_watch_laws.proofs.Common.{with_known_plug, ticked_second, manager_by, holder_of, with_holder, swapped_by, swapped, Heed, Ignore, Refuse, Follow, made, after_made, after_found}
+use Rattle.fw_watch_laws.proofs.Common.{with_manager, after_shown_by, after_followed, heed, after_heeded, after_answer, after_answered, ticked, after_word}
 use Rattle.std.proofs.lemmas.List.{length-set}
-use Rattle.fw_remarks.specs.declared.known.Known.{Known}
-use Rattle.fw_remarks.specs.declared.register.At.{At}
-use Rattle.fw_remarks.specs.declared.register.Register.{Register}
-use Rattle.fw_remarks.specs.declared.register.Register.TheVariants.{Bandwidth, ChannelsHigh, ChannelsLow, Output, Input}
-use Rattle.fw_remarks.specs.Registers.{plug_index, is_managed}
-use Rattle.fw_remarks.specs.Knowing.{nothing_known, all_known}
-use Rattle.fw_words.specs.declared.swap.Swap.{Swap}
-use Rattle.fw_known.specs.declared.asked.Answer.{Answer}
-use Rattle.fw_known.specs.declared.channel.Channel.{Channel}
-use Rattle.fw_known.specs.declared.channels.Late.{Late}
-use Rattle.fw_known.specs.declared.second.Second.{Second}
-use Rattle.fw_known.specs.declared.hear.Packet.{Packet}
-use Rattle.fw_known.specs.declared.state.Manager.{Manager}
-use Rattle.fw_known.specs.declared.state.State.{State}
-use Rattle.fw_known.specs.declared.swap.Made.{Made}
-use Rattle.fw_known.specs.Channels.{late_to}
-use Rattle.fw_known.specs.Heard.{after_heard}
-use Rattle.fw_known.specs.Judging.{judged, judged_counts}
-use Rattle.fw_known.specs.States.{known_of, with_known, with_known_plug, ticked_second, manager_of, manager_by}
-use Rattle.fw_known.specs.Swapped.{holder_of, with_holder, swapped_by, swapped}
-use Rattle.fw_watch.specs.declared.answer.Heed.{Heed}
-use Rattle.fw_watch.specs.declared.answer.Heed.TheVariants.{Ignore, Refuse, Follow}
-use Rattle.fw_watch.specs.Answering.{made, after_made, after_found, with_manager, after_shown_by, after_followed, heed, after_heeded, after_answer, after_answered}
+use Rattle.fw_watch_remarks.specs.Registers.{plug_index}
+use Rattle.fw_watch_known.specs.declared.channels.Late.{Late}
+use Rattle.fw_watch_known.specs.declared.hear.Packet.{Packet}
+use Rattle.fw_watch_known.specs.declared.state.Manager.{Manager}
+use Rattle.fw_watch_known.specs.Channels.{late_to}
+use Rattle.fw_watch_known.specs.States.{manager_of}
 use Rattle.fw_watch.specs.Holding.{after_late, after_held}
-use Rattle.fw_watch.specs.Steps.{ticked, after_word}
 
 -- the nodes and the requests that stand are the same, the table of plugs is as long, and the manager of a bus reset stays
 pub record Frame (s t : State) : Type 0 where

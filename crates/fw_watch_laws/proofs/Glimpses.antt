@@ -1,26 +1,9 @@
 -- What an answer shows of a register is the account's word, and it leaves the account's word after it.
-use Rattle.std.proofs.Common.{◌≡◌, refl, ap, sym, ◌∙◌, subst, ℕ, ◌==◌, ◌&&◌, not, Bool, true, false, List, length, if◌then◌else◌, Option, Some, None}
-use Rattle.std.proofs.lemmas.Bool.{eqb-true, eq-eqb}
-use Rattle.fw_words.specs.Quadlet.{quadlet_at}
-use Rattle.fw_words.specs.declared.swap.Swap.{Swap}
-use Rattle.fw_words.specs.declared.swap.TheConstants.{COMPARE_SWAP}
-use Rattle.fw_async.specs.declared.packet.Packet.{Packet}
-use Rattle.fw_async.specs.declared.packet.Packet.TheVariants.{LockReply}
-use Rattle.fw_entry.specs.declared.entry.ResetEntry.{ResetEntry}
-use Rattle.fw_account.specs.Account.{Account, Operation, Reads, Locks}
-use Rattle.fw_account.specs.Packets.{Locked, is_reply_to, after_packet}
-use Rattle.fw_account.specs.Sound.{IsSound}
-use Rattle.fw_account.specs.Words.{Register as Place, word_of}
-use Rattle.fw_faults.specs.Looked.{looked_packet, quadlet_in, IsQuadlet, ShowsWords}
-use Rattle.fw_remarks.specs.Knowing.{all_known}
-use Rattle.fw_known.specs.declared.asked.Asking.{Asking}
-use Rattle.fw_known.specs.declared.asked.Asking.TheVariants.{Swap as SwapOf}
-use Rattle.fw_known.specs.declared.asked.Answer.{Answer}
-use Rattle.fw_known.specs.declared.state.State.{State}
-use Rattle.fw_known.specs.Standing.{old_word, made_by}
-use Rattle.fw_watch.specs.declared.answer.Heed.{Heed}
-use Rattle.fw_watch.specs.Answering.{heed}
-use Rattle.fw_watch_laws.specs.LastKnown.{Glimpse, glimpse_by, word_left, known_left}
+use Rattle.fw_watch_laws.proofs.Common.{◌≡◌, refl, ap, sym, ◌∙◌, subst, ℕ, ◌==◌, ◌&&◌, not, Bool, true, false, List, length, if◌then◌else◌, Option, Some, None, eqb-true, eq-eqb, quadlet_at, Swap}
+use Rattle.fw_watch_laws.proofs.Common.{COMPARE_SWAP, Packet, LockReply, ResetEntry, Account, Operation, Reads, Locks, Locked, is_reply_to, IsSound, Place, word_of, looked_packet, ShowsWords}
+use Rattle.fw_watch_laws.proofs.Common.{all_known, Asking, SwapOf, Answer, State, old_word, made_by, Heed, heed, Glimpse, glimpse_by, word_left, known_left}
+use Rattle.fw_model_account.specs.Packets.{after_packet}
+use Rattle.fw_model_audit.specs.Looked.{quadlet_in, IsQuadlet}
 use Rattle.fw_watch_laws.proofs.Agrees.{Agrees}
 use Rattle.fw_watch_laws.proofs.Answered.{IsMade, made_is, IsLockAnswer}
 use Rattle.fw_watch_laws.proofs.SwapAnswers.{IsSwapAnswer}
@@ -41,7 +24,7 @@ pub record Sees (l m : Account) (g : Glimpse) : Type 0 where
   pub word : g.left ≡ all_known (word_of m place)
   pub others : OthersSame l m place
 
--- where nothing is seen, no word changes, once there was a bus reset
+-- if nothing is seen, no word changes, once there was a bus reset
 abbrev pub Seen : Account → Account → Option Glimpse → Type 0
 Seen l m None = (r : ResetEntry) → l.latest ≡ Some r → (v : Place) → word_of m v ≡ word_of l v
 Seen l m (Some g) = Sees l m g

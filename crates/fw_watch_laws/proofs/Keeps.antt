@@ -1,27 +1,12 @@
 -- The state keeps what was last known of each register.
-use Rattle.std.proofs.Common.{◌≡◌, refl, ap, sym, ◌∙◌, subst, ℕ, ◌+◌, ◌*◌, ◌==◌, Bool, true, false, List, [], ◌∷◌, length, if◌then◌else◌, Option, Some, None, unwrap_or, arith}
-use Rattle.std.specs.List.{All}
+use Rattle.fw_watch_laws.proofs.Common.{◌≡◌, refl, ap, sym, ◌∙◌, subst, ℕ, ◌+◌, ◌*◌, ◌==◌, Bool, true, false, List, [], ◌∷◌, length, if◌then◌else◌, Option, Some, None, unwrap_or, arith, All}
+use Rattle.fw_watch_laws.proofs.Common.{EventEntry, Entry, Reset, Async, Iso, Event, Outcome, Shown, End, Timed, Known, At, Register, Bandwidth, ChannelsHigh, ChannelsLow, Output, Input}
+use Rattle.fw_watch_laws.proofs.Common.{nothing_known, Asked, Channel, Second, State, answer_of, known_of, no_state, reset_state, ended_second, node_of_device, buried, after_death, with_packet}
+use Rattle.fw_watch_laws.proofs.Common.{after_packet, shown_at, after_shown, after_event, after_what, packet_of, after, known_from, known, IsPlace, left}
 use Rattle.std.proofs.lemmas.List.{get_or-replicate, length-replicate}
-use Rattle.fw_entry.specs.declared.codes.event.TheConstants as Events
-use Rattle.fw_entry.specs.declared.entry.EventEntry.{EventEntry}
-use Rattle.fw_entry.specs.declared.entry.Entry.{Entry}
-use Rattle.fw_entry.specs.declared.entry.Entry.TheVariants.{Reset, Async, Iso, Event, Outcome, Shown, End}
-use Rattle.fw_entry.specs.declared.entry.Timed.{Timed}
-use Rattle.fw_remarks.specs.declared.known.Known.{Known}
-use Rattle.fw_remarks.specs.declared.register.At.{At}
-use Rattle.fw_remarks.specs.declared.register.Register.{Register}
-use Rattle.fw_remarks.specs.declared.register.Register.TheVariants.{Bandwidth, ChannelsHigh, ChannelsLow, Output, Input}
-use Rattle.fw_remarks.specs.Knowing.{nothing_known, after_reset}
-use Rattle.fw_known.specs.declared.asked.Asked.{Asked}
-use Rattle.fw_known.specs.declared.channel.Channel.{Channel}
-use Rattle.fw_known.specs.declared.second.Second.{Second}
-use Rattle.fw_known.specs.declared.state.State.{State}
-use Rattle.fw_known.specs.Standing.{answer_of}
-use Rattle.fw_known.specs.States.{known_of, no_state, reset_state, ended_second, node_of_device, buried, after_death}
-use Rattle.fw_watch.specs.Answering.{with_packet, after_packet}
-use Rattle.fw_watch.specs.Steps.{shown_at, after_shown, after_event, after_what, packet_of, after}
-use Rattle.fw_watch.specs.Watched.{known_from, known}
-use Rattle.fw_watch_laws.specs.LastKnown.{IsPlace, left, later, latest, last_known}
+use Rattle.fw_log_entry.specs.declared.codes.event.TheConstants as Events
+use Rattle.fw_watch_remarks.specs.Knowing.{after_reset}
+use Rattle.fw_watch_laws.specs.LastKnown.{later, latest, last_known}
 use Rattle.fw_watch_laws.proofs.Frames.{Frame, answered_frame, word_frame, heard_frame, aside, ticked_only}
 use Rattle.fw_watch_laws.proofs.Numbers.{IsAt, standing_within, source_within}
 use Rattle.fw_watch_laws.proofs.Knows.{known_step}

@@ -1,27 +1,11 @@
 -- In a log without an audit fault, whose other answers show the words of the account, no word changes unseen.
-use Rattle.std.proofs.Common.{◌≡◌, refl, ap, sym, ◌∙◌, subst, ℕ, ◌==◌, Bool, true, false, List, [], ◌∷◌, ◌++◌, if◌then◌else◌, Option, Some, None}
-use Rattle.std.proofs.lemmas.Bool.{eq-eqb}
-use Rattle.std.specs.List.{All}
+use Rattle.fw_watch_laws.proofs.Common.{◌≡◌, refl, ap, sym, ◌∙◌, subst, ℕ, ◌==◌, Bool, true, false, List, [], ◌∷◌, ◌++◌, if◌then◌else◌, Option, Some, None, eq-eqb, All, Entry, Reset, Async, Iso}
+use Rattle.fw_watch_laws.proofs.Common.{Event, Outcome, Shown, End, Timed, Account, no_account, word_of, Packet, differing, Said, State, known_of, no_state, answer_of, judge_remarks, remarks, after}
+use Rattle.fw_watch_laws.proofs.Common.{known, Glimpse, glimpse, IsOrderly, HasNone}
 use Rattle.std.proofs.lemmas.List.Elements.{All-head, All-tail}
-use Rattle.fw_entry.specs.declared.entry.Entry.{Entry}
-use Rattle.fw_entry.specs.declared.entry.Entry.TheVariants.{Reset, Async, Iso, Event, Outcome, Shown, End}
-use Rattle.fw_entry.specs.declared.entry.Timed.{Timed}
-use Rattle.fw_account.specs.Account.{Account}
-use Rattle.fw_account.specs.Fold.{no_account}
-use Rattle.fw_account.specs.Words.{word_of}
-use Rattle.fw_account.proofs.Fold.{next_keeps}
-use Rattle.fw_async.specs.declared.packet.Packet.{Packet}
-use Rattle.fw_remarks.specs.Knowing.{differing}
-use Rattle.fw_remarks.specs.Remarks.{Said}
-use Rattle.fw_known.specs.declared.state.State.{State}
-use Rattle.fw_known.specs.States.{known_of, no_state}
-use Rattle.fw_known.specs.Standing.{answer_of}
-use Rattle.fw_watch.specs.Judging.{judge_remarks}
-use Rattle.fw_watch.specs.Steps.{remarks, after}
-use Rattle.fw_watch.specs.Watched.{known}
-use Rattle.fw_watch_laws.specs.LastKnown.{Glimpse, glimpse}
+use Rattle.fw_model_account.proofs.Fold.{next_keeps}
 use Rattle.fw_watch_laws.specs.ChangedUnseen.{tells_unseen, is_unseen}
-use Rattle.fw_watch_laws.specs.Orderly.{IsOrderly, ShowsAccount, IsApartIn, HasNone}
+use Rattle.fw_watch_laws.specs.Orderly.{ShowsAccount, IsApartIn}
 use Rattle.fw_watch_laws.proofs.Keeps.{whole_known}
 use Rattle.fw_watch_laws.proofs.Latest.{latest_after, next_latest}
 use Rattle.fw_watch_laws.proofs.OnBus.{IsOnBus, step_on}

@@ -1,36 +1,17 @@
 -- What is known of a register after an entry.
-use Rattle.std.proofs.Common.{◌≡◌, refl, ap, ◌∙◌, ℕ, ◌+◌, ◌*◌, ◌==◌, ◌&&◌, not, Bool, true, false, List, length, if◌then◌else◌, Option, Some, None, IfSome, unwrap_or, arith}
-use Rattle.std.specs.List.{All}
+use Rattle.fw_watch_laws.proofs.Common.{◌≡◌, refl, ap, ◌∙◌, ℕ, ◌+◌, ◌*◌, ◌==◌, ◌&&◌, not, Bool, true, false, List, length, if◌then◌else◌, Option, Some, None, IfSome, unwrap_or, arith, All, Swap}
+use Rattle.fw_watch_laws.proofs.Common.{ResetEntry, EventEntry, register_at, is_managed, Entry, Reset, Async, Iso, Event, Outcome, Shown, End, Timed, Known, At, Register, Bandwidth, ChannelsHigh}
+use Rattle.fw_watch_laws.proofs.Common.{ChannelsLow, Output, Input, nothing_known, all_known, Answer, Channel, Second, State, after_heard, judged, judged_counts, answer_of, known_of, with_known}
+use Rattle.fw_watch_laws.proofs.Common.{reset_state, ended_second, is_manager, node_of_device, buried, after_death, swapped, Heed, Ignore, Refuse, Follow, made, after_made, after_found, with_manager}
+use Rattle.fw_watch_laws.proofs.Common.{after_shown_by, after_followed, heed, after_heeded, after_answer, after_answered, with_packet, after_packet, shown_at, after_word, after_shown, after_event}
+use Rattle.fw_watch_laws.proofs.Common.{after_what, after, IsNumber, IsPlace, word_left, known_left, glimpse_by, answer_glimpse, word_glimpse, fixed, left}
 use Rattle.std.proofs.lemmas.List.{get_or-replicate}
-use Rattle.fw_words.specs.declared.swap.Swap.{Swap}
-use Rattle.fw_entry.specs.declared.codes.event.TheConstants as Events
-use Rattle.fw_entry.specs.declared.entry.ResetEntry.{ResetEntry}
-use Rattle.fw_entry.specs.declared.entry.EventEntry.{EventEntry}
-use Rattle.fw_entry.specs.declared.entry.ShownEntry.{ShownEntry}
+use Rattle.fw_log_entry.specs.declared.codes.event.TheConstants as Events
+use Rattle.fw_log_entry.specs.declared.entry.ShownEntry.{ShownEntry}
 use Rattle.fw_csr.specs.declared.offset.TheConstants.{REGISTER_SPACE}
-use Rattle.fw_remarks.specs.Registers.{register_at, is_managed}
-use Rattle.fw_entry.specs.declared.entry.Entry.{Entry}
-use Rattle.fw_entry.specs.declared.entry.Entry.TheVariants.{Reset, Async, Iso, Event, Outcome, Shown, End}
-use Rattle.fw_entry.specs.declared.entry.Timed.{Timed}
-use Rattle.fw_remarks.specs.declared.known.Known.{Known}
-use Rattle.fw_remarks.specs.declared.register.At.{At}
-use Rattle.fw_remarks.specs.declared.register.Register.{Register}
-use Rattle.fw_remarks.specs.declared.register.Register.TheVariants.{Bandwidth, ChannelsHigh, ChannelsLow, Output, Input}
-use Rattle.fw_remarks.specs.Knowing.{nothing_known, all_known, after_reset}
-use Rattle.fw_known.specs.declared.asked.Answer.{Answer}
-use Rattle.fw_known.specs.declared.channel.Channel.{Channel}
-use Rattle.fw_known.specs.declared.second.Second.{Second}
-use Rattle.fw_known.specs.declared.state.State.{State}
-use Rattle.fw_known.specs.Heard.{after_heard}
-use Rattle.fw_known.specs.Judging.{judged, judged_counts}
-use Rattle.fw_known.specs.Standing.{answer_of}
-use Rattle.fw_known.specs.States.{known_of, with_known, reset_state, ended_second, is_manager, node_of_device, buried, after_death}
-use Rattle.fw_known.specs.Swapped.{swapped}
-use Rattle.fw_watch.specs.declared.answer.Heed.{Heed}
-use Rattle.fw_watch.specs.declared.answer.Heed.TheVariants.{Ignore, Refuse, Follow}
-use Rattle.fw_watch.specs.Answering.{made, after_made, after_found, with_manager, after_shown_by, after_followed, heed, after_heeded, after_answer, after_answered, with_packet, after_packet}
-use Rattle.fw_watch.specs.Steps.{shown_at_node, shown_at, after_word, after_shown, after_event, after_what, after}
-use Rattle.fw_watch_laws.specs.LastKnown.{IsNumber, IsPlace, is_same, word_left, known_left, glimpse_by, answer_glimpse, word_glimpse, fixed, left_by, left}
+use Rattle.fw_watch_remarks.specs.Knowing.{after_reset}
+use Rattle.fw_watch.specs.Steps.{shown_at_node}
+use Rattle.fw_watch_laws.specs.LastKnown.{is_same, left_by}
 use Rattle.fw_watch_laws.proofs.Places.{known_put, put_twice, unwrap_if}
 use Rattle.fw_watch_laws.proofs.Frames.{manager_frame, judged_frame, by_known, manager_known, aside, ticked_only}
 use Rattle.fw_watch_laws.proofs.Numbers.{IsAt, IsOf, answer_within, register_number}

@@ -1,18 +1,8 @@
 -- Locks that stand are those of procedures.
-use Rattle.std.proofs.Common.{◌≡◌, refl, not, Bool, true, false, List, Option, Some, None, IsTrue, is_some}
-use Rattle.std.specs.List.{All}
-use Rattle.std.proofs.lemmas.List.Elements.{All-filter}
-use Rattle.fw_base.specs.declared.label.Label.TheVariants.{Procedure}
-use Rattle.fw_base.specs.Labels.{label_code}
-use Rattle.fw_async.specs.declared.packet.Head.{Head}
-use Rattle.fw_async.specs.declared.packet.Packet.{Packet}
-use Rattle.fw_async.specs.declared.packet.Packet.TheVariants.{WriteQuadlet, WriteBlock, WriteReply, ReadQuadlet, ReadBlock, ReadQuadletReply, ReadBlockReply, CycleStart, Lock as LockRequest, LockReply}
-use Rattle.fw_remarks.specs.declared.register.Register.{Register}
-use Rattle.fw_remarks.specs.Registers.{register_at}
-use Rattle.fw_known.specs.declared.asked.Asking.{Asking}
-use Rattle.fw_known.specs.declared.asked.Asking.TheVariants.{Read}
-use Rattle.fw_known.specs.declared.asked.Asked.{Asked}
-use Rattle.fw_known.specs.Standing.{is_read, lock_of, is_of, answers, without_same, without_answered, asked_at_register, with_request, standing_behind}
+use Rattle.fw_watch_laws.proofs.Common.{◌≡◌, refl, not, Bool, true, false, List, Option, Some, None, is_some, All, All-filter, Procedure, label_code, Head, Packet, WriteQuadlet, WriteBlock}
+use Rattle.fw_watch_laws.proofs.Common.{WriteReply, ReadQuadlet, ReadBlock, ReadQuadletReply, ReadBlockReply, CycleStart, LockRequest, LockReply, Register, register_at, Asking, Read, Asked, is_read}
+use Rattle.fw_watch_laws.proofs.Common.{lock_of, is_of, answers, without_same, without_answered, asked_at_register, with_request, standing_behind}
+use Rattle.std.proofs.Common.{IsTrue}
 use Rattle.fw_watch_laws.specs.Orderly.{IsLabelled}
 use Rattle.fw_watch_laws.proofs.Matches.{one_more}
 

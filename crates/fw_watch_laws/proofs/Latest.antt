@@ -1,19 +1,11 @@
 -- The latest bus reset of an account, after an entry.
-use Rattle.std.proofs.Common.{◌≡◌, ap, sym, ℕ, ◌==◌, Bool, true, false, if◌then◌else◌, Option, Some, None, is_none, is_some}
-use Rattle.std.proofs.lemmas.Option.{same_Some}
-use Rattle.fw_base.specs.declared.label.Label.TheVariants.{Procedure}
-use Rattle.fw_base.specs.Labels.{label_code}
-use Rattle.fw_async.specs.declared.packet.Packet.{Packet}
-use Rattle.fw_async.specs.declared.packet.Packet.TheVariants.{WriteQuadlet, WriteBlock, WriteReply, ReadQuadlet, ReadBlock, ReadQuadletReply, ReadBlockReply, CycleStart, Lock as LockRequest, LockReply}
-use Rattle.fw_entry.specs.declared.codes.event.TheConstants as Events
-use Rattle.fw_entry.specs.declared.entry.ResetEntry.{ResetEntry}
-use Rattle.fw_entry.specs.declared.entry.Entry.{Entry}
-use Rattle.fw_entry.specs.declared.entry.Entry.TheVariants.{Reset, Async, Iso, Event, Outcome, Shown, End}
-use Rattle.fw_entry.specs.Network.{device_of_id}
-use Rattle.fw_account.specs.Account.{Account, Reads, Locks, Request}
-use Rattle.fw_account.specs.Events.{after_second, after_withholding, after_death}
-use Rattle.fw_account.specs.Packets.{asked, asked_by, Reply, Read as ReadReply, Locked, answered, after_packet}
-use Rattle.fw_account.specs.Fold.{next_account}
+use Rattle.fw_watch_laws.proofs.Common.{◌≡◌, ap, sym, ℕ, ◌==◌, Bool, true, false, if◌then◌else◌, Option, Some, None, is_none, is_some, same_Some, Procedure, label_code, Packet, WriteQuadlet}
+use Rattle.fw_watch_laws.proofs.Common.{WriteBlock, WriteReply, ReadQuadlet, ReadBlock, ReadQuadletReply, ReadBlockReply, CycleStart, LockRequest, LockReply, ResetEntry, Entry, Reset, Async, Iso}
+use Rattle.fw_watch_laws.proofs.Common.{Event, Outcome, Shown, End, device_of_id, Account, Reads, Locks, Request, after_second, after_withholding, asked, asked_by, Reply, ReadReply, Locked}
+use Rattle.fw_watch_laws.proofs.Common.{next_account}
+use Rattle.fw_log_entry.specs.declared.codes.event.TheConstants as Events
+use Rattle.fw_model_account.specs.Events.{after_death}
+use Rattle.fw_model_account.specs.Packets.{answered, after_packet}
 use Rattle.fw_watch_laws.proofs.Matching.{reply_to}
 
 -- the latest bus reset after an entry

@@ -1,28 +1,11 @@
 -- What a complete response to a lock shows of a register is the account's word.
-use Rattle.std.proofs.Common.{◌≡◌, refl, ap, sym, ◌∙◌, subst, inl, inr, ℕ, ◌==◌, true, false, List, Option, Some, None}
-use Rattle.std.proofs.lemmas.Bool.{eq-eqb}
-use Rattle.std.proofs.lemmas.Option.{same_Some}
-use Rattle.fw_words.specs.declared.swap.Swap.{Swap}
-use Rattle.fw_base.specs.declared.label.Label.TheVariants.{Procedure}
-use Rattle.fw_base.specs.Labels.{label_code}
-use Rattle.fw_async.specs.declared.packet.Head.{Head}
-use Rattle.fw_async.specs.declared.packet.Packet.{Packet}
-use Rattle.fw_async.specs.declared.packet.Packet.TheVariants.{LockReply}
-use Rattle.fw_account.specs.Account.{Account, Operation, Request}
-use Rattle.fw_account.specs.Packets.{Reply, Locked, after_packet}
-use Rattle.fw_account.specs.Words.{Register as Place, word_of}
-use Rattle.fw_account.proofs.Packets.{device_below}
-use Rattle.fw_faults.specs.Looked.{Replies, looked_packet, quadlet_in, ShowsWords}
-use Rattle.fw_remarks.specs.declared.register.Register.{Register}
-use Rattle.fw_remarks.specs.Knowing.{all_known}
-use Rattle.fw_known.specs.declared.asked.Asking.{Asking}
-use Rattle.fw_known.specs.declared.asked.Asking.TheVariants.{Swap as SwapOf}
-use Rattle.fw_known.specs.declared.asked.Asked.{Asked}
-use Rattle.fw_known.specs.declared.asked.Answer.{Answer}
-use Rattle.fw_known.specs.declared.state.State.{State}
-use Rattle.fw_known.specs.Standing.{is_read, answers, answered, node_of, made_by, answer_of_node, lock_answer, old_word}
-use Rattle.fw_watch.specs.Answering.{heed}
-use Rattle.fw_watch_laws.specs.LastKnown.{glimpse_by}
+use Rattle.fw_watch_laws.proofs.Common.{◌≡◌, refl, ap, sym, ◌∙◌, subst, inl, inr, ℕ, ◌==◌, true, false, List, Option, Some, None, eq-eqb, same_Some, Swap, Procedure, label_code, Head, Packet}
+use Rattle.fw_watch_laws.proofs.Common.{LockReply, Account, Operation, Request, Reply, Locked, Place, word_of, looked_packet, ShowsWords, Register, all_known, Asking, SwapOf, Asked, Answer, State}
+use Rattle.fw_watch_laws.proofs.Common.{is_read, answers, answered, node_of, made_by, lock_answer, old_word, heed, glimpse_by}
+use Rattle.fw_model_account.specs.Packets.{after_packet}
+use Rattle.fw_model_account.proofs.Packets.{device_below}
+use Rattle.fw_model_audit.specs.Looked.{Replies, quadlet_in}
+use Rattle.fw_watch_known.specs.Standing.{answer_of_node}
 use Rattle.fw_watch_laws.proofs.Answered.{IsIn, answered_in, of_all, IsLockAnswer}
 use Rattle.fw_watch_laws.proofs.Labels.{IsOwn}
 use Rattle.fw_watch_laws.proofs.Matches.{asking_of, IsSame}

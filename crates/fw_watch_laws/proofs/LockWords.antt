@@ -1,16 +1,9 @@
 -- What a response to a lock does to the words of the account.
-use Rattle.std.proofs.Common.{◌≡◌, refl, ap, sym, ◌∙◌, inl, inr, ◌⊎◌, ℕ, ◌<◌, ◌==◌, ◌&&◌, Bool, true, false, List, length, if◌then◌else◌, Option, Some, None}
-use Rattle.std.proofs.lemmas.Bool.{eqb-true}
-use Rattle.std.proofs.lemmas.Option.{same_Some}
-use Rattle.fw_words.specs.Quadlet.{quadlet_at}
-use Rattle.fw_words.specs.declared.swap.Swap.{Swap}
-use Rattle.fw_words.specs.declared.swap.TheConstants.{COMPARE_SWAP}
-use Rattle.fw_account.specs.Account.{Account, Operation, Reads, Locks, Request}
-use Rattle.fw_account.specs.Moves.{after}
-use Rattle.fw_account.specs.Words.{Register as Place, BandwidthAvailable, ChannelsAvailable, OutputPlug, InputPlug, word_of, register_of}
-use Rattle.fw_account.specs.Decode.{move_at}
-use Rattle.fw_account.specs.Packets.{Read as ReadReply, Locked, ended, swapped, is_swapped, replied, asked}
-use Rattle.fw_account.specs.Sound.{IsSound}
+use Rattle.fw_watch_laws.proofs.Common.{◌≡◌, refl, ap, sym, ◌∙◌, inl, inr, ◌⊎◌, ℕ, ◌<◌, ◌==◌, ◌&&◌, Bool, true, false, List, length, if◌then◌else◌, Option, Some, None, eqb-true, same_Some, quadlet_at}
+use Rattle.fw_watch_laws.proofs.Common.{Swap, COMPARE_SWAP, Account, Operation, Reads, Locks, Request, Place, BandwidthAvailable, ChannelsAvailable, OutputPlug, InputPlug, word_of, register_of}
+use Rattle.fw_watch_laws.proofs.Common.{move_at, ReadReply, Locked, ended, is_swapped, replied, asked, IsSound}
+use Rattle.fw_model_account.specs.Moves.{after}
+use Rattle.fw_model_account.specs.Packets.{swapped}
 use Rattle.fw_watch_laws.proofs.Outstanding.{IsSwapOf, IsSwapMove, moved_by}
 use Rattle.fw_watch_laws.proofs.WordFrames.{OthersSame}
 use Rattle.fw_watch_laws.proofs.WordMoves.{move_keeps}

@@ -1,29 +1,12 @@
 -- What is known of the resource manager's registers is the account's.
-use Rattle.std.proofs.Common.{◌≡◌, ◌≢◌, refl, ap, sym, ◌∙◌, subst, inl, inr, ◌⊎◌, ℕ, ◌+◌, ◌<◌, ◌==◌, ◌&&◌, not, Bool, true, false, if◌then◌else◌, Option, Some, None, unwrap_or, arith, true≢false}
-use Rattle.std.proofs.lemmas.Bool.Decides.{nat_tests}
-use Rattle.std.proofs.lemmas.Option.{same_Some}
-use Rattle.fw_plug.specs.Words.{flag}
-use Rattle.fw_entry.specs.declared.entry.ResetEntry.{ResetEntry}
-use Rattle.fw_entry.specs.declared.entry.Entry.{Entry}
-use Rattle.fw_entry.specs.declared.entry.Entry.TheVariants.{Reset, Async, Iso, Event, Outcome, Shown, End}
-use Rattle.fw_entry.specs.declared.entry.Timed.{Timed}
-use Rattle.fw_account.specs.Account.{Account}
-use Rattle.fw_account.specs.Events.{after_reset}
-use Rattle.fw_account.specs.Fold.{next_account}
-use Rattle.fw_account.specs.Words.{Register as Place, BandwidthAvailable, ChannelsAvailable, word_of}
-use Rattle.fw_account.proofs.Bounds.{IsThere}
-use Rattle.fw_account.proofs.Resets.{reset_remainder}
-use Rattle.fw_remarks.specs.declared.known.Known.{Known}
-use Rattle.fw_remarks.specs.declared.known.Managed.{Managed}
-use Rattle.fw_remarks.specs.declared.register.Register.{Register}
-use Rattle.fw_remarks.specs.declared.register.Register.TheVariants.{Bandwidth, ChannelsHigh, ChannelsLow, Output, Input}
-use Rattle.fw_remarks.specs.Knowing.{all_known, reset_managed, bit_of, is_known_set}
-use Rattle.fw_remarks.specs.Registers.{is_managed}
-use Rattle.fw_known.specs.declared.state.State.{State}
-use Rattle.fw_known.specs.States.{known_of}
-use Rattle.fw_known.specs.States.{reset_state}
-use Rattle.fw_watch.specs.Steps.{after_what, ticked, after}
-use Rattle.fw_watch_laws.specs.LastKnown.{IsPlace, Glimpse, glimpse, is_same_by, left_by, left, fixed}
+use Rattle.fw_watch_laws.proofs.Common.{◌≡◌, ◌≢◌, refl, ap, sym, ◌∙◌, subst, inl, inr, ◌⊎◌, ℕ, ◌+◌, ◌<◌, ◌==◌, ◌&&◌, not, Bool, true, false, if◌then◌else◌, Option, Some, None, unwrap_or, arith}
+use Rattle.fw_watch_laws.proofs.Common.{true≢false, nat_tests, same_Some, flag, ResetEntry, Entry, Reset, Async, Iso, Event, Outcome, Shown, End, Timed, Account, after_reset, next_account, Place}
+use Rattle.fw_watch_laws.proofs.Common.{BandwidthAvailable, ChannelsAvailable, word_of, Known, Managed, Register, Bandwidth, ChannelsHigh, ChannelsLow, Output, Input, all_known, bit_of, is_managed}
+use Rattle.fw_watch_laws.proofs.Common.{State, known_of, reset_state, after_what, ticked, after, IsPlace, Glimpse, glimpse, is_same_by, left, fixed}
+use Rattle.fw_model_account.proofs.Bounds.{IsThere}
+use Rattle.fw_model_account.proofs.Resets.{reset_remainder}
+use Rattle.fw_watch_remarks.specs.Knowing.{reset_managed, is_known_set}
+use Rattle.fw_watch_laws.specs.LastKnown.{left_by}
 use Rattle.fw_watch_laws.proofs.Keeps.{Whole}
 use Rattle.fw_watch_laws.proofs.Knows.{known_step}
 use Rattle.fw_watch_laws.proofs.Offsets.{managed_of}

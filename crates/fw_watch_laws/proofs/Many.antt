@@ -1,23 +1,10 @@
 -- No swap leaves more units than there are.
-use Rattle.std.proofs.Common.{◌≡◌, refl, ap, ◌∙◌, subst, ℕ, ◌-◌, ◌≤◌, nat_lt, Bool, true, false, List, Option, Some, None, arith}
-use Rattle.std.specs.Bool.{⊤}
-use Rattle.std.proofs.lemmas.Bool.Decides.{nat_tests}
-use Rattle.fw_words.specs.declared.swap.Swap.{Swap}
-use Rattle.fw_entry.specs.declared.entry.ResetEntry.{ResetEntry}
-use Rattle.fw_entry.specs.declared.entry.Timed.{Timed}
-use Rattle.fw_account.specs.Account.{Account, total}
-use Rattle.fw_account.specs.Moves.{after}
-use Rattle.fw_account.specs.Words.{Register as Place, word_of, register_at as place_at}
-use Rattle.fw_remarks.specs.declared.register.Register.{Register}
-use Rattle.fw_remarks.specs.declared.register.Register.TheVariants.{Bandwidth, ChannelsHigh, ChannelsLow, Output, Input}
-use Rattle.fw_remarks.specs.Registers.{is_managed}
-use Rattle.fw_remarks.specs.Remarks.{Said}
-use Rattle.fw_known.specs.declared.asked.Answer.{Answer}
-use Rattle.fw_known.specs.declared.state.State.{State}
-use Rattle.fw_known.specs.declared.swap.Made.{Made}
-use Rattle.fw_watch.specs.Answering.{made}
+use Rattle.fw_watch_laws.proofs.Common.{◌≡◌, refl, ap, ◌∙◌, subst, ℕ, ◌-◌, ◌≤◌, nat_lt, Bool, true, false, List, Option, Some, None, arith, ⊤, nat_tests, Swap, ResetEntry, Timed, Account, total}
+use Rattle.fw_watch_laws.proofs.Common.{Place, word_of, place_at, Register, Bandwidth, ChannelsHigh, ChannelsLow, Output, Input, is_managed, Said, Answer, State, Made, made, IsOrderly, offset_of}
+use Rattle.fw_watch_laws.proofs.Common.{HasNone}
+use Rattle.fw_model_account.specs.Moves.{after}
 use Rattle.fw_watch.specs.Swaps.{many_remarks}
-use Rattle.fw_watch_laws.specs.Orderly.{IsOrderly, offset_of, is_too_many, HasNone}
+use Rattle.fw_watch_laws.specs.Orderly.{is_too_many}
 use Rattle.fw_watch_laws.proofs.Offsets.{managed_of, managed_place}
 use Rattle.fw_watch_laws.proofs.Remarked.{Kind, OfReset, OfWord, OfSwap, OfUnits, OfNew, OfSeveral, OfMore, OfChannel, IsFree}
 use Rattle.fw_watch_laws.proofs.Tests.{is_of_many, is_too_many_by}

@@ -1,23 +1,10 @@
--- A request of a procedure that stands in `watch` is the one that is outstanding in the account, where one is at the same node.
-use Rattle.std.proofs.Common.{◌≡◌, refl, ap, sym, ◌∙◌, ℕ, zero, suc, ◌==◌, ◌&&◌, not, Bool, true, false, List, [], ◌∷◌, ◌++◌, length, drop, if◌then◌else◌, Option, Some, None, arith, get_or, true≢false}
-use Rattle.std.specs.List.{All, filter}
-use Rattle.std.proofs.lemmas.Bool.{eq-eqb, eqb-true}
-use Rattle.std.proofs.lemmas.List.Elements.{All-append, All-filter, All-drop, filter_passes}
-use Rattle.std.proofs.lemmas.Option.{same_Some}
-use Rattle.fw_base.specs.Tables.{update}
-use Rattle.fw_base.specs.declared.label.Label.TheVariants.{Procedure}
-use Rattle.fw_base.specs.Labels.{label_code}
-use Rattle.fw_async.specs.declared.packet.Head.{Head}
-use Rattle.fw_entry.specs.declared.entry.ResetEntry.{ResetEntry}
-use Rattle.fw_entry.specs.Network.{device_of_id}
-use Rattle.fw_account.specs.Account.{Account, Operation, Reads, Locks, Request}
-use Rattle.fw_account.specs.Packets.{asked}
-use Rattle.fw_remarks.specs.declared.register.Register.{Register}
-use Rattle.fw_remarks.specs.Registers.{register_at}
-use Rattle.fw_known.specs.declared.asked.Asking.{Asking}
-use Rattle.fw_known.specs.declared.asked.Asking.TheVariants.{Read}
-use Rattle.fw_known.specs.declared.asked.Asked.{Asked}
-use Rattle.fw_known.specs.Standing.{lock_of, is_of, without_same, asked_at_register, latest, with_request}
+-- A request of a procedure that stands in `watch` is the one that is outstanding in the account, if one is at the same node.
+use Rattle.fw_watch_laws.proofs.Common.{◌≡◌, refl, ap, sym, ◌∙◌, ℕ, zero, suc, ◌==◌, ◌&&◌, not, Bool, true, false, List, [], ◌∷◌, ◌++◌, length, if◌then◌else◌, Option, Some, None, arith, get_or}
+use Rattle.fw_watch_laws.proofs.Common.{true≢false, All, filter, eq-eqb, eqb-true, All-filter, same_Some, update, Procedure, label_code, Head, ResetEntry, device_of_id, Account, Operation, Reads}
+use Rattle.fw_watch_laws.proofs.Common.{Locks, Request, asked, Register, register_at, Asking, Read, Asked, lock_of, is_of, without_same, asked_at_register, with_request}
+use Rattle.std.proofs.Common.{drop}
+use Rattle.std.proofs.lemmas.List.Elements.{All-append, All-drop, filter_passes}
+use Rattle.fw_watch_known.specs.Standing.{latest}
 
 -- no two node IDs are of one device
 abbrev pub IsApart : Option ResetEntry → Type 0
@@ -33,11 +20,11 @@ pub record IsSame (r : Request) (q : Asked) : Type 0 where
   pub register : register_at r.address ≡ Some q.register
   pub asking : q.asking ≡ asking_of r.operation
 
--- the outstanding request of its requester, where it is to the same node, is this one
+-- the outstanding request of its requester, if it is to the same node, is this one
 abbrev pub IsMatched : Account → Asked → Type 0
 IsMatched l q = (c : ℕ) (r : Request) → q.label ≡ label_code Procedure → device_of_id l.latest q.source ≡ Some c → l.outstanding c ≡ Some r → r.target ≡ q.destination → IsSame r q
 
--- where the request of a controller ends, the others are as they were
+-- if the request of a controller ends, the others are as they were
 pub ended_matched : (l m : Account) (c : ℕ) (q : Asked) → m.latest ≡ l.latest → m.outstanding ≡ update l.outstanding c None → IsMatched l q → IsMatched m q
 ended_matched l m c q e f h d r label device out target =
     h d r label (ap (λ (x : Option ResetEntry). device_of_id x q.source) (sym e) ∙ device) (none_here (d == c) (l.outstanding d) r (ap (λ (x : ℕ → Option Request). x d) (sym f) ∙ out)) target

@@ -1,28 +1,13 @@
 -- Requests that stand and requests that are outstanding, after a packet.
-use Rattle.std.proofs.Common.{◌≡◌, refl, ap, sym, ◌∙◌, subst, ℕ, ◌==◌, not, Bool, true, false, List, if◌then◌else◌, Option, Some, None, is_none, ◌&&◌, get_or}
-use Rattle.std.specs.List.{All}
-use Rattle.std.proofs.lemmas.Bool.{eqb-true, eq-eqb}
-use Rattle.std.proofs.lemmas.List.Elements.{All-filter}
-use Rattle.std.proofs.lemmas.Option.{same_Some}
-use Rattle.fw_base.specs.Tables.{update}
-use Rattle.fw_base.specs.declared.plug.PlugAt.{PlugAt}
-use Rattle.fw_base.specs.declared.label.Label.TheVariants.{Procedure}
-use Rattle.fw_base.specs.Labels.{label_code}
-use Rattle.fw_async.specs.declared.packet.Head.{Head}
-use Rattle.fw_async.specs.declared.packet.Packet.{Packet}
-use Rattle.fw_async.specs.declared.packet.Packet.TheVariants.{WriteQuadlet, WriteBlock, WriteReply, ReadQuadlet, ReadBlock, ReadQuadletReply, ReadBlockReply, CycleStart, Lock as LockRequest, LockReply}
-use Rattle.fw_entry.specs.Network.{device_of_id}
-use Rattle.fw_account.specs.Account.{Account, Operation, Reads, Locks, Request}
-use Rattle.fw_account.specs.Moves.{Move, AllocateChannel, AllocateUnits, ConnectFirst, ConnectOverlaid, ConnectInput, DisconnectInput, DisconnectOutput, ReleaseUnits, ReleaseChannel, after}
-use Rattle.fw_account.specs.Words.{Register as Place, register_of}
-use Rattle.fw_account.specs.Decode.{move_at}
-use Rattle.fw_account.specs.Packets.{asked as asked_in, asked_by, Reply, Read as ReadReply, Locked, ended, moved, swapped, is_swapped, replied, is_reply_to, replied_to, answered as answered_in, after_packet}
-use Rattle.fw_words.specs.Quadlet.{quadlet_at}
-use Rattle.fw_remarks.specs.Registers.{register_at}
-use Rattle.fw_known.specs.declared.asked.Asking.{Asking}
-use Rattle.fw_known.specs.declared.asked.Asking.TheVariants.{Read}
-use Rattle.fw_known.specs.declared.asked.Asked.{Asked}
-use Rattle.fw_known.specs.Standing.{lock_of, answers, without_same, without_answered, asked_at_register, with_request, standing_behind}
+use Rattle.fw_watch_laws.proofs.Common.{◌≡◌, refl, ap, sym, ◌∙◌, subst, ℕ, ◌==◌, not, Bool, true, false, List, if◌then◌else◌, Option, Some, None, is_none, ◌&&◌, get_or, All, eqb-true, eq-eqb}
+use Rattle.fw_watch_laws.proofs.Common.{All-filter, same_Some, update, PlugAt, Procedure, label_code, Head, Packet, WriteQuadlet, WriteBlock, WriteReply, ReadQuadlet, ReadBlock, ReadQuadletReply}
+use Rattle.fw_watch_laws.proofs.Common.{ReadBlockReply, CycleStart, LockRequest, LockReply, device_of_id, Account, Operation, Reads, Locks, Request, Move, AllocateChannel, AllocateUnits, ConnectFirst}
+use Rattle.fw_watch_laws.proofs.Common.{ConnectOverlaid, ConnectInput, DisconnectInput, DisconnectOutput, ReleaseUnits, ReleaseChannel, Place, register_of, move_at, asked_by, Reply, ReadReply, Locked}
+use Rattle.fw_watch_laws.proofs.Common.{ended, is_swapped, replied, is_reply_to, quadlet_at, register_at, Asking, Read, Asked, lock_of, answers, without_same, without_answered, asked_at_register}
+use Rattle.fw_watch_laws.proofs.Common.{with_request, standing_behind}
+use Rattle.fw_model_account.specs.Moves.{after}
+use Rattle.fw_model_account.specs.Packets.{asked as asked_in, moved}
+use Rattle.fw_model_account.specs.Packets.{swapped, replied_to, answered as answered_in, after_packet}
 use Rattle.fw_watch_laws.proofs.Matches.{IsApart, IsMatched, asking_of, ended_matched, other_matched, new_matched, within, more_matched}
 
 -- the requests that stand are matched
@@ -147,7 +132,7 @@ left_all l read h xs a = All-filter (λ q. not (answers read h q)) (IsMatched l)
 
 -- ---- packets
 
--- they are matched after a packet, where the account goes on
+-- they are matched after a packet, if the account goes on
 pub packet_matched : (p : Packet) (l m : Account) (xs : List Asked) → IsApart l.latest → AllMatched l xs → after_packet p l ≡ Some m → AllMatched m (standing_behind p xs)
 unfolding standing_behind
 packet_matched (WriteQuadlet h offset value) l m xs i a e = let P : Account → Type 0 = λ x. AllMatched x (without_same h xs) in subst P (same_Some l m e) (same_matched l h xs a)

@@ -1,33 +1,19 @@
 -- No swap changes more of a plug than a connection.
-use Rattle.std.proofs.Common.{◌≡◌, refl, ap, sym, ◌∙◌, subst, inl, inr, ℕ, ◌<◌, ◌≤◌, ◌||◌, nat_lt, Bool, true, false, List, Option, Some, arith}
-use Rattle.std.specs.Bool.{⊤}
-use Rattle.std.proofs.lemmas.Bool.{cases_Bool}
-use Rattle.std.proofs.lemmas.Bool.Decides.{nat_tests}
-use Rattle.fw_words.specs.declared.swap.Swap.{Swap}
-use Rattle.fw_base.specs.declared.plug.PlugAt.{PlugAt}
-use Rattle.fw_base.proofs.Tables.{update_plug_same}
-use Rattle.fw_plug.specs.Words.{Settings, FitsRegister, OutFields, InFields, out_word, in_word}
-use Rattle.fw_entry.specs.declared.entry.ResetEntry.{ResetEntry}
-use Rattle.fw_entry.specs.declared.entry.Timed.{Timed}
-use Rattle.fw_account.specs.Account.{Account, Connections, counter, is_there, has_connection}
-use Rattle.fw_account.specs.Network.{is_output, is_input}
-use Rattle.fw_account.specs.Moves.{Move, AllocateChannel, AllocateUnits, ConnectFirst, ConnectOverlaid, ConnectInput, DisconnectInput, DisconnectOutput, ReleaseUnits, ReleaseChannel, Can, add_connection, drop_connection, after}
-use Rattle.fw_account.specs.Words.{Register as Place, OutputPlug, InputPlug, word_of, fields_at, input_fields_at, register_at as place_at}
-use Rattle.fw_account.specs.Decode.{register_of_move}
-use Rattle.fw_account.specs.Sound.{IsSound}
-use Rattle.fw_account.proofs.Connections.{had_connection}
-use Rattle.fw_account.proofs.Decode.{empty_has_room}
-use Rattle.fw_account.proofs.Moves.{moves_keep}
-use Rattle.fw_remarks.specs.declared.register.Register.{Register}
-use Rattle.fw_remarks.specs.declared.register.Register.TheVariants.{Bandwidth, ChannelsHigh, ChannelsLow, Output, Input}
-use Rattle.fw_remarks.specs.Remarks.{Said}
-use Rattle.fw_known.specs.declared.asked.Answer.{Answer}
-use Rattle.fw_known.specs.declared.state.State.{State}
-use Rattle.fw_known.specs.declared.swap.Made.{Made}
-use Rattle.fw_watch.specs.Answering.{made}
+use Rattle.fw_watch_laws.proofs.Common.{◌≡◌, refl, ap, sym, ◌∙◌, subst, inl, inr, ℕ, ◌<◌, ◌≤◌, ◌||◌, nat_lt, Bool, true, false, List, Option, Some, arith, ⊤, cases_Bool, nat_tests, Swap, PlugAt}
+use Rattle.fw_watch_laws.proofs.Common.{Settings, ResetEntry, Timed, Account, Move, AllocateChannel, AllocateUnits, ConnectFirst, ConnectOverlaid, ConnectInput, DisconnectInput, DisconnectOutput}
+use Rattle.fw_watch_laws.proofs.Common.{ReleaseUnits, ReleaseChannel, Place, OutputPlug, InputPlug, word_of, place_at, register_of_move, IsSound, Register, Bandwidth, ChannelsHigh, ChannelsLow}
+use Rattle.fw_watch_laws.proofs.Common.{Output, Input, Said, Answer, State, Made, made, IsNumber, IsOrderly, offset_of, HasNone}
+use Rattle.fw_terms.proofs.Tables.{update_plug_same}
+use Rattle.fw_plug.specs.Words.{FitsRegister, OutFields, InFields, out_word, in_word}
+use Rattle.fw_model_account.specs.Account.{Connections, counter, is_there, has_connection}
+use Rattle.fw_model_account.specs.Network.{is_output, is_input}
+use Rattle.fw_model_account.specs.Moves.{Can, add_connection, drop_connection, after}
+use Rattle.fw_model_account.specs.Words.{fields_at, input_fields_at}
+use Rattle.fw_model_account.proofs.Connections.{had_connection}
+use Rattle.fw_model_account.proofs.Decode.{empty_has_room}
+use Rattle.fw_model_account.proofs.Moves.{moves_keep}
 use Rattle.fw_watch.specs.Swaps.{is_move}
-use Rattle.fw_watch_laws.specs.LastKnown.{IsNumber}
-use Rattle.fw_watch_laws.specs.Orderly.{IsOrderly, offset_of, is_more, HasNone}
+use Rattle.fw_watch_laws.specs.Orderly.{is_more}
 use Rattle.fw_watch_laws.proofs.Remarked.{Kind, OfReset, OfWord, OfSwap, OfMany, OfUnits, OfNew, OfSeveral, OfChannel, IsFree}
 use Rattle.fw_watch_laws.proofs.Tests.{is_of_more, is_more_by}
 use Rattle.fw_watch_laws.proofs.Passing.{IsNone}

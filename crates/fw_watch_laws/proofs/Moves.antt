@@ -1,21 +1,10 @@
 -- What entries change in the rows of channels.
-use Rattle.std.proofs.Common.{◌≡◌, refl, ap, ◌∙◌, ℕ, ◌-◌, ◌==◌, ◌&&◌, ◌||◌, not, nat_le, nat_lt, Bool, true, false, length, if◌then◌else◌, Option, Some, None}
-use Rattle.std.proofs.lemmas.Bool.{eq-eqb}
-use Rattle.fw_words.specs.declared.swap.Swap.{Swap}
-use Rattle.fw_remarks.specs.declared.known.Known.{Known}
-use Rattle.fw_remarks.specs.declared.register.At.{At}
-use Rattle.fw_remarks.specs.declared.register.Register.{Register}
-use Rattle.fw_remarks.specs.declared.register.Register.TheVariants.{Bandwidth, ChannelsHigh, ChannelsLow, Output, Input}
-use Rattle.fw_remarks.specs.Knowing.{nothing_known, all_known, bit_of, differ, is_forgotten, channel_of}
-use Rattle.fw_known.specs.declared.asked.Answer.{Answer}
-use Rattle.fw_known.specs.declared.state.State.{State}
-use Rattle.fw_known.specs.declared.swap.Made.{Made}
-use Rattle.fw_known.specs.Channels.{same_channel, plug_at}
-use Rattle.fw_known.specs.Judging.{judged, judged_counts}
-use Rattle.fw_known.specs.States.{known_of, with_known, with_known_plug}
-use Rattle.fw_known.specs.Swapped.{holder_of, with_holder, swapped_by, swapped}
-use Rattle.fw_watch.specs.Answering.{made, after_made, after_found, after_shown_by}
-use Rattle.fw_watch_laws.specs.LastKnown.{IsPlace, is_same_by, word_left, known_left}
+use Rattle.fw_watch_laws.proofs.Common.{◌≡◌, refl, ap, ◌∙◌, ℕ, ◌-◌, ◌==◌, ◌&&◌, ◌||◌, not, nat_le, nat_lt, Bool, true, false, length, if◌then◌else◌, Option, Some, None, eq-eqb, Swap, Known, At}
+use Rattle.fw_watch_laws.proofs.Common.{Register, Bandwidth, ChannelsHigh, ChannelsLow, Output, Input, nothing_known, all_known, bit_of, Answer, State, Made, judged, judged_counts, known_of}
+use Rattle.fw_watch_laws.proofs.Common.{with_known, with_known_plug, holder_of, with_holder, swapped_by, swapped, made, after_made, after_found, after_shown_by, IsPlace, is_same_by, word_left}
+use Rattle.fw_watch_laws.proofs.Common.{known_left}
+use Rattle.fw_watch_remarks.specs.Knowing.{differ, is_forgotten, channel_of}
+use Rattle.fw_watch_known.specs.Channels.{same_channel, plug_at}
 use Rattle.fw_watch_laws.specs.TwoSenders.{half_changes, plug_changes, changes, found_moves}
 use Rattle.fw_watch_laws.proofs.Places.{known_put}
 use Rattle.fw_watch_laws.proofs.Turns.{Turns, stay, turn_as, turn_both, or_false, freshened_turns, dues_turn, plug_turns}

@@ -1,20 +1,13 @@
--- Where the account has a register, `watch` has one.
-use Rattle.std.proofs.Common.{◌≡◌, refl, ap, sym, ◌∙◌, ℕ, ◌+◌, ◌-◌, ◌*◌, ◌/◌, ◌%◌, ◌<◌, ◌≤◌, ◌==◌, ◌&&◌, nat_le, nat_lt, Bool, true, false, if◌then◌else◌, Option, Some, None, slice_get, arith}
+-- If the account has a register, `watch` has one.
+use Rattle.fw_watch_laws.proofs.Common.{◌≡◌, refl, ap, sym, ◌∙◌, ℕ, ◌+◌, ◌-◌, ◌*◌, ◌%◌, ◌<◌, ◌≤◌, ◌==◌, ◌&&◌, nat_le, nat_lt, Bool, true, false, if◌then◌else◌, Option, Some, None, slice_get, arith}
+use Rattle.fw_watch_laws.proofs.Common.{eqb-true, nat_tests, same_Some, ResetEntry, NodeRow, first_id, Place, BandwidthAvailable, ChannelsAvailable, place_at, register_of, is_node, Register}
+use Rattle.fw_watch_laws.proofs.Common.{Bandwidth, ChannelsHigh, ChannelsLow, Output, Input, register_at, node_of, IsNumber, offset_of}
+use Rattle.std.proofs.Common.{◌/◌}
 use Rattle.std.specs.Option.{option_or}
-use Rattle.std.proofs.lemmas.Bool.{eqb-true}
-use Rattle.std.proofs.lemmas.Bool.Decides.{nat_tests}
-use Rattle.std.proofs.lemmas.Option.{same_Some}
 use Rattle.fw_csr.specs.declared.offset.TheConstants.{BANDWIDTH_AVAILABLE, CHANNELS_AVAILABLE_HI, CHANNELS_AVAILABLE_LO, OPCR, IPCR}
-use Rattle.fw_entry.specs.declared.entry.ResetEntry.{ResetEntry}
-use Rattle.fw_entry.specs.declared.nodes.NodeRow.{NodeRow}
-use Rattle.fw_entry.specs.Network.{first_id}
-use Rattle.fw_account.specs.Words.{Register as Place, BandwidthAvailable, ChannelsAvailable, register_at as place_at, register_of, first_address, first_output, first_input, is_node, plug_number as number_in, manager_register, output_register, input_register, plug_register}
-use Rattle.fw_remarks.specs.declared.register.Register.{Register}
-use Rattle.fw_remarks.specs.declared.register.Register.TheVariants.{Bandwidth, ChannelsHigh, ChannelsLow, Output, Input}
-use Rattle.fw_remarks.specs.Registers.{plug_number, output_or, input_of, plug_at, register_at}
-use Rattle.fw_known.specs.Standing.{node_of}
-use Rattle.fw_watch_laws.specs.LastKnown.{IsNumber}
-use Rattle.fw_watch_laws.specs.Orderly.{offset_of}
+use Rattle.fw_model_account.specs.Words.{first_address, first_output}
+use Rattle.fw_model_account.specs.Words.{first_input, plug_number as number_in, manager_register, output_register, input_register, plug_register}
+use Rattle.fw_watch_remarks.specs.Registers.{plug_number, output_or, input_of, plug_at}
 
 -- ---- offsets
 

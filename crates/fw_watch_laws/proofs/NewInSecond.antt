@@ -1,29 +1,10 @@
 -- In a log without an audit fault, whose other answers show the words of the account and whose bus resets come in time, nothing is taken in the second after a
 -- bus reset that was not held before it.
-use Rattle.std.proofs.Common.{◌≡◌, refl, ap, sym, ◌∙◌, subst, ℕ, ◌+◌, ◌<◌, ◌≤◌, true, false, List, [], ◌∷◌, ◌++◌, Option, Some, None, is_none, arith}
-use Rattle.fw_words.specs.declared.swap.Swap.{Swap}
-use Rattle.fw_async.specs.declared.packet.Packet.{Packet}
-use Rattle.fw_entry.specs.declared.entry.ResetEntry.{ResetEntry}
-use Rattle.fw_entry.specs.declared.entry.Entry.{Entry}
-use Rattle.fw_entry.specs.declared.entry.Entry.TheVariants.{Reset, Async, Iso, Event, Outcome, Shown, End}
-use Rattle.fw_entry.specs.declared.entry.Timed.{Timed}
-use Rattle.fw_entry.specs.Log.{InOrder}
-use Rattle.fw_account.specs.Account.{Account}
-use Rattle.fw_account.specs.Fold.{no_account}
-use Rattle.fw_account.specs.Words.{Register as Place, BandwidthAvailable, word_of, register_at as place_at}
-use Rattle.fw_account.proofs.Fold.{next_keeps}
-use Rattle.fw_remarks.specs.declared.register.Register.{Register}
-use Rattle.fw_remarks.specs.declared.register.Register.TheVariants.{Bandwidth, ChannelsHigh, ChannelsLow, Output, Input}
-use Rattle.fw_remarks.specs.Remarks.{Said}
-use Rattle.fw_known.specs.declared.asked.Answer.{Answer}
-use Rattle.fw_known.specs.declared.second.Second.{Second}
-use Rattle.fw_known.specs.declared.state.State.{State}
-use Rattle.fw_known.specs.Standing.{answer_of}
-use Rattle.fw_known.specs.States.{ticked_second}
-use Rattle.fw_watch.specs.Answering.{made}
-use Rattle.fw_watch.specs.Steps.{ticked, after}
-use Rattle.fw_watch.specs.Watched.{known}
-use Rattle.fw_watch_laws.specs.Orderly.{IsOrderly, ShowsAccount, HasTimelyResets, offset_of, reset_cycle, last_reset, is_new_in_second, HasNone}
+use Rattle.fw_watch_laws.proofs.Common.{◌≡◌, refl, ap, sym, ◌∙◌, subst, ℕ, ◌+◌, ◌<◌, ◌≤◌, true, false, List, [], ◌∷◌, ◌++◌, Option, Some, None, is_none, arith, Swap, Packet, ResetEntry, Entry, Reset}
+use Rattle.fw_watch_laws.proofs.Common.{Async, Iso, Event, Outcome, Shown, End, Timed, InOrder, Account, no_account, Place, BandwidthAvailable, word_of, place_at, Register, Bandwidth, ChannelsHigh}
+use Rattle.fw_watch_laws.proofs.Common.{ChannelsLow, Output, Input, Said, Answer, Second, State, answer_of, ticked_second, made, ticked, after, known, IsOrderly, offset_of, HasNone}
+use Rattle.fw_model_account.proofs.Fold.{next_keeps}
+use Rattle.fw_watch_laws.specs.Orderly.{ShowsAccount, HasTimelyResets, reset_cycle, last_reset, is_new_in_second}
 use Rattle.fw_watch_laws.proofs.Flows.{KnowsManaged}
 use Rattle.fw_watch_laws.proofs.Keeps.{whole_known}
 use Rattle.fw_watch_laws.proofs.Known.{IsFine, fine_step, seen, none_stand, none_known}

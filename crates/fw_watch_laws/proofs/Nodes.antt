@@ -1,29 +1,15 @@
 -- There are at most 63 nodes, so what entries show is of registers that there are.
-use Rattle.std.proofs.Common.{◌≡◌, refl, ap, sym, subst, ℕ, ◌+◌, ◌<◌, ◌≤◌, ◌==◌, ◌&&◌, not, nat_le, nat_lt, Bool, true, false, List, [], ◌∷◌, ◌++◌, length, if◌then◌else◌, Option, Some, None, IfSome, arith}
-use Rattle.std.specs.List.{All, position_or_len}
+use Rattle.fw_watch_laws.proofs.Common.{◌≡◌, refl, ap, sym, subst, ℕ, ◌+◌, ◌<◌, ◌≤◌, ◌==◌, ◌&&◌, not, nat_le, nat_lt, Bool, true, false, List, [], ◌∷◌, ◌++◌, length, if◌then◌else◌, Option, Some, None}
+use Rattle.fw_watch_laws.proofs.Common.{IfSome, arith, All, NodeRow, EventEntry, Entry, Reset, Async, Iso, Event, Outcome, Shown, End, Timed, Fits, InOrder, At, Register, register_at, is_managed}
+use Rattle.fw_watch_laws.proofs.Common.{Answer, Channel, Second, State, answer_of, no_state, reset_state, ended_second, is_manager, manager_by, node_of_device, buried, after_death, Ignore, Refuse}
+use Rattle.fw_watch_laws.proofs.Common.{Follow, heed, with_packet, after_packet, shown_at, after_shown, after_event, after_what, packet_of, after, known_from, known, IsNumber, IsPlace, Glimpse}
+use Rattle.fw_watch_laws.proofs.Common.{glimpse_by, answer_glimpse, word_glimpse, glimpse}
+use Rattle.std.specs.List.{position_or_len}
 use Rattle.fw_csr.specs.declared.offset.TheConstants.{REGISTER_SPACE}
-use Rattle.fw_entry.specs.declared.codes.event.TheConstants as Events
-use Rattle.fw_entry.specs.declared.nodes.NodeRow.{NodeRow}
-use Rattle.fw_entry.specs.declared.entry.EventEntry.{EventEntry}
-use Rattle.fw_entry.specs.declared.entry.ShownEntry.{ShownEntry}
-use Rattle.fw_entry.specs.declared.entry.Entry.{Entry}
-use Rattle.fw_entry.specs.declared.entry.Entry.TheVariants.{Reset, Async, Iso, Event, Outcome, Shown, End}
-use Rattle.fw_entry.specs.declared.entry.Timed.{Timed}
-use Rattle.fw_entry.specs.Log.{Fits, InOrder}
-use Rattle.fw_remarks.specs.declared.register.At.{At}
-use Rattle.fw_remarks.specs.declared.register.Register.{Register}
-use Rattle.fw_remarks.specs.Registers.{register_at, is_managed}
-use Rattle.fw_known.specs.declared.asked.Answer.{Answer}
-use Rattle.fw_known.specs.declared.channel.Channel.{Channel}
-use Rattle.fw_known.specs.declared.second.Second.{Second}
-use Rattle.fw_known.specs.declared.state.State.{State}
-use Rattle.fw_known.specs.Standing.{answer_of}
-use Rattle.fw_known.specs.States.{no_state, reset_state, ended_second, is_device, is_manager, manager_by, node_of_device, buried, after_death}
-use Rattle.fw_watch.specs.declared.answer.Heed.TheVariants.{Ignore, Refuse, Follow}
-use Rattle.fw_watch.specs.Answering.{heed, with_packet, after_packet}
-use Rattle.fw_watch.specs.Steps.{shown_at_node, shown_at, after_shown, after_event, after_what, packet_of, after}
-use Rattle.fw_watch.specs.Watched.{known_from, known}
-use Rattle.fw_watch_laws.specs.LastKnown.{IsNumber, IsPlace, Glimpse, glimpse_by, answer_glimpse, word_glimpse, glimpse}
+use Rattle.fw_log_entry.specs.declared.codes.event.TheConstants as Events
+use Rattle.fw_log_entry.specs.declared.entry.ShownEntry.{ShownEntry}
+use Rattle.fw_watch_known.specs.States.{is_device}
+use Rattle.fw_watch.specs.Steps.{shown_at_node}
 use Rattle.fw_watch_laws.proofs.Frames.{Frame, answered_frame, word_frame, heard_frame, aside, ticked_only}
 use Rattle.fw_watch_laws.proofs.Numbers.{IsAt, IsOf, answer_within, register_number}
 

@@ -1,20 +1,17 @@
 -- The requests that stand are at registers that there are.
-use Rattle.std.proofs.Common.{◌≡◌, refl, ℕ, zero, suc, ◌+◌, ◌-◌, ◌/◌, ◌%◌, ◌<◌, ◌==◌, ◌&&◌, not, nat_le, nat_lt, Bool, true, false, List, [], ◌∷◌, ◌++◌, length, drop, if◌then◌else◌, Option, Some, None, IfSome, slice_get, arith}
-use Rattle.std.specs.List.{All, position}
-use Rattle.std.proofs.lemmas.List.Elements.{All-append, All-filter, All-drop}
-use Rattle.fw_async.specs.declared.packet.Head.{Head}
-use Rattle.fw_async.specs.declared.packet.Packet.{Packet}
-use Rattle.fw_async.specs.declared.packet.Packet.TheVariants.{WriteQuadlet, WriteBlock, WriteReply, ReadQuadlet, ReadBlock, ReadQuadletReply, ReadBlockReply, CycleStart, Lock as LockRequest, LockReply}
+use Rattle.fw_watch_laws.proofs.Common.{◌≡◌, refl, ℕ, zero, suc, ◌+◌, ◌-◌, ◌%◌, ◌<◌, ◌==◌, ◌&&◌, not, nat_le, nat_lt, Bool, true, false, List, [], ◌∷◌, ◌++◌, length, if◌then◌else◌, Option, Some, None}
+use Rattle.fw_watch_laws.proofs.Common.{IfSome, slice_get, arith, All, All-filter, Head, Packet, WriteQuadlet, WriteBlock, WriteReply, ReadQuadlet, ReadBlock, ReadQuadletReply, ReadBlockReply}
+use Rattle.fw_watch_laws.proofs.Common.{CycleStart, LockRequest, LockReply, Register, Bandwidth, ChannelsHigh, ChannelsLow, register_at, Asking, Read, Asked, Answer, lock_of, asked_at_register}
+use Rattle.fw_watch_laws.proofs.Common.{answers, is_of, is_from, without_answered, without_same, without_source, with_request, standing_behind, answered, node_of, old_word, lock_answer, answer_of}
+use Rattle.fw_watch_laws.proofs.Common.{IsNumber}
+use Rattle.std.proofs.Common.{◌/◌}
+use Rattle.std.proofs.Common.{drop}
+use Rattle.std.specs.List.{position}
+use Rattle.std.proofs.lemmas.List.Elements.{All-append, All-drop}
 use Rattle.fw_csr.specs.declared.offset.TheConstants.{BANDWIDTH_AVAILABLE, CHANNELS_AVAILABLE_HI, CHANNELS_AVAILABLE_LO, OPCR, IPCR}
-use Rattle.fw_remarks.specs.declared.register.Register.{Register}
-use Rattle.fw_remarks.specs.declared.register.Register.TheVariants.{Bandwidth, ChannelsHigh, ChannelsLow}
-use Rattle.fw_remarks.specs.Registers.{plug_number, output_or, input_of, plug_at, register_at}
-use Rattle.fw_known.specs.declared.asked.Asking.{Asking}
-use Rattle.fw_known.specs.declared.asked.Asking.TheVariants.{Read}
-use Rattle.fw_known.specs.declared.asked.Asked.{Asked}
-use Rattle.fw_known.specs.declared.asked.Answer.{Answer}
-use Rattle.fw_known.specs.Standing.{lock_of, asked_at_register, asked, answers, is_of, is_from, without_answered, without_same, without_source, with_request, standing_behind, asked_at, answered, node_of, old_word, answer_of_node, read_answer, lock_answer, answer_of}
-use Rattle.fw_watch_laws.specs.LastKnown.{IsNumber}
+use Rattle.fw_watch_remarks.specs.Registers.{plug_number, output_or, input_of, plug_at}
+use Rattle.fw_watch_known.specs.Standing.{asked}
+use Rattle.fw_watch_known.specs.Standing.{asked_at, answer_of_node, read_answer}
 
 -- the register of a request is one that there is
 abbrev pub IsAt : Asked → Type 0

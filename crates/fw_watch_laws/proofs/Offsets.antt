@@ -1,20 +1,13 @@
 -- Where a watched register stands, and which register of the account that is.
-use Rattle.std.proofs.Common.{◌≡◌, refl, ap, sym, ◌∙◌, subst, ℕ, ◌+◌, ◌-◌, ◌*◌, ◌/◌, ◌%◌, ◌<◌, ◌==◌, ◌&&◌, ◌||◌, nat_le, nat_lt, Bool, true, false, if◌then◌else◌, Option, Some, None, slice_get, arith}
-use Rattle.std.proofs.lemmas.Bool.{eqb-true}
-use Rattle.std.proofs.lemmas.Option.{same_Some}
+use Rattle.fw_watch_laws.proofs.Common.{◌≡◌, refl, ap, sym, ◌∙◌, subst, ℕ, ◌+◌, ◌-◌, ◌*◌, ◌%◌, ◌<◌, ◌==◌, ◌&&◌, ◌||◌, nat_le, nat_lt, Bool, true, false, if◌then◌else◌, Option, Some, None, slice_get}
+use Rattle.fw_watch_laws.proofs.Common.{arith, eqb-true, same_Some, ResetEntry, NodeRow, first_id, Place, BandwidthAvailable, ChannelsAvailable, place_at, register_of, is_node, Register, Bandwidth}
+use Rattle.fw_watch_laws.proofs.Common.{ChannelsHigh, ChannelsLow, Output, Input, register_at, is_managed, node_of, IsNumber, offset_of}
+use Rattle.std.proofs.Common.{◌/◌}
 use Rattle.std.specs.Option.{option_or}
 use Rattle.fw_csr.specs.declared.offset.TheConstants.{BANDWIDTH_AVAILABLE, CHANNELS_AVAILABLE_HI, CHANNELS_AVAILABLE_LO, OPCR, IPCR}
-use Rattle.fw_entry.specs.declared.entry.ResetEntry.{ResetEntry}
-use Rattle.fw_entry.specs.declared.nodes.NodeRow.{NodeRow}
-use Rattle.fw_entry.specs.Network.{first_id}
-use Rattle.fw_account.specs.Words.{Register as Place, BandwidthAvailable, ChannelsAvailable, register_at as place_at, register_of, first_address, first_output, first_input, is_node, plug_register}
-use Rattle.fw_faults.specs.Looked.{is_watched, is_plug_offset}
-use Rattle.fw_remarks.specs.declared.register.Register.{Register}
-use Rattle.fw_remarks.specs.declared.register.Register.TheVariants.{Bandwidth, ChannelsHigh, ChannelsLow, Output, Input}
-use Rattle.fw_remarks.specs.Registers.{plug_number, output_or, input_of, register_at, is_managed}
-use Rattle.fw_known.specs.Standing.{node_of}
-use Rattle.fw_watch_laws.specs.LastKnown.{IsNumber}
-use Rattle.fw_watch_laws.specs.Orderly.{offset_of}
+use Rattle.fw_model_account.specs.Words.{first_address, first_output, first_input, plug_register}
+use Rattle.fw_model_audit.specs.Looked.{is_watched, is_plug_offset}
+use Rattle.fw_watch_remarks.specs.Registers.{plug_number, output_or, input_of}
 
 -- ---- addresses
 

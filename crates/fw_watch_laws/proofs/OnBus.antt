@@ -1,20 +1,9 @@
 -- The nodes that `watch` keeps are those of the account's latest bus reset.
-use Rattle.std.proofs.Common.{◌≡◌, refl, sym, ◌∙◌, subst, ℕ, ◌==◌, Bool, true, false, length, if◌then◌else◌, Option, Some, None}
-use Rattle.std.specs.Bool.{⊤}
-use Rattle.std.proofs.lemmas.Option.{same_Some}
-use Rattle.fw_entry.specs.declared.codes.event.TheConstants as Events
-use Rattle.fw_entry.specs.declared.entry.EventEntry.{EventEntry}
-use Rattle.fw_entry.specs.declared.entry.ResetEntry.{ResetEntry}
-use Rattle.fw_entry.specs.declared.entry.Entry.{Entry}
-use Rattle.fw_entry.specs.declared.entry.Entry.TheVariants.{Reset, Async, Iso, Event, Outcome, Shown, End}
-use Rattle.fw_entry.specs.declared.entry.Timed.{Timed}
-use Rattle.fw_entry.specs.Log.{ResetFits, Fits}
-use Rattle.fw_known.specs.declared.second.Second.{Second}
-use Rattle.fw_known.specs.declared.state.State.{State}
-use Rattle.fw_known.specs.Standing.{answer_of}
-use Rattle.fw_known.specs.States.{reset_state, ended_second, node_of_device, buried, after_death}
-use Rattle.fw_watch.specs.Answering.{with_packet, after_packet}
-use Rattle.fw_watch.specs.Steps.{shown_at, after_shown, after_event, after_what, packet_of, after}
+use Rattle.fw_watch_laws.proofs.Common.{◌≡◌, refl, sym, ◌∙◌, subst, ℕ, ◌==◌, Bool, true, false, length, if◌then◌else◌, Option, Some, None, ⊤, same_Some, EventEntry, ResetEntry, Entry, Reset, Async}
+use Rattle.fw_watch_laws.proofs.Common.{Iso, Event, Outcome, Shown, End, Timed, Fits, Second, State, answer_of, reset_state, ended_second, node_of_device, buried, after_death, with_packet}
+use Rattle.fw_watch_laws.proofs.Common.{after_packet, shown_at, after_shown, after_event, after_what, packet_of, after}
+use Rattle.fw_log_entry.specs.declared.codes.event.TheConstants as Events
+use Rattle.fw_log_entry.specs.Log.{ResetFits}
 use Rattle.fw_watch_laws.proofs.Frames.{Frame, answered_frame, word_frame, heard_frame, aside, ticked_only}
 use Rattle.fw_watch_laws.proofs.Latest.{latest_after}
 

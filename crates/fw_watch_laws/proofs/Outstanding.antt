@@ -1,24 +1,12 @@
 -- What an account without a fault says of a response: which request it is to, and which move a swap is.
-use Rattle.std.proofs.Common.{◌≡◌, refl, ap, sym, ◌∙◌, ℕ, ◌==◌, ◌&&◌, Bool, true, false, List, length, if◌then◌else◌, Option, Some, None}
-use Rattle.std.proofs.lemmas.Bool.{eqb-true, eq-eqb}
-use Rattle.std.proofs.lemmas.Option.{same_Some}
-use Rattle.fw_words.specs.Quadlet.{quadlet_at}
-use Rattle.fw_words.specs.declared.swap.Swap.{Swap}
-use Rattle.fw_words.specs.declared.swap.TheConstants.{COMPARE_SWAP}
-use Rattle.fw_base.specs.declared.plug.PlugAt.{PlugAt}
-use Rattle.fw_base.specs.declared.label.Label.TheVariants.{Procedure}
-use Rattle.fw_base.specs.Labels.{label_code}
-use Rattle.fw_async.specs.declared.packet.Head.{Head}
-use Rattle.fw_entry.specs.Network.{device_of_id}
-use Rattle.fw_account.specs.Account.{Account, Operation, Reads, Locks, Request}
-use Rattle.fw_account.specs.Moves.{Move, after}
-use Rattle.fw_account.specs.Words.{Register as Place, register_of}
-use Rattle.fw_account.specs.Decode.{IsMove, move_at}
-use Rattle.fw_account.specs.Packets.{Reply, Locked, ended, moved, swapped, is_swapped, replied, is_reply_to, replied_to, answered, after_reply}
-use Rattle.fw_account.specs.Sound.{IsSound}
-use Rattle.fw_account.proofs.Decoded.{move_at_is}
-use Rattle.fw_known.specs.declared.asked.Asking.TheVariants.{Swap as SwapOf, Lock}
-use Rattle.fw_known.specs.Standing.{lock_of}
+use Rattle.fw_watch_laws.proofs.Common.{◌≡◌, refl, ap, sym, ◌∙◌, ℕ, ◌==◌, ◌&&◌, Bool, true, false, List, length, if◌then◌else◌, Option, Some, None, eqb-true, eq-eqb, same_Some, quadlet_at, Swap}
+use Rattle.fw_watch_laws.proofs.Common.{COMPARE_SWAP, PlugAt, Procedure, label_code, Head, device_of_id, Account, Operation, Reads, Locks, Request, Move, Place, register_of, move_at, Reply, Locked}
+use Rattle.fw_watch_laws.proofs.Common.{ended, is_swapped, replied, is_reply_to, IsSound, SwapOf, lock_of}
+use Rattle.fw_model_account.specs.Moves.{after}
+use Rattle.fw_model_account.specs.Decode.{IsMove}
+use Rattle.fw_model_account.specs.Packets.{moved, swapped, replied_to, answered, after_reply}
+use Rattle.fw_model_account.proofs.Decoded.{move_at_is}
+use Rattle.fw_watch_known.specs.declared.asked.Asking.TheVariants.{Lock}
 use Rattle.fw_watch_laws.proofs.Matches.{asking_of}
 
 -- a response with the label of procedures is to the outstanding request of its requester, and the account goes on

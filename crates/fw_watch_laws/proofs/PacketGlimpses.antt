@@ -1,28 +1,12 @@
 -- What a packet shows of a register is the account's word.
-use Rattle.std.proofs.Common.{◌≡◌, ◌≢◌, refl, ap, sym, ◌∙◌, subst, ℕ, ◌==◌, Bool, true, false, if◌then◌else◌, Option, Some, None, option_map, true≢false}
-use Rattle.std.proofs.lemmas.Bool.{eqb-true, eq-eqb}
-use Rattle.std.proofs.lemmas.Option.{same_Some}
-use Rattle.fw_base.specs.declared.label.Label.TheVariants.{Procedure}
-use Rattle.fw_base.specs.Labels.{label_code}
-use Rattle.fw_async.specs.declared.packet.Head.{Head}
-use Rattle.fw_async.specs.declared.packet.Packet.{Packet}
-use Rattle.fw_async.specs.declared.packet.Packet.TheVariants.{ReadQuadletReply}
-use Rattle.fw_entry.specs.Network.{device_of_id}
-use Rattle.fw_account.specs.Account.{Account, Request}
-use Rattle.fw_account.specs.Packets.{Read as ReadReply, answered as answered_to, after_packet}
-use Rattle.fw_account.specs.Words.{Register as Place, word_of, word_at, register_at as place_at}
-use Rattle.fw_faults.specs.Looked.{Replies, looked_packet, ShowsWords}
-use Rattle.fw_remarks.specs.declared.register.Register.{Register}
-use Rattle.fw_remarks.specs.Knowing.{all_known}
-use Rattle.fw_known.specs.declared.asked.Asking.{Asking}
-use Rattle.fw_known.specs.declared.asked.Asking.TheVariants.{Read, Swap as SwapOf, Lock}
-use Rattle.fw_known.specs.declared.asked.Asked.{Asked}
-use Rattle.fw_known.specs.declared.asked.Answer.{Answer}
-use Rattle.fw_known.specs.declared.state.State.{State}
-use Rattle.fw_known.specs.Standing.{is_read, node_of, made_by}
-use Rattle.fw_watch.specs.Answering.{heed}
-use Rattle.fw_watch_laws.specs.LastKnown.{IsNumber, glimpse_by}
-use Rattle.fw_watch_laws.specs.Orderly.{offset_of}
+use Rattle.fw_watch_laws.proofs.Common.{◌≡◌, ◌≢◌, refl, ap, sym, ◌∙◌, subst, ℕ, ◌==◌, Bool, true, false, if◌then◌else◌, Option, Some, None, true≢false, eqb-true, eq-eqb, same_Some, Procedure}
+use Rattle.fw_watch_laws.proofs.Common.{label_code, Head, Packet, ReadQuadletReply, device_of_id, Account, Request, ReadReply, Place, word_of, place_at, looked_packet, ShowsWords, Register, all_known}
+use Rattle.fw_watch_laws.proofs.Common.{Asking, Read, SwapOf, Asked, Answer, State, is_read, node_of, made_by, heed, IsNumber, glimpse_by, offset_of}
+use Rattle.std.proofs.Common.{option_map}
+use Rattle.fw_model_account.specs.Packets.{answered as answered_to, after_packet}
+use Rattle.fw_model_account.specs.Words.{word_at}
+use Rattle.fw_model_audit.specs.Looked.{Replies}
+use Rattle.fw_watch_known.specs.declared.asked.Asking.TheVariants.{Lock}
 use Rattle.fw_watch_laws.proofs.Answered.{IsReadAnswer}
 use Rattle.fw_watch_laws.proofs.Matches.{IsSame}
 use Rattle.fw_watch_laws.proofs.Offsets.{place_of}
@@ -32,7 +16,7 @@ use Rattle.fw_watch_laws.proofs.SamePlace.{Stands}
 use Rattle.fw_watch_laws.proofs.Swaps.{IsPlaced, same_request, placed, looked_if}
 use Rattle.fw_watch_laws.proofs.Glimpses.{Seen, IsFollowed, answer_seen, left_of}
 
--- where no word changes, a place that is not followed shows nothing
+-- if no word changes, a place that is not followed shows nothing
 pub all_same : (l m : Account) → WordsSame l m → Seen l m None
 all_same l m w r e v = w v
 

@@ -1,27 +1,19 @@
 -- A log without an audit fault, entry by entry.
-use Rattle.std.proofs.Common.{◌≡◌, refl, ap, sym, ◌∙◌, subst, ℕ, Bool, true, false, List, [], ◌∷◌, ◌++◌, Option, Some, append_assoc, if◌then◌else◌, ◌||◌}
-use Rattle.std.specs.List.{All, filter, list_any}
+use Rattle.fw_watch_laws.proofs.Common.{◌≡◌, refl, ap, sym, ◌∙◌, subst, ℕ, Bool, true, false, List, [], ◌∷◌, ◌++◌, Option, Some, if◌then◌else◌, ◌||◌, All, filter, list_any, same_Some, Timed, Fits}
+use Rattle.fw_watch_laws.proofs.Common.{InOrder, Account, no_account, next_account, IsSound, ShowsWords, Said, State, no_state, remarks, after, known, IsOrderly}
+use Rattle.std.proofs.Common.{append_assoc}
 use Rattle.std.proofs.lemmas.List.{map-append}
 use Rattle.std.proofs.lemmas.List.Elements.{All-head, All-tail, filter-append}
-use Rattle.std.proofs.lemmas.Option.{same_Some}
-use Rattle.fw_entry.specs.declared.entry.Timed.{Timed}
-use Rattle.fw_entry.specs.Log.{Fits, InOrder}
-use Rattle.fw_account.specs.Account.{Account}
-use Rattle.fw_account.specs.Fold.{no_account, next_account, next_of, account_of, entries_of}
-use Rattle.fw_account.specs.Sound.{IsSound}
-use Rattle.fw_account.proofs.Accesses.{account_of-push}
-use Rattle.fw_account.proofs.Fold.{next_keeps, starts_sound}
-use Rattle.fw_faults.specs.Looked.{looked, ShowsWords}
-use Rattle.fw_faults.specs.Faults.{HasNoFault}
-use Rattle.fw_faults.specs.Audited.{IsAudited}
-use Rattle.fw_faults.proofs.Verdicts.{no_fault}
-use Rattle.fw_remarks.specs.Remarks.{Said}
-use Rattle.fw_known.specs.declared.state.State.{State}
-use Rattle.fw_known.specs.States.{no_state}
-use Rattle.fw_watch.specs.Steps.{remarks, after}
-use Rattle.fw_watch.specs.Watched.{known, remarks_from, all_remarks}
+use Rattle.fw_model_account.specs.Fold.{next_of, account_of, entries_of}
+use Rattle.fw_model_account.proofs.Accesses.{account_of-push}
+use Rattle.fw_model_account.proofs.Fold.{next_keeps, starts_sound}
+use Rattle.fw_model_audit.specs.Looked.{looked}
+use Rattle.fw_model_audit.specs.Faults.{HasNoFault}
+use Rattle.fw_model_audit.specs.Audited.{IsAudited}
+use Rattle.fw_model_audit.proofs.Verdicts.{no_fault}
+use Rattle.fw_watch.specs.Watched.{remarks_from, all_remarks}
 use Rattle.fw_watch.proofs.WatchLaws.{known_from_more}
-use Rattle.fw_watch_laws.specs.Orderly.{IsLabelledIn, IsOrderly}
+use Rattle.fw_watch_laws.specs.Orderly.{IsLabelledIn}
 use Rattle.fw_watch_laws.proofs.Agrees.{Agrees, agrees_none, agrees_step}
 
 -- an entry after others of a log that has no fault, over the account of these
@@ -75,7 +67,7 @@ IsNone q xs = filter q xs ≡ []
 pub both_none : (q : Said → Bool) (xs ys : List Said) → IsNone q xs → IsNone q ys → IsNone q (xs ++ ys)
 both_none q xs ys e f = filter-append q xs ys ∙ ap (λ (zs : List Said). zs ++ filter q ys) e ∙ f
 
--- what holds of each front and is kept by each entry, and of which nothing is told, is told of nowhere
+-- what holds of each prefix and is kept by each entry, and of which nothing is told, is told of nowhere
 pub none_from : (q : Said → Bool) (entries : List Timed) (P : List Timed → Account → Type 0) → IsAudited (entries_of entries)
     → ((front rest : List Timed) (t : Timed) (l m : Account) → Passes entries front rest t l m → P front l → P (front ++ t ∷ []) m)
     → ((front rest : List Timed) (t : Timed) (l m : Account) → Passes entries front rest t l m → P front l → IsNone q (remarks (known front) t))

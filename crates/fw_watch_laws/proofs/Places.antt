@@ -1,15 +1,10 @@
 -- What is known of a register after one that was put.
-use Rattle.std.proofs.Common.{◌≡◌, ◌≢◌, refl, ℕ, ◌+◌, ◌*◌, ◌<◌, ◌==◌, ◌&&◌, Bool, true, false, List, length, if◌then◌else◌, Some, None, unwrap_or, arith, get_or, set}
+use Rattle.fw_watch_laws.proofs.Common.{◌≡◌, ◌≢◌, refl, ℕ, ◌+◌, ◌*◌, ◌<◌, ◌==◌, ◌&&◌, Bool, true, false, List, length, if◌then◌else◌, Some, None, unwrap_or, arith, get_or, Known, At, Register}
+use Rattle.fw_watch_laws.proofs.Common.{Bandwidth, ChannelsHigh, ChannelsLow, Output, Input, nothing_known, State, known_of, with_known, with_known_plug, IsNumber, IsPlace, is_same_by}
+use Rattle.std.proofs.Common.{set}
 use Rattle.std.proofs.lemmas.List.{get_or-set_other}
 use Rattle.std.proofs.lemmas.Grind.{get_or-set_at}
-use Rattle.fw_remarks.specs.declared.known.Known.{Known}
-use Rattle.fw_remarks.specs.declared.register.At.{At}
-use Rattle.fw_remarks.specs.declared.register.Register.{Register}
-use Rattle.fw_remarks.specs.declared.register.Register.TheVariants.{Bandwidth, ChannelsHigh, ChannelsLow, Output, Input}
-use Rattle.fw_remarks.specs.Knowing.{nothing_known}
-use Rattle.fw_known.specs.declared.state.State.{State}
-use Rattle.fw_known.specs.States.{known_of, with_known, with_known_plug}
-use Rattle.fw_watch_laws.specs.LastKnown.{IsNumber, IsPlace, is_same_by, is_same}
+use Rattle.fw_watch_laws.specs.LastKnown.{is_same}
 
 -- one place of the table, as two numbers are one
 put_place : (b : Bool) (plugs : List Known) (i j : ℕ) (k : Known) → j < length plugs → (b ≡ true → j ≡ i) → (b ≡ false → j ≢ i)

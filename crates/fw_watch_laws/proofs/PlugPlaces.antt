@@ -1,16 +1,11 @@
 -- Which plug of the account an oPCR or iPCR is.
-use Rattle.std.proofs.Common.{◌≡◌, refl, ap, sym, ◌∙◌, ℕ, ◌+◌, ◌*◌, ◌<◌, ◌≤◌, ◌==◌, nat_lt, Bool, true, false, if◌then◌else◌, Option, Some, None, slice_get, arith}
+use Rattle.fw_watch_laws.proofs.Common.{◌≡◌, refl, ap, sym, ◌∙◌, ℕ, ◌+◌, ◌*◌, ◌<◌, ◌≤◌, ◌==◌, nat_lt, Bool, true, false, if◌then◌else◌, Option, Some, None, slice_get, arith, nat_tests, same_Some}
+use Rattle.fw_watch_laws.proofs.Common.{PlugAt, ResetEntry, NodeRow, Place, OutputPlug, InputPlug, place_at, is_node, Output, Input, offset_of}
 use Rattle.std.specs.Option.{option_or}
-use Rattle.std.proofs.lemmas.Bool.Decides.{nat_tests}
-use Rattle.std.proofs.lemmas.Option.{same_Some}
-use Rattle.fw_base.specs.declared.plug.PlugAt.{PlugAt}
-use Rattle.fw_base.specs.Tables.{at_plug}
-use Rattle.fw_entry.specs.declared.entry.ResetEntry.{ResetEntry}
-use Rattle.fw_entry.specs.declared.nodes.NodeRow.{NodeRow}
-use Rattle.fw_account.specs.Words.{Register as Place, OutputPlug, InputPlug, register_at as place_at, first_output, first_input, is_node, plug_number, manager_register, output_register, input_register, plug_register}
-use Rattle.fw_account.proofs.Places.{output_number, input_number, no_output}
-use Rattle.fw_remarks.specs.declared.register.Register.TheVariants.{Output, Input}
-use Rattle.fw_watch_laws.specs.Orderly.{offset_of}
+use Rattle.fw_terms.specs.Tables.{at_plug}
+use Rattle.fw_model_account.specs.Words.{first_output, first_input}
+use Rattle.fw_model_account.specs.Words.{plug_number, manager_register, output_register, input_register, plug_register}
+use Rattle.fw_model_account.proofs.Places.{output_number, input_number, no_output}
 
 -- it is the plug with this number of the node's device
 pub record IsPlugOf (o : Option ResetEntry) (n k : ℕ) (p : PlugAt) : Type 0 where

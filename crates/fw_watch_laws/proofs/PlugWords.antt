@@ -1,18 +1,17 @@
 -- Words of plugs between which one connection comes or goes, and nothing else changes that a move may not change.
-use Rattle.std.proofs.Common.{◌≡◌, refl, ap, sym, ◌∙◌, inl, inr, ◌⊎◌, ℕ, ◌+◌, ◌-◌, ◌*◌, ◌%◌, ◌^◌, ◌<◌, ◌≤◌, ◌==◌, ◌&&◌, not, Bool, true, false, if◌then◌else◌, bit_and, arith}
-use Rattle.std.proofs.lemmas.Bool.{eq-eqb}
+use Rattle.fw_watch_laws.proofs.Common.{◌≡◌, refl, ap, sym, ◌∙◌, inl, inr, ◌⊎◌, ℕ, ◌+◌, ◌-◌, ◌*◌, ◌%◌, ◌^◌, ◌<◌, ◌≤◌, ◌==◌, ◌&&◌, not, Bool, true, false, if◌then◌else◌, arith, eq-eqb, update}
+use Rattle.fw_watch_laws.proofs.Common.{Settings, flag, Output, Input}
+use Rattle.std.proofs.Common.{bit_and}
 use Rattle.std.proofs.lemmas.Nat.{and_assoc}
 use Rattle.std.proofs.lemmas.Grind.{and_numeral, and_high_numeral}
-use Rattle.fw_base.specs.Tables.{update}
-use Rattle.fw_base.specs.declared.plug.ConnectionKind.{ConnectionKind}
-use Rattle.fw_base.specs.declared.plug.ConnectionKind.TheVariants.{PointToPoint, Broadcast}
+use Rattle.fw_terms.specs.declared.plug.ConnectionKind.{ConnectionKind}
+use Rattle.fw_terms.specs.declared.plug.ConnectionKind.TheVariants.{PointToPoint, Broadcast}
 use Rattle.fw_words.specs.Quadlet.{field}
-use Rattle.fw_plug.specs.Words.{Settings, FitsRegister, OutFields, InFields, flag, out_word, in_word}
-use Rattle.fw_account.specs.Account.{Connections, counter, is_there}
-use Rattle.fw_account.specs.Moves.{HasRoom, HasConnection, add_connection, drop_connection}
-use Rattle.fw_account.proofs.Connections.{counter_changed}
-use Rattle.fw_remarks.specs.declared.register.Register.TheVariants.{Output, Input}
-use Rattle.fw_remarks.specs.Knowing.{is_connected}
+use Rattle.fw_plug.specs.Words.{FitsRegister, OutFields, InFields, out_word, in_word}
+use Rattle.fw_model_account.specs.Account.{Connections, counter, is_there}
+use Rattle.fw_model_account.specs.Moves.{HasRoom, HasConnection, add_connection, drop_connection}
+use Rattle.fw_model_account.proofs.Connections.{counter_changed}
+use Rattle.fw_watch_remarks.specs.Knowing.{is_connected}
 use Rattle.fw_watch.specs.Swaps.{same_bits, are_next, moves_one, first_kept, is_move}
 
 -- ---- one connection more or less

@@ -1,23 +1,17 @@
 -- What swaps, isochronous packets and time tell nothing of.
-use Rattle.std.proofs.Common.{◌≡◌, refl, ℕ, zero, suc, ◌+◌, ◌==◌, ◌&&◌, ◌<◌, ◌≤◌, nat_lt, arith, Bool, true, false, List, [], ◌∷◌, ◌++◌, if◌then◌else◌, Option, Some, None}
-use Rattle.fw_words.specs.declared.swap.Swap.{Swap}
-use Rattle.fw_remarks.specs.declared.register.Register.{Register}
-use Rattle.fw_remarks.specs.declared.register.Register.TheVariants.{Bandwidth, ChannelsHigh, ChannelsLow, Output, Input}
-use Rattle.fw_remarks.specs.declared.remark.Remark.TheVariants.{Units, Takes, Returns, Plug, TooMany, UnitsInSecond, NewInSecond, Several, MoreThanMove, Sends, Held, TwoSenders, NotTaken, OtherPlug}
-use Rattle.fw_remarks.specs.Knowing.{bit_of}
-use Rattle.fw_remarks.specs.Remarks.{Said, said}
-use Rattle.fw_known.specs.declared.asked.Answer.{Answer}
-use Rattle.fw_known.specs.declared.channels.Late.{Late}
-use Rattle.fw_known.specs.declared.hear.Heard.{Heard}
-use Rattle.fw_known.specs.declared.hear.Packet.{Packet}
-use Rattle.fw_known.specs.declared.state.State.{State}
-use Rattle.fw_known.specs.declared.swap.Made.{Made}
-use Rattle.fw_known.specs.Channels.{late_to, channel_at}
-use Rattle.fw_known.specs.Heard.{heard}
-use Rattle.fw_watch.specs.Swaps.{is_new, epoch_of, taken_with, units_held, units_beyond, new_units_remarks, many_remarks, units_remarks, taken_remarks, change_remarks, changes_remarks, changes_to, several_remarks, channels_remarks, is_move, plug_remarks, remarks_by, swap_remarks}
+use Rattle.fw_watch_laws.proofs.Common.{◌≡◌, refl, ℕ, zero, suc, ◌+◌, ◌==◌, ◌&&◌, ◌<◌, ◌≤◌, nat_lt, arith, Bool, true, false, List, [], ◌∷◌, ◌++◌, if◌then◌else◌, Option, Some, None, Swap, Register}
+use Rattle.fw_watch_laws.proofs.Common.{Bandwidth, ChannelsHigh, ChannelsLow, Output, Input, UnitsInSecond, NewInSecond, bit_of, Said, said, Answer, State, Made, channel_at, held_remarks, made}
+use Rattle.fw_watch_remarks.specs.declared.remark.Remark.TheVariants.{Units, Takes, Returns, Plug, TooMany, Several, MoreThanMove, Sends, Held, TwoSenders, NotTaken, OtherPlug}
+use Rattle.fw_watch_known.specs.declared.channels.Late.{Late}
+use Rattle.fw_watch_known.specs.declared.hear.Heard.{Heard}
+use Rattle.fw_watch_known.specs.declared.hear.Packet.{Packet}
+use Rattle.fw_watch_known.specs.Channels.{late_to}
+use Rattle.fw_watch_known.specs.Heard.{heard}
+use Rattle.fw_watch.specs.Swaps.{is_new, epoch_of, taken_with, units_held, units_beyond, new_units_remarks, many_remarks, units_remarks, taken_remarks}
+use Rattle.fw_watch.specs.Swaps.{change_remarks, changes_remarks, changes_to, several_remarks, channels_remarks, is_move, plug_remarks, remarks_by, swap_remarks}
 use Rattle.fw_watch.specs.Hearing.{start_remarks, two_remarks, free_remarks, owners_remarks, wrong_remarks, heard_remarks}
-use Rattle.fw_watch.specs.Holding.{late_remarks, after_late, held_remarks}
-use Rattle.fw_watch.specs.Answering.{made, made_remarks}
+use Rattle.fw_watch.specs.Holding.{late_remarks, after_late}
+use Rattle.fw_watch.specs.Answering.{made_remarks}
 use Rattle.fw_watch_laws.proofs.Passing.{IsNone, both_none}
 use Rattle.fw_watch_laws.proofs.Remarked.{OfSwap, OfMany, OfUnits, OfNew, OfSeveral, OfMore, OfChannel, IsFree}
 

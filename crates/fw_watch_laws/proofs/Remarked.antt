@@ -1,8 +1,8 @@
 -- What remarks are told of.
-use Rattle.std.proofs.Common.{◌≡◌, Bool, false}
-use Rattle.fw_remarks.specs.declared.remark.Remark.{Remark}
-use Rattle.fw_remarks.specs.declared.remark.Remark.TheVariants.{Reset, Units, Takes, Returns, Plug, Unseen, Sends, Held, NotManager, TooMany, UnitsInSecond, NewInSecond, Several, MoreThanMove, TwoSenders, NotTaken, OtherPlug}
-use Rattle.fw_remarks.specs.Remarks.{Said}
+use Rattle.fw_watch_laws.proofs.Common.{◌≡◌, Bool, false, Unseen, UnitsInSecond, NewInSecond, Said}
+use Rattle.fw_watch_remarks.specs.declared.remark.Remark.{Remark}
+use Rattle.fw_watch_remarks.specs.declared.remark.Remark.TheVariants.{Reset, Units, Takes, Returns, Plug, Sends, Held, NotManager}
+use Rattle.fw_watch_remarks.specs.declared.remark.Remark.TheVariants.{TooMany, Several, MoreThanMove, TwoSenders, NotTaken, OtherPlug}
 
 -- bus resets, words, swaps that are not followed, swaps and what is odd in them, and channels
 pub data Kind : Type 0 where

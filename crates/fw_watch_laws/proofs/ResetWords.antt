@@ -1,19 +1,12 @@
 -- After a bus reset the words of the account have the bits that it fixes.
-use Rattle.std.proofs.Common.{◌≡◌, refl, ap, ◌∙◌, subst, ℕ, ◌+◌, ◌*◌, ◌^◌, ◌<◌, Bool, true, false, cond, Some, bit_and, arith}
+use Rattle.fw_watch_laws.proofs.Common.{◌≡◌, refl, ap, ◌∙◌, subst, ℕ, ◌+◌, ◌*◌, ◌^◌, ◌<◌, Bool, true, false, Some, arith, Settings, ResetEntry, Account, after_reset, IsSound, Place, OutputPlug}
+use Rattle.fw_watch_laws.proofs.Common.{InputPlug, word_of, Register, Bandwidth, ChannelsHigh, ChannelsLow, Output, Input, all_known, differing, fixed, offset_of}
+use Rattle.std.proofs.Common.{cond, bit_and}
 use Rattle.std.specs.Int.Bits.{xor_self, xor_zero_l}
-use Rattle.fw_plug.specs.Words.{Settings, FitsRegister, out_word, in_word}
-use Rattle.fw_entry.specs.declared.entry.ResetEntry.{ResetEntry}
-use Rattle.fw_account.specs.Account.{Account}
-use Rattle.fw_account.specs.Events.{after_reset}
-use Rattle.fw_account.specs.Sound.{IsSound}
-use Rattle.fw_account.specs.Words.{Register as Place, OutputPlug, InputPlug, word_of}
-use Rattle.fw_account.proofs.Bounds.{IsThere, register_there}
-use Rattle.fw_account.proofs.Resets.{reset_remainder, reset_high, reset_low, reset_output, reset_input}
-use Rattle.fw_remarks.specs.declared.register.Register.{Register}
-use Rattle.fw_remarks.specs.declared.register.Register.TheVariants.{Bandwidth, ChannelsHigh, ChannelsLow, Output, Input}
-use Rattle.fw_remarks.specs.Knowing.{known_bits, all_known, after_reset as reset_plug, differing}
-use Rattle.fw_watch_laws.specs.LastKnown.{fixed}
-use Rattle.fw_watch_laws.specs.Orderly.{offset_of}
+use Rattle.fw_plug.specs.Words.{FitsRegister, out_word, in_word}
+use Rattle.fw_model_account.proofs.Bounds.{IsThere, register_there}
+use Rattle.fw_model_account.proofs.Resets.{reset_remainder, reset_high, reset_low, reset_output, reset_input}
+use Rattle.fw_watch_remarks.specs.Knowing.{known_bits, after_reset as reset_plug}
 use Rattle.fw_watch_laws.proofs.PlugPlaces.{output_place, input_place}
 use Rattle.fw_watch_laws.proofs.PlugWords.{no_counters}
 use Rattle.fw_watch_laws.proofs.SamePlace.{Stands, managed}

@@ -1,30 +1,15 @@
 -- The row of a channel after an entry.
-use Rattle.std.proofs.Common.{◌≡◌, ◌≢◌, refl, ap, sym, ◌∙◌, subst, ℕ, zero, suc, ◌==◌, Bool, true, false, List, length, replicate, if◌then◌else◌, Option, Some, None, IfSome}
+use Rattle.fw_watch_laws.proofs.Common.{◌≡◌, ◌≢◌, refl, ap, sym, ◌∙◌, subst, ℕ, zero, suc, ◌==◌, Bool, true, false, List, length, if◌then◌else◌, Option, Some, None, IfSome, EventEntry, Entry, Reset}
+use Rattle.fw_watch_laws.proofs.Common.{Async, Iso, Event, Outcome, Shown, End, Timed, Known, At, all_known, Answer, Channel, Second, State, fresh, undue, channel_at, after_heard, judged, answer_of}
+use Rattle.fw_watch_laws.proofs.Common.{known_of, reset_state, ended_second, node_of_device, buried, after_death, Heed, Ignore, Refuse, Follow, with_manager, after_shown_by, after_followed, heed}
+use Rattle.fw_watch_laws.proofs.Common.{after_heeded, after_answer, after_answered, with_packet, after_packet, shown_at, after_word, after_shown, after_event, after_what, ticked, after, known_left}
+use Rattle.fw_watch_laws.proofs.Common.{glimpse_by, answer_glimpse, word_glimpse, glimpse}
+use Rattle.std.proofs.Common.{replicate}
 use Rattle.std.proofs.lemmas.List.{length-replicate}
-use Rattle.fw_entry.specs.declared.codes.event.TheConstants as Events
-use Rattle.fw_entry.specs.declared.entry.EventEntry.{EventEntry}
-use Rattle.fw_entry.specs.declared.entry.Entry.{Entry}
-use Rattle.fw_entry.specs.declared.entry.Entry.TheVariants.{Reset, Async, Iso, Event, Outcome, Shown, End}
-use Rattle.fw_entry.specs.declared.entry.Timed.{Timed}
-use Rattle.fw_remarks.specs.declared.known.Known.{Known}
-use Rattle.fw_remarks.specs.declared.register.At.{At}
-use Rattle.fw_remarks.specs.Knowing.{all_known}
-use Rattle.fw_known.specs.declared.asked.Answer.{Answer}
-use Rattle.fw_known.specs.declared.channel.Channel.{Channel}
-use Rattle.fw_known.specs.declared.channels.Late.{Late}
-use Rattle.fw_known.specs.declared.second.Second.{Second}
-use Rattle.fw_known.specs.declared.state.State.{State}
-use Rattle.fw_known.specs.Channels.{fresh, undue, channel_at, late_to}
-use Rattle.fw_known.specs.Heard.{after_heard}
-use Rattle.fw_known.specs.Judging.{judged}
-use Rattle.fw_known.specs.Standing.{answer_of}
-use Rattle.fw_known.specs.States.{known_of, reset_state, ended_second, node_of_device, buried, after_death}
-use Rattle.fw_watch.specs.declared.answer.Heed.{Heed}
-use Rattle.fw_watch.specs.declared.answer.Heed.TheVariants.{Ignore, Refuse, Follow}
-use Rattle.fw_watch.specs.Answering.{with_manager, after_shown_by, after_followed, heed, after_heeded, after_answer, after_answered, with_packet, after_packet}
+use Rattle.fw_log_entry.specs.declared.codes.event.TheConstants as Events
+use Rattle.fw_watch_known.specs.declared.channels.Late.{Late}
+use Rattle.fw_watch_known.specs.Channels.{late_to}
 use Rattle.fw_watch.specs.Holding.{after_late, after_held}
-use Rattle.fw_watch.specs.Steps.{shown_at, after_word, after_shown, after_event, after_what, ticked, after}
-use Rattle.fw_watch_laws.specs.LastKnown.{known_left, glimpse_by, answer_glimpse, word_glimpse, glimpse}
 use Rattle.fw_watch_laws.specs.TwoSenders.{found_moves, glimpse_moves, moves}
 use Rattle.fw_watch_laws.proofs.Frames.{manager_only, manager_frame, manager_known, aside, ticked_only}
 use Rattle.fw_watch_laws.proofs.Nodes.{IsSeen}

@@ -1,18 +1,10 @@
--- Two registers of `watch` are one exactly where they are one of the account.
-use Rattle.std.proofs.Common.{◌≡◌, refl, ap, sym, ◌∙◌, ℕ, ◌+◌, ◌==◌, ◌&&◌, Bool, true, Option, Some, arith}
-use Rattle.std.proofs.lemmas.Bool.{eqb-true, eq-eqb}
-use Rattle.std.proofs.lemmas.Option.{same_Some}
-use Rattle.fw_base.specs.declared.plug.PlugAt.{PlugAt}
-use Rattle.fw_base.specs.Tables.{at_plug}
-use Rattle.fw_entry.specs.declared.entry.ResetEntry.{ResetEntry}
-use Rattle.fw_entry.specs.Network.{first_id, row_of_node, device_of_id}
-use Rattle.fw_account.specs.Words.{Register as Place, BandwidthAvailable, ChannelsAvailable, OutputPlug, InputPlug, register_at as place_at}
-use Rattle.fw_account.proofs.Places.{device_at_id}
-use Rattle.fw_remarks.specs.declared.register.Register.{Register}
-use Rattle.fw_remarks.specs.declared.register.Register.TheVariants.{Bandwidth, ChannelsHigh, ChannelsLow, Output, Input}
-use Rattle.fw_remarks.specs.Registers.{is_managed}
-use Rattle.fw_watch_laws.specs.LastKnown.{IsNumber, is_same_by}
-use Rattle.fw_watch_laws.specs.Orderly.{offset_of}
+-- Two registers of `watch` are one exactly if they are one of the account.
+use Rattle.fw_watch_laws.proofs.Common.{◌≡◌, refl, ap, sym, ◌∙◌, ℕ, ◌+◌, ◌==◌, ◌&&◌, Bool, true, Option, Some, arith, eqb-true, eq-eqb, same_Some, PlugAt, ResetEntry, first_id, device_of_id, Place}
+use Rattle.fw_watch_laws.proofs.Common.{BandwidthAvailable, ChannelsAvailable, OutputPlug, InputPlug, place_at, Register, Bandwidth, ChannelsHigh, ChannelsLow, Output, Input, is_managed, IsNumber}
+use Rattle.fw_watch_laws.proofs.Common.{is_same_by, offset_of}
+use Rattle.fw_terms.specs.Tables.{at_plug}
+use Rattle.fw_log_entry.specs.Network.{row_of_node}
+use Rattle.fw_model_account.proofs.Places.{device_at_id}
 use Rattle.fw_watch_laws.proofs.Matches.{IsApart}
 use Rattle.fw_watch_laws.proofs.Offsets.{managed_of}
 use Rattle.fw_watch_laws.proofs.Many.{managed_in}
@@ -52,7 +44,7 @@ base_of (InputPlug p) = 0
 pub two_halves : ChannelsAvailable 0 ≡ ChannelsAvailable 32 → ⊥
 two_halves e = let g = ap base_of e in omega (arith, g)
 
--- where they are one of the account
+-- if they are one of the account
 pub same_place : (r : Register) (q : Register) (o : Option ResetEntry) (n m : ℕ) (v : Place) → IsApart o → Stands o n r v → Stands o m q v → is_same_by r q (n == m) ≡ true
 same_place Bandwidth Bandwidth o n m v a x y = refl
 same_place Bandwidth ChannelsHigh o n m v a x y = (let e = managed o n Bandwidth v x refl in let f = managed o m ChannelsHigh v y refl in cc)

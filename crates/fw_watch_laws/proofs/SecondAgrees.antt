@@ -1,22 +1,13 @@
 -- What `watch` keeps of the second after a bus reset agrees with the account of a log without an audit fault.
-use Rattle.std.proofs.Common.{◌≡◌, ◌≢◌, refl, ap, sym, ◌∙◌, subst, inl, inr, ◌⊎◌, ℕ, ◌+◌, ◌<◌, ◌≤◌, ◌==◌, Bool, true, false, if◌then◌else◌, Option, Some, None, is_none, is_some, arith, true≢false}
-use Rattle.std.proofs.lemmas.Bool.{cases_Bool}
-use Rattle.std.proofs.lemmas.Option.{same_Some}
-use Rattle.fw_entry.specs.declared.codes.event.TheConstants as Events
-use Rattle.fw_entry.specs.declared.entry.ResetEntry.{ResetEntry}
-use Rattle.fw_entry.specs.declared.entry.Entry.{Entry}
-use Rattle.fw_entry.specs.declared.entry.Entry.TheVariants.{Reset, Async, Iso, Event, Outcome, Shown, End}
-use Rattle.fw_account.specs.Account.{Account, Flow}
-use Rattle.fw_account.specs.Events.{talker_at, after_reset}
-use Rattle.fw_account.specs.Fold.{next_account}
-use Rattle.fw_account.specs.Sound.{IsSound}
-use Rattle.fw_remarks.specs.declared.known.Managed.{Managed}
-use Rattle.fw_known.specs.declared.second.Before.{Before}
-use Rattle.fw_known.specs.declared.second.Before.TheVariants.{Nothing, Dark, Words}
-use Rattle.fw_known.specs.declared.second.Second.{Second}
-use Rattle.fw_known.specs.declared.state.State.{State}
-use Rattle.fw_known.specs.Standing.{answer_of}
-use Rattle.fw_known.specs.States.{begin_before, begun, ticked_second}
+use Rattle.fw_watch_laws.proofs.Common.{◌≡◌, ◌≢◌, refl, ap, sym, ◌∙◌, subst, inl, inr, ◌⊎◌, ℕ, ◌+◌, ◌<◌, ◌≤◌, ◌==◌, Bool, true, false, if◌then◌else◌, Option, Some, None, is_none, is_some, arith}
+use Rattle.fw_watch_laws.proofs.Common.{true≢false, cases_Bool, same_Some, ResetEntry, Entry, Reset, Async, Iso, Event, Outcome, Shown, End, Account, after_reset, next_account, IsSound, Managed}
+use Rattle.fw_watch_laws.proofs.Common.{Second, State, answer_of, ticked_second}
+use Rattle.fw_log_entry.specs.declared.codes.event.TheConstants as Events
+use Rattle.fw_model_account.specs.Account.{Flow}
+use Rattle.fw_model_account.specs.Events.{talker_at}
+use Rattle.fw_watch_known.specs.declared.second.Before.{Before}
+use Rattle.fw_watch_known.specs.declared.second.Before.TheVariants.{Nothing, Dark, Words}
+use Rattle.fw_watch_known.specs.States.{begin_before, begun}
 use Rattle.fw_watch_laws.specs.Orderly.{reset_cycle}
 use Rattle.fw_watch_laws.proofs.AccountFrames.{SecondKept, kept_same, packet_kept}
 use Rattle.fw_watch_laws.proofs.Flows.{KnowsManaged, WereHeld, same_held, talkers_held}

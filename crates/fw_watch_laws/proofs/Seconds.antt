@@ -1,28 +1,11 @@
 -- What an entry makes of the second, and of the epoch.
-use Rattle.std.proofs.Common.{◌≡◌, refl, ap, sym, ◌∙◌, ℕ, ◌==◌, Bool, true, false, List, if◌then◌else◌, Option, Some, None, is_none}
-use Rattle.fw_words.specs.declared.swap.Swap.{Swap}
-use Rattle.fw_entry.specs.declared.codes.event.TheConstants as Events
-use Rattle.fw_entry.specs.declared.entry.Entry.{Entry}
-use Rattle.fw_entry.specs.declared.entry.Entry.TheVariants.{Reset, Async, Iso, Event, Outcome, Shown, End}
-use Rattle.fw_entry.specs.declared.entry.Timed.{Timed}
-use Rattle.fw_remarks.specs.declared.register.At.{At}
-use Rattle.fw_remarks.specs.declared.register.Register.{Register}
-use Rattle.fw_remarks.specs.declared.register.Register.TheVariants.{Bandwidth, ChannelsHigh, ChannelsLow, Output, Input}
-use Rattle.fw_remarks.specs.Knowing.{nothing_known, all_known}
-use Rattle.fw_known.specs.declared.asked.Answer.{Answer}
-use Rattle.fw_known.specs.declared.channel.Channel.{Channel}
-use Rattle.fw_known.specs.declared.second.Second.{Second}
-use Rattle.fw_known.specs.declared.state.State.{State}
-use Rattle.fw_known.specs.declared.swap.Made.{Made}
-use Rattle.fw_known.specs.Heard.{after_heard}
-use Rattle.fw_known.specs.Judging.{judged}
-use Rattle.fw_known.specs.Standing.{answer_of}
-use Rattle.fw_known.specs.States.{with_known, reset_state, begun, ticked_second, ended_second, counted_second, node_of_device, buried, after_death}
-use Rattle.fw_known.specs.Swapped.{holder_of, with_holder, swapped_by, swapped}
-use Rattle.fw_watch.specs.declared.answer.Heed.{Heed}
-use Rattle.fw_watch.specs.declared.answer.Heed.TheVariants.{Ignore, Refuse, Follow}
-use Rattle.fw_watch.specs.Answering.{made, after_made, after_found, with_manager, after_shown_by, after_followed, heed, after_heeded, after_answer, after_answered, with_packet, after_packet}
-use Rattle.fw_watch.specs.Steps.{shown_at, after_word, after_shown, after_event, after_what, packet_of, ticked, after}
+use Rattle.fw_watch_laws.proofs.Common.{◌≡◌, refl, ap, sym, ◌∙◌, ℕ, ◌==◌, Bool, true, false, List, if◌then◌else◌, Option, Some, None, is_none, Swap, Entry, Reset, Async, Iso, Event, Outcome, Shown}
+use Rattle.fw_watch_laws.proofs.Common.{End, Timed, At, Register, Bandwidth, ChannelsHigh, ChannelsLow, Output, Input, nothing_known, all_known, Answer, Channel, Second, State, Made, after_heard}
+use Rattle.fw_watch_laws.proofs.Common.{judged, answer_of, with_known, reset_state, ticked_second, ended_second, node_of_device, buried, after_death, holder_of, with_holder, swapped_by, swapped, Heed}
+use Rattle.fw_watch_laws.proofs.Common.{Ignore, Refuse, Follow, made, after_made, after_found, with_manager, after_shown_by, after_followed, heed, after_heeded, after_answer, after_answered}
+use Rattle.fw_watch_laws.proofs.Common.{with_packet, after_packet, shown_at, after_word, after_shown, after_event, after_what, packet_of, ticked, after}
+use Rattle.fw_log_entry.specs.declared.codes.event.TheConstants as Events
+use Rattle.fw_watch_known.specs.States.{begun, counted_second}
 use Rattle.fw_watch_laws.proofs.Frames.{answered_frame, word_frame, heard_frame, held_only, aside, ticked_only}
 use Rattle.fw_watch_laws.proofs.Silent.{put_second, judged_second, manager_second}
 

@@ -1,28 +1,14 @@
 -- No swap changes more than one channel.
-use Rattle.std.proofs.Common.{◌≡◌, ◌≢◌, refl, ap, sym, ◌∙◌, subst, inl, inr, ℕ, zero, suc, ◌+◌, ◌-◌, ◌<◌, ◌≤◌, ◌==◌, nat_lt, Bool, true, false, List, Option, None, arith}
-use Rattle.std.specs.Bool.{⊤}
+use Rattle.fw_watch_laws.proofs.Common.{◌≡◌, ◌≢◌, refl, ap, sym, ◌∙◌, subst, inl, inr, ℕ, zero, suc, ◌+◌, ◌-◌, ◌<◌, ◌≤◌, ◌==◌, nat_lt, Bool, true, false, List, Option, None, arith, ⊤, nat_tests, Swap}
+use Rattle.fw_watch_laws.proofs.Common.{update, PlugAt, flag, Timed, Account, Allocation, Move, AllocateChannel, AllocateUnits, ConnectFirst, ConnectOverlaid, ConnectInput, DisconnectInput}
+use Rattle.fw_watch_laws.proofs.Common.{DisconnectOutput, ReleaseUnits, ReleaseChannel, ChannelsAvailable, word_of, register_of_move, Register, Bandwidth, ChannelsHigh, ChannelsLow, Output, Input}
+use Rattle.fw_watch_laws.proofs.Common.{bit_of, Said, Answer, State, Made, made, IsOrderly, HasNone}
 use Rattle.std.proofs.lemmas.Bool.{cases_eq}
-use Rattle.std.proofs.lemmas.Bool.Decides.{nat_tests}
-use Rattle.fw_words.specs.declared.swap.Swap.{Swap}
-use Rattle.fw_base.specs.Tables.{update}
-use Rattle.fw_base.specs.declared.plug.PlugAt.{PlugAt}
-use Rattle.fw_plug.specs.Words.{flag}
-use Rattle.fw_entry.specs.declared.entry.Timed.{Timed}
-use Rattle.fw_account.specs.Account.{Account, Allocation, is_open}
-use Rattle.fw_account.specs.Moves.{Move, AllocateChannel, AllocateUnits, ConnectFirst, ConnectOverlaid, ConnectInput, DisconnectInput, DisconnectOutput, ReleaseUnits, ReleaseChannel, after}
-use Rattle.fw_account.specs.Words.{ChannelsAvailable, word_of}
-use Rattle.fw_account.specs.Decode.{register_of_move}
-use Rattle.fw_account.proofs.Words.{free_bit}
-use Rattle.fw_remarks.specs.declared.register.Register.{Register}
-use Rattle.fw_remarks.specs.declared.register.Register.TheVariants.{Bandwidth, ChannelsHigh, ChannelsLow, Output, Input}
-use Rattle.fw_remarks.specs.Knowing.{bit_of}
-use Rattle.fw_remarks.specs.Remarks.{Said}
-use Rattle.fw_known.specs.declared.asked.Answer.{Answer}
-use Rattle.fw_known.specs.declared.state.State.{State}
-use Rattle.fw_known.specs.declared.swap.Made.{Made}
-use Rattle.fw_watch.specs.Answering.{made}
+use Rattle.fw_model_account.specs.Account.{is_open}
+use Rattle.fw_model_account.specs.Moves.{after}
+use Rattle.fw_model_account.proofs.Words.{free_bit}
 use Rattle.fw_watch.specs.Swaps.{next_count, changes_to, several_remarks}
-use Rattle.fw_watch_laws.specs.Orderly.{IsOrderly, is_several, HasNone}
+use Rattle.fw_watch_laws.specs.Orderly.{is_several}
 use Rattle.fw_watch_laws.proofs.Many.{managed_is}
 use Rattle.fw_watch_laws.proofs.Remarked.{Kind, OfReset, OfWord, OfSwap, OfMany, OfUnits, OfNew, OfMore, OfChannel, IsFree}
 use Rattle.fw_watch_laws.proofs.Tests.{is_of_several, is_several_by}
@@ -84,7 +70,7 @@ pub channel_bit : (l : Account) (base i : ℕ) → i < 32 → bit_of (word_of l 
 unfolding bit_of
 channel_bit l base i h = ap (λ (x : ℕ). x == 1) (free_bit (λ (j : ℕ). is_open l.withheld l.allocations (base + j)) i h)
 
--- where one channel alone changes
+-- if one channel alone changes
 open_but : (l m : Account) (ch base i : ℕ) (x : Option Allocation) → m.withheld ≡ l.withheld → m.allocations ≡ update l.allocations ch x → i ≢ ch - base
     → is_open l.withheld l.allocations (base + i) ≡ is_open m.withheld m.allocations (base + i)
 open_but l m ch base i x w e n =

@@ -1,29 +1,21 @@
 -- What a shown word shows of a register is the account's word, and events change none.
-use Rattle.std.proofs.Common.{◌≡◌, refl, ap, sym, ◌∙◌, ℕ, ◌+◌, ◌<◌, ◌==◌, ◌&&◌, not, nat_lt, Bool, true, false, List, length, if◌then◌else◌, Option, Some, None, is_some, arith}
+use Rattle.fw_watch_laws.proofs.Common.{◌≡◌, refl, ap, sym, ◌∙◌, ℕ, ◌+◌, ◌<◌, ◌==◌, ◌&&◌, not, nat_lt, Bool, true, false, List, length, if◌then◌else◌, Option, Some, None, is_some, arith, same_Some}
+use Rattle.fw_watch_laws.proofs.Common.{NodeRow, EventEntry, ResetEntry, first_id, Account, after_second, after_withholding, IsSound, Place, BandwidthAvailable, ChannelsAvailable, OutputPlug}
+use Rattle.fw_watch_laws.proofs.Common.{InputPlug, word_of, place_at, ShowsWords, Register, register_at, is_managed, all_known, State, node_of_device, is_manager, shown_at, IsNumber, word_glimpse}
+use Rattle.fw_watch_laws.proofs.Common.{offset_of}
 use Rattle.std.specs.List.{position_or_len}
-use Rattle.std.proofs.lemmas.Option.{same_Some, cond_some}
+use Rattle.std.proofs.lemmas.Option.{cond_some}
 use Rattle.fw_csr.specs.declared.offset.TheConstants.{REGISTER_SPACE}
-use Rattle.fw_entry.specs.declared.codes.event.TheConstants as Events
-use Rattle.fw_entry.specs.declared.nodes.NodeRow.{NodeRow}
-use Rattle.fw_entry.specs.declared.entry.EventEntry.{EventEntry}
-use Rattle.fw_entry.specs.declared.entry.ShownEntry.{ShownEntry}
-use Rattle.fw_entry.specs.declared.entry.ResetEntry.{ResetEntry}
-use Rattle.fw_entry.specs.Network.{first_id, node_of_device as node_in}
-use Rattle.fw_account.specs.Account.{Account}
-use Rattle.fw_account.specs.Events.{after_second, after_death, after_withholding}
-use Rattle.fw_account.specs.Fold.{after_event}
-use Rattle.fw_account.specs.Sound.{IsSound}
-use Rattle.fw_account.specs.Words.{Register as Place, BandwidthAvailable, ChannelsAvailable, OutputPlug, InputPlug, word_of, register_at as place_at, id_in, id_below}
-use Rattle.fw_account.proofs.Places.{register_at_address}
-use Rattle.fw_faults.specs.Looked.{Shows as ShowsEntry, is_watched, register_by, register_shown, ShowsWords}
-use Rattle.fw_remarks.specs.declared.register.Register.{Register}
-use Rattle.fw_remarks.specs.Registers.{register_at, is_managed}
-use Rattle.fw_remarks.specs.Knowing.{all_known}
-use Rattle.fw_known.specs.declared.state.State.{State}
-use Rattle.fw_known.specs.States.{is_device, node_of_device, is_manager}
-use Rattle.fw_watch.specs.Steps.{shown_at_node, shown_at}
-use Rattle.fw_watch_laws.specs.LastKnown.{IsNumber, word_glimpse}
-use Rattle.fw_watch_laws.specs.Orderly.{offset_of}
+use Rattle.fw_log_entry.specs.declared.codes.event.TheConstants as Events
+use Rattle.fw_log_entry.specs.declared.entry.ShownEntry.{ShownEntry}
+use Rattle.fw_log_entry.specs.Network.{node_of_device as node_in}
+use Rattle.fw_model_account.specs.Events.{after_death}
+use Rattle.fw_model_account.specs.Fold.{after_event}
+use Rattle.fw_model_account.specs.Words.{id_in, id_below}
+use Rattle.fw_model_account.proofs.Places.{register_at_address}
+use Rattle.fw_model_audit.specs.Looked.{Shows as ShowsEntry, is_watched, register_by, register_shown}
+use Rattle.fw_watch_known.specs.States.{is_device}
+use Rattle.fw_watch.specs.Steps.{shown_at_node}
 use Rattle.fw_watch_laws.proofs.Offsets.{offset_at, watched}
 use Rattle.fw_watch_laws.proofs.OnBus.{IsOnBus}
 use Rattle.fw_watch_laws.proofs.WordMoves.{death_keeps}

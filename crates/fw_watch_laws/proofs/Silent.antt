@@ -1,30 +1,12 @@
--- An entry tells nothing of swaps where each swap that it has made is followed, and nothing in it is odd.
-use Rattle.std.proofs.Common.{◌≡◌, refl, ap, sym, ◌∙◌, subst, ℕ, ◌==◌, Bool, false, List, Option, Some, None}
-use Rattle.fw_words.specs.declared.swap.Swap.{Swap}
-use Rattle.fw_async.specs.declared.packet.Packet.{Packet}
-use Rattle.fw_entry.specs.declared.entry.Entry.{Entry}
-use Rattle.fw_entry.specs.declared.entry.Entry.TheVariants.{Reset, Async, Iso, Event, Outcome, Shown, End}
-use Rattle.fw_entry.specs.declared.entry.Timed.{Timed}
-use Rattle.fw_remarks.specs.declared.known.Known.{Known}
-use Rattle.fw_remarks.specs.declared.register.At.{At}
-use Rattle.fw_remarks.specs.declared.register.Register.{Register}
-use Rattle.fw_remarks.specs.declared.register.Register.TheVariants.{Bandwidth, ChannelsHigh, ChannelsLow, Output, Input}
-use Rattle.fw_remarks.specs.declared.remark.Remark.TheVariants.{Reset as ResetRemark, Unseen}
-use Rattle.fw_remarks.specs.Knowing.{all_known, differing}
-use Rattle.fw_remarks.specs.Remarks.{Said, said}
-use Rattle.fw_known.specs.declared.asked.Answer.{Answer}
-use Rattle.fw_known.specs.declared.channel.Channel.{Channel}
-use Rattle.fw_known.specs.declared.second.Second.{Second}
-use Rattle.fw_known.specs.declared.state.State.{State}
-use Rattle.fw_known.specs.Judging.{judged}
-use Rattle.fw_known.specs.Standing.{answer_of}
-use Rattle.fw_known.specs.States.{known_of, with_known, with_known_plug}
-use Rattle.fw_watch.specs.declared.answer.Heed.{Heed}
-use Rattle.fw_watch.specs.declared.answer.Heed.TheVariants.{Ignore, Refuse, Follow}
-use Rattle.fw_watch.specs.Answering.{heed, made, refused_swap, not_manager_remarks, made_remarks, found_remarks, with_manager, shown_by, followed_remarks, heeded_remarks, answer_remarks, answered_remarks, with_packet, packet_remarks}
-use Rattle.fw_watch.specs.Holding.{held_remarks}
-use Rattle.fw_watch.specs.Judging.{judge_remarks}
-use Rattle.fw_watch.specs.Steps.{reset_remarks, shown_at, word_remarks, shown_remarks, packet_of, what_remarks, ticked, remarks}
+-- An entry tells nothing of swaps if each swap that it has made is followed, and nothing in it is odd.
+use Rattle.fw_watch_laws.proofs.Common.{◌≡◌, refl, ap, sym, ◌∙◌, subst, ℕ, ◌==◌, Bool, false, List, Option, Some, None, Swap, Packet, Entry, Reset, Async, Iso, Event, Outcome, Shown, End, Timed}
+use Rattle.fw_watch_laws.proofs.Common.{Known, At, Register, Bandwidth, ChannelsHigh, ChannelsLow, Output, Input, Unseen, all_known, differing, Said, said, Answer, Channel, Second, State, judged}
+use Rattle.fw_watch_laws.proofs.Common.{answer_of, known_of, with_known, with_known_plug, Heed, Ignore, Refuse, Follow, heed, made, with_manager, with_packet, held_remarks, judge_remarks, shown_at}
+use Rattle.fw_watch_laws.proofs.Common.{packet_of, ticked, remarks}
+use Rattle.fw_watch_remarks.specs.declared.remark.Remark.TheVariants.{Reset as ResetRemark}
+use Rattle.fw_watch.specs.Answering.{refused_swap, not_manager_remarks, made_remarks, found_remarks}
+use Rattle.fw_watch.specs.Answering.{shown_by, followed_remarks, heeded_remarks, answer_remarks, answered_remarks, packet_remarks}
+use Rattle.fw_watch.specs.Steps.{reset_remarks, word_remarks, shown_remarks, what_remarks}
 use Rattle.fw_watch_laws.proofs.Frames.{manager_only, aside, ticked_only}
 use Rattle.fw_watch_laws.proofs.Passing.{IsNone, both_none}
 use Rattle.fw_watch_laws.proofs.Remarked.{OfReset, OfWord, OfSwap, OfChannel, IsFree}

@@ -1,23 +1,11 @@
--- The outstanding request of a controller, where it is at a watched register, stands in `watch`.
-use Rattle.std.proofs.Common.{◌≡◌, ◌≢◌, refl, ap, sym, ◌∙◌, subst, ℕ, ◌<◌, ◌==◌, ◌&&◌, not, Bool, true, false, List, [], ◌∷◌, ◌++◌, length, if◌then◌else◌, Option, Some, None, arith, true≢false}
-use Rattle.std.specs.List.{filter}
-use Rattle.std.proofs.lemmas.Bool.{eqb-true, eq-eqb}
-use Rattle.std.proofs.lemmas.Bool.Decides.{nat_tests}
+-- The outstanding request of a controller, if it is at a watched register, stands in `watch`.
+use Rattle.fw_watch_laws.proofs.Common.{◌≡◌, ◌≢◌, refl, ap, sym, ◌∙◌, subst, ℕ, ◌<◌, ◌==◌, ◌&&◌, not, Bool, true, false, List, [], ◌∷◌, ◌++◌, length, if◌then◌else◌, Option, Some, None, arith}
+use Rattle.fw_watch_laws.proofs.Common.{true≢false, filter, eqb-true, eq-eqb, nat_tests, same_Some, Procedure, label_code, Head, ResetEntry, device_of_id, Account, Operation, Request, Register}
+use Rattle.fw_watch_laws.proofs.Common.{register_at, Asking, Asked, is_of, answers, is_read, without_same, without_answered, asked_at_register, with_request}
 use Rattle.std.proofs.lemmas.List.Sums.{length-filter}
 use Rattle.std.proofs.lemmas.List.Sums.{count_by-le-length}
-use Rattle.std.proofs.lemmas.Option.{same_Some}
-use Rattle.fw_base.specs.declared.label.Label.TheVariants.{Procedure}
-use Rattle.fw_base.specs.Labels.{label_code}
-use Rattle.fw_async.specs.declared.packet.Head.{Head}
-use Rattle.fw_entry.specs.declared.entry.ResetEntry.{ResetEntry}
-use Rattle.fw_entry.specs.Network.{device_of_id}
-use Rattle.fw_account.specs.Account.{Account, Operation, Request}
-use Rattle.fw_account.specs.Packets.{asked as asked_in}
-use Rattle.fw_remarks.specs.declared.register.Register.{Register}
-use Rattle.fw_remarks.specs.Registers.{register_at}
-use Rattle.fw_known.specs.declared.asked.Asking.{Asking}
-use Rattle.fw_known.specs.declared.asked.Asked.{Asked}
-use Rattle.fw_known.specs.Standing.{is_of, answers, is_read, alike, without_same, without_answered, asked_at_register, latest, with_request}
+use Rattle.fw_model_account.specs.Packets.{asked as asked_in}
+use Rattle.fw_watch_known.specs.Standing.{alike, latest}
 use Rattle.fw_watch_laws.proofs.Matches.{IsApart, asking_of}
 use Rattle.fw_watch_laws.proofs.Matching.{IsEnded}
 use Rattle.fw_watch_laws.proofs.Members.{IsMember, member_filter, member_more, member_last, latest_all}
@@ -129,7 +117,7 @@ own_request l h address k operation asking xs few apart tl device asks a c id r 
 
 -- ---- responses, and deaths
 
--- where the request of a controller ends, and those of others stay
+-- if the request of a controller ends, and those of others stay
 pub ended_stands : (l m : Account) (k : ℕ) (xs ys : List Asked) → IsEnded l m k
     → ((c id : ℕ) (r : Request) (g : Register) → c ≢ k → device_of_id l.latest id ≡ Some c → IsMember (asked_of id r g) xs → IsMember (asked_of id r g) ys) → AllStand l xs → AllStand m ys
 ended_stands l m k xs ys i keeps a c id r g out d at =

@@ -1,25 +1,12 @@
 -- After each entry the outstanding requests at watched registers stand.
-use Rattle.std.proofs.Common.{◌≡◌, refl, sym, subst, ℕ, ◌<◌, ◌==◌, Bool, true, false, List, [], length, if◌then◌else◌, Option, Some, None, is_some}
-use Rattle.std.proofs.lemmas.Option.{same_Some}
-use Rattle.fw_entry.specs.declared.codes.event.TheConstants as Events
-use Rattle.fw_entry.specs.declared.entry.EventEntry.{EventEntry}
-use Rattle.fw_entry.specs.declared.entry.ResetEntry.{ResetEntry}
-use Rattle.fw_entry.specs.declared.entry.Entry.{Entry}
-use Rattle.fw_entry.specs.declared.entry.Entry.TheVariants.{Reset, Async, Iso, Event, Outcome, Shown, End}
-use Rattle.fw_entry.specs.declared.entry.Timed.{Timed}
-use Rattle.fw_account.specs.Account.{Account}
-use Rattle.fw_account.specs.Events.{after_reset, after_second, after_withholding, after_death as death_in}
-use Rattle.fw_account.specs.Fold.{after_event as event_in, next_account}
-use Rattle.fw_account.proofs.Packets.{device_started}
-use Rattle.fw_known.specs.declared.asked.Asked.{Asked}
-use Rattle.fw_known.specs.declared.channel.Channel.{Channel}
-use Rattle.fw_known.specs.declared.second.Second.{Second}
-use Rattle.fw_known.specs.declared.state.State.{State}
-use Rattle.fw_known.specs.Heard.{after_heard}
-use Rattle.fw_known.specs.Standing.{answer_of}
-use Rattle.fw_known.specs.States.{reset_state, ended_second, node_of_device, buried, after_death}
-use Rattle.fw_watch.specs.Answering.{with_packet, after_packet}
-use Rattle.fw_watch.specs.Steps.{shown_at, after_shown, after_event, after_what, after}
+use Rattle.fw_watch_laws.proofs.Common.{◌≡◌, refl, sym, subst, ℕ, ◌<◌, ◌==◌, Bool, true, false, List, [], length, if◌then◌else◌, Option, Some, None, is_some, same_Some, EventEntry, ResetEntry, Entry}
+use Rattle.fw_watch_laws.proofs.Common.{Reset, Async, Iso, Event, Outcome, Shown, End, Timed, Account, after_reset, after_second, after_withholding, next_account, Asked, Channel, Second, State}
+use Rattle.fw_watch_laws.proofs.Common.{after_heard, answer_of, reset_state, ended_second, node_of_device, buried, after_death, with_packet, after_packet, shown_at, after_shown, after_event}
+use Rattle.fw_watch_laws.proofs.Common.{after_what, after}
+use Rattle.fw_log_entry.specs.declared.codes.event.TheConstants as Events
+use Rattle.fw_model_account.specs.Events.{after_death as death_in}
+use Rattle.fw_model_account.specs.Fold.{after_event as event_in}
+use Rattle.fw_model_account.proofs.Packets.{device_started}
 use Rattle.fw_watch_laws.specs.Orderly.{IsApartIn}
 use Rattle.fw_watch_laws.proofs.Frames.{answered_frame, word_frame, aside, ticked_only}
 use Rattle.fw_watch_laws.proofs.Matches.{IsApart}

@@ -1,26 +1,15 @@
 -- After each entry the outstanding requests at watched registers stand.
-use Rattle.std.proofs.Common.{◌≡◌, ◌≢◌, refl, ap, sym, ◌∙◌, subst, ℕ, ◌+◌, ◌<◌, ◌==◌, not, Bool, true, false, List, length, if◌then◌else◌, Option, Some, None, is_none, get_or, slice_get}
-use Rattle.std.proofs.lemmas.Bool.{eqb-true, eq-eqb}
+use Rattle.fw_watch_laws.proofs.Common.{◌≡◌, ◌≢◌, refl, ap, sym, ◌∙◌, subst, ℕ, ◌+◌, ◌<◌, ◌==◌, not, Bool, true, false, List, length, if◌then◌else◌, Option, Some, None, is_none, get_or, slice_get}
+use Rattle.fw_watch_laws.proofs.Common.{eqb-true, eq-eqb, same_Some, Procedure, label_code, Head, Packet, WriteQuadlet, WriteBlock, WriteReply, ReadQuadlet, ReadBlock, ReadQuadletReply}
+use Rattle.fw_watch_laws.proofs.Common.{ReadBlockReply, CycleStart, LockRequest, LockReply, NodeRow, ResetEntry, device_of_id, Account, Operation, Reads, Locks, Request, asked_by, Reply, ReadReply}
+use Rattle.fw_watch_laws.proofs.Common.{Locked, Register, register_at, Asking, Read, Asked, lock_of, asked_at_register, is_from, with_request, without_same, without_answered, without_source}
+use Rattle.fw_watch_laws.proofs.Common.{standing_behind, node_of_device}
 use Rattle.std.proofs.lemmas.List.Quantifiers.{position-Some}
-use Rattle.std.proofs.lemmas.Option.{same_Some, slice_get-get_or}
-use Rattle.fw_base.specs.declared.label.Label.TheVariants.{Procedure}
-use Rattle.fw_base.specs.Labels.{label_code}
-use Rattle.fw_async.specs.declared.packet.Head.{Head}
-use Rattle.fw_async.specs.declared.packet.Packet.{Packet}
-use Rattle.fw_async.specs.declared.packet.Packet.TheVariants.{WriteQuadlet, WriteBlock, WriteReply, ReadQuadlet, ReadBlock, ReadQuadletReply, ReadBlockReply, CycleStart, Lock as LockRequest, LockReply}
-use Rattle.fw_entry.specs.declared.nodes.NodeRow.{NodeRow}
-use Rattle.fw_entry.specs.declared.entry.ResetEntry.{ResetEntry}
-use Rattle.fw_entry.specs.Network.{row_of_node, device_of_id}
-use Rattle.fw_account.specs.Account.{Account, Operation, Reads, Locks, Request}
-use Rattle.fw_account.specs.Packets.{asked as asked_in, asked_by, Reply, Read as ReadReply, Locked, answered as answered_in, after_packet}
-use Rattle.fw_account.proofs.Places.{device_at_id}
-use Rattle.fw_remarks.specs.declared.register.Register.{Register}
-use Rattle.fw_remarks.specs.Registers.{register_at}
-use Rattle.fw_known.specs.declared.asked.Asking.{Asking}
-use Rattle.fw_known.specs.declared.asked.Asking.TheVariants.{Read}
-use Rattle.fw_known.specs.declared.asked.Asked.{Asked}
-use Rattle.fw_known.specs.Standing.{lock_of, asked_at_register, is_from, with_request, without_same, without_answered, without_source, standing_behind}
-use Rattle.fw_known.specs.States.{is_device, node_of_device}
+use Rattle.std.proofs.lemmas.Option.{slice_get-get_or}
+use Rattle.fw_log_entry.specs.Network.{row_of_node}
+use Rattle.fw_model_account.specs.Packets.{asked as asked_in, answered as answered_in, after_packet}
+use Rattle.fw_model_account.proofs.Places.{device_at_id}
+use Rattle.fw_watch_known.specs.States.{is_device}
 use Rattle.fw_watch_laws.specs.Orderly.{IsApartOf}
 use Rattle.fw_watch_laws.proofs.Matches.{IsApart, asking_of}
 use Rattle.fw_watch_laws.proofs.Matching.{IsEnded, reply_to}

@@ -1,13 +1,7 @@
 -- Which answers there are: to reads, and to locks; those that have made a swap are to locks.
-use Rattle.std.proofs.Common.{◌≡◌, refl, sym, ◌∙◌, subst, inl, inr, ◌⊎◌, ℕ, ◌==◌, Bool, true, false, List, if◌then◌else◌, Some, None}
-use Rattle.std.proofs.lemmas.Bool.{eqb-true}
-use Rattle.fw_words.specs.declared.swap.Swap.{Swap}
-use Rattle.fw_async.specs.declared.packet.Head.{Head}
-use Rattle.fw_async.specs.declared.packet.Packet.{Packet}
-use Rattle.fw_async.specs.declared.packet.Packet.TheVariants.{WriteQuadlet, WriteBlock, WriteReply, ReadQuadlet, ReadBlock, ReadQuadletReply, ReadBlockReply, CycleStart, Lock as LockRequest, LockReply}
-use Rattle.fw_known.specs.declared.asked.Asked.{Asked}
-use Rattle.fw_known.specs.declared.asked.Answer.{Answer}
-use Rattle.fw_known.specs.Standing.{answered, read_answer, lock_answer, answer_of}
+use Rattle.fw_watch_laws.proofs.Common.{◌≡◌, refl, sym, ◌∙◌, subst, inl, inr, ◌⊎◌, ℕ, ◌==◌, Bool, true, false, List, if◌then◌else◌, Some, None, eqb-true, Swap, Head, Packet, WriteQuadlet, WriteBlock}
+use Rattle.fw_watch_laws.proofs.Common.{WriteReply, ReadQuadlet, ReadBlock, ReadQuadletReply, ReadBlockReply, CycleStart, LockRequest, LockReply, Asked, Answer, answered, lock_answer, answer_of}
+use Rattle.fw_watch_known.specs.Standing.{read_answer}
 use Rattle.fw_watch_laws.proofs.Answered.{IsMade, made_is, read_makes_none, IsReadAnswer, IsLockAnswer, read_by, lock_by_request}
 
 read_if : (b : Bool) (h : Head) (rcode value : ℕ) (xs : List Asked) (a : Answer) → (rcode == 0) ≡ b → (if b then read_answer (answered true h xs) value else None) ≡ Some a

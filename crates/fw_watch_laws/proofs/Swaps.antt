@@ -1,32 +1,11 @@
 -- A swap that an answer has made is a move of the account, at the register of the answer.
-use Rattle.std.proofs.Common.{◌≡◌, refl, ap, sym, ◌∙◌, subst, ℕ, ◌+◌, ◌<◌, ◌==◌, Bool, true, false, List, if◌then◌else◌, Option, Some, IfSome}
-use Rattle.std.specs.List.{All}
-use Rattle.std.proofs.lemmas.Bool.{eq-eqb}
-use Rattle.fw_words.specs.declared.swap.Swap.{Swap}
-use Rattle.fw_base.specs.declared.label.Label.TheVariants.{Procedure}
-use Rattle.fw_base.specs.Labels.{label_code}
-use Rattle.fw_async.specs.declared.packet.Head.{Head}
-use Rattle.fw_async.specs.declared.packet.Packet.{Packet}
-use Rattle.fw_async.specs.declared.packet.Packet.TheVariants.{LockReply}
-use Rattle.fw_entry.specs.declared.entry.Entry.{Entry}
-use Rattle.fw_entry.specs.declared.entry.Entry.TheVariants.{Async}
-use Rattle.fw_entry.specs.declared.entry.Timed.{Timed}
-use Rattle.fw_entry.specs.Network.{device_of_id}
-use Rattle.fw_account.specs.Account.{Account, Request}
-use Rattle.fw_account.specs.Packets.{Reply, Locked, replied, after_packet}
-use Rattle.fw_account.specs.Fold.{next_account}
-use Rattle.fw_account.specs.Sound.{IsSound}
-use Rattle.fw_account.specs.Words.{Register as Place, register_at as place_at, register_of, word_of, first_address}
-use Rattle.fw_account.proofs.Packets.{device_below}
-use Rattle.fw_faults.specs.Looked.{Looked, Replies, Other, looked, looked_packet, quadlet_in, IsQuadlet, ShowsWords}
-use Rattle.fw_remarks.specs.declared.register.Register.{Register}
-use Rattle.fw_remarks.specs.Registers.{register_at}
-use Rattle.fw_known.specs.declared.asked.Asked.{Asked}
-use Rattle.fw_known.specs.declared.asked.Answer.{Answer}
-use Rattle.fw_known.specs.Standing.{answer_of, node_of}
-use Rattle.fw_watch.specs.Watched.{known}
-use Rattle.fw_watch_laws.specs.LastKnown.{IsNumber}
-use Rattle.fw_watch_laws.specs.Orderly.{offset_of}
+use Rattle.fw_watch_laws.proofs.Common.{◌≡◌, refl, ap, sym, ◌∙◌, subst, ℕ, ◌+◌, ◌<◌, ◌==◌, Bool, true, false, List, if◌then◌else◌, Option, Some, IfSome, All, eq-eqb, Swap, Procedure, label_code, Head}
+use Rattle.fw_watch_laws.proofs.Common.{Packet, LockReply, Entry, Async, Timed, device_of_id, Account, Request, Reply, Locked, replied, next_account, IsSound, Place, place_at, register_of, word_of}
+use Rattle.fw_watch_laws.proofs.Common.{looked_packet, ShowsWords, Register, register_at, Asked, Answer, answer_of, node_of, known, IsNumber, offset_of}
+use Rattle.fw_model_account.specs.Packets.{after_packet}
+use Rattle.fw_model_account.specs.Words.{first_address}
+use Rattle.fw_model_account.proofs.Packets.{device_below}
+use Rattle.fw_model_audit.specs.Looked.{Looked, Replies, Other, looked, quadlet_in, IsQuadlet}
 use Rattle.fw_watch_laws.proofs.Numbers.{register_number}
 use Rattle.fw_watch_laws.proofs.Matches.{IsMatched, IsSame}
 use Rattle.fw_watch_laws.proofs.Matching.{AllMatched}
@@ -57,7 +36,7 @@ pub same_request : (l m : Account) (h : Head) (reply : Reply) (read : Bool) (xs 
 same_request l m h reply read xs q r a i label =
     of_all (IsMatched l) read h xs q a i r.controller r.request label (ap (device_of_id l.latest) i.is.source ∙ r.device) r.outstanding (r.target ∙ sym i.is.destination)
 
--- where it is complete, its register is there and has the word that is shown
+-- if it is complete, its register is there and has the word that is shown
 pub placed : (l m : Account) (h : Head) (reply : Reply) (word : Option ℕ) (q : Asked) (r : IsReplyTo l m h reply) → IsSame r.request q
     → ShowsWords l (Replies (record { requester = h.destination; responder = h.source; rcode = 0; reply = reply; word = word })) → IsPlaced l r.request q word
 placed l m h reply word q r s w =

@@ -1,27 +1,14 @@
 -- In the second after a bus reset nothing is told as taken that was not held before it.
-use Rattle.std.proofs.Common.{◌≡◌, ◌≢◌, refl, ap, sym, ◌∙◌, subst, inl, inr, ℕ, ◌+◌, ◌-◌, ◌<◌, ◌≤◌, ◌==◌, ◌&&◌, not, nat_lt, Bool, true, false, [], ◌∷◌, if◌then◌else◌, Some, None, arith, true≢false}
-use Rattle.std.proofs.lemmas.Bool.{cases_eq, eq-eqb}
-use Rattle.std.proofs.lemmas.Bool.Decides.{nat_tests}
-use Rattle.fw_base.specs.declared.plug.PlugAt.{PlugAt}
-use Rattle.fw_words.specs.declared.swap.Swap.{Swap}
-use Rattle.fw_account.specs.Account.{Account, Flow, total}
-use Rattle.fw_account.specs.Moves.{Move, AllocateChannel, AllocateUnits, ConnectFirst, ConnectOverlaid, ConnectInput, DisconnectInput, DisconnectOutput, ReleaseUnits, ReleaseChannel, Can, after}
-use Rattle.fw_account.specs.Decode.{register_of_move}
-use Rattle.fw_account.specs.Sound.{IsSound}
-use Rattle.fw_account.specs.Words.{Register as Place, BandwidthAvailable, ChannelsAvailable, word_of}
-use Rattle.fw_remarks.specs.declared.known.Managed.{Managed}
-use Rattle.fw_remarks.specs.declared.register.Register.{Register}
-use Rattle.fw_remarks.specs.declared.register.Register.TheVariants.{ChannelsHigh, ChannelsLow}
-use Rattle.fw_remarks.specs.declared.remark.Remark.TheVariants.{UnitsInSecond, NewInSecond}
-use Rattle.fw_remarks.specs.Knowing.{bit_of, is_known_set}
-use Rattle.fw_remarks.specs.Remarks.{Said, said}
-use Rattle.fw_known.specs.declared.asked.Answer.{Answer}
-use Rattle.fw_known.specs.declared.second.Before.{Before}
-use Rattle.fw_known.specs.declared.second.Before.TheVariants.{Nothing, Dark, Words}
-use Rattle.fw_known.specs.declared.second.Second.{Second}
-use Rattle.fw_known.specs.declared.state.State.{State}
-use Rattle.fw_known.specs.declared.swap.Made.{Made}
-use Rattle.fw_watch.specs.Answering.{made}
+use Rattle.fw_watch_laws.proofs.Common.{◌≡◌, ◌≢◌, refl, ap, sym, ◌∙◌, subst, inl, inr, ℕ, ◌+◌, ◌-◌, ◌<◌, ◌≤◌, ◌==◌, ◌&&◌, not, nat_lt, Bool, true, false, [], ◌∷◌, if◌then◌else◌, Some, None, arith}
+use Rattle.fw_watch_laws.proofs.Common.{true≢false, eq-eqb, nat_tests, PlugAt, Swap, Account, total, Move, AllocateChannel, AllocateUnits, ConnectFirst, ConnectOverlaid, ConnectInput, DisconnectInput}
+use Rattle.fw_watch_laws.proofs.Common.{DisconnectOutput, ReleaseUnits, ReleaseChannel, register_of_move, IsSound, Place, BandwidthAvailable, ChannelsAvailable, word_of, Managed, Register}
+use Rattle.fw_watch_laws.proofs.Common.{ChannelsHigh, ChannelsLow, UnitsInSecond, NewInSecond, bit_of, Said, said, Answer, Second, State, Made, made}
+use Rattle.std.proofs.lemmas.Bool.{cases_eq}
+use Rattle.fw_model_account.specs.Account.{Flow}
+use Rattle.fw_model_account.specs.Moves.{Can, after}
+use Rattle.fw_watch_remarks.specs.Knowing.{is_known_set}
+use Rattle.fw_watch_known.specs.declared.second.Before.{Before}
+use Rattle.fw_watch_known.specs.declared.second.Before.TheVariants.{Nothing, Dark, Words}
 use Rattle.fw_watch.specs.Swaps.{is_new, epoch_of, taken_with, units_held, units_beyond, new_units_remarks}
 use Rattle.fw_watch_laws.proofs.AccountFrames.{SecondKept, move_kept}
 use Rattle.fw_watch_laws.proofs.Flows.{WereHeld, same_held, taken_bit, allocations_fit}
@@ -32,7 +19,7 @@ use Rattle.fw_watch_laws.proofs.SecondAgrees.{WordsHeld}
 use Rattle.fw_watch_laws.proofs.Several.{differ_but}
 use Rattle.fw_watch_laws.proofs.Timely.{InSecond, counted_in}
 
--- none where a test fails
+-- none if a test fails
 pub none_if : (q : Said → Bool) (b : Bool) (x : Said) → b ≡ false → IsNone q (if b then x ∷ [] else [])
 none_if q true x e = cc
 none_if q false x e = refl

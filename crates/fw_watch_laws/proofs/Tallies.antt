@@ -1,34 +1,13 @@
 -- What an entry counts.
-use Rattle.std.proofs.Common.{◌≡◌, refl, ap, ◌∙◌, ℕ, ◌==◌, Bool, true, false, List, if◌then◌else◌, Option, Some, None}
-use Rattle.fw_words.specs.declared.swap.Swap.{Swap}
-use Rattle.fw_async.specs.declared.packet.Packet.{Packet}
-use Rattle.fw_entry.specs.declared.codes.event.TheConstants as Events
-use Rattle.fw_entry.specs.declared.entry.EventEntry.{EventEntry}
-use Rattle.fw_entry.specs.declared.entry.Entry.{Entry}
-use Rattle.fw_entry.specs.declared.entry.Entry.TheVariants.{Reset, Async, Iso, Event, Outcome, Shown, End}
-use Rattle.fw_entry.specs.declared.entry.Timed.{Timed}
-use Rattle.fw_remarks.specs.declared.known.Known.{Known}
-use Rattle.fw_remarks.specs.declared.register.At.{At}
-use Rattle.fw_remarks.specs.declared.register.Register.{Register}
-use Rattle.fw_remarks.specs.declared.register.Register.TheVariants.{Bandwidth, ChannelsHigh, ChannelsLow, Output, Input}
-use Rattle.fw_remarks.specs.Knowing.{nothing_known, all_known}
-use Rattle.fw_remarks.specs.Remarks.{counted}
-use Rattle.fw_known.specs.declared.asked.Answer.{Answer}
-use Rattle.fw_known.specs.declared.channel.Channel.{Channel}
-use Rattle.fw_known.specs.declared.counts.Counts.{Counts}
-use Rattle.fw_known.specs.declared.second.Second.{Second}
-use Rattle.fw_known.specs.declared.state.State.{State}
-use Rattle.fw_known.specs.declared.swap.Made.{Made}
-use Rattle.fw_known.specs.Heard.{after_heard}
-use Rattle.fw_known.specs.Judging.{judged, judged_counts}
-use Rattle.fw_known.specs.Standing.{answer_of}
-use Rattle.fw_known.specs.States.{known_of, with_known, with_known_plug, reset_state, ended_second, node_of_device, buried, after_death}
-use Rattle.fw_known.specs.Swapped.{holder_of, with_holder, swapped_by, swapped}
-use Rattle.fw_watch.specs.declared.answer.Heed.{Heed}
-use Rattle.fw_watch.specs.declared.answer.Heed.TheVariants.{Ignore, Refuse, Follow}
-use Rattle.fw_watch.specs.Answering.{made, after_made, after_found, with_manager, after_shown_by, after_followed, heed, after_heeded, after_answer, after_answered, with_packet, after_packet}
-use Rattle.fw_watch.specs.Steps.{shown_at, after_word, after_shown, after_event, after_what, after}
-use Rattle.fw_watch_laws.specs.LastKnown.{Glimpse, glimpse_by, answer_glimpse, word_glimpse, glimpse}
+use Rattle.fw_watch_laws.proofs.Common.{◌≡◌, refl, ap, ◌∙◌, ℕ, ◌==◌, Bool, true, false, List, if◌then◌else◌, Option, Some, None, Swap, Packet, EventEntry, Entry, Reset, Async, Iso, Event, Outcome}
+use Rattle.fw_watch_laws.proofs.Common.{Shown, End, Timed, Known, At, Register, Bandwidth, ChannelsHigh, ChannelsLow, Output, Input, nothing_known, all_known, Answer, Channel, Second, State, Made}
+use Rattle.fw_watch_laws.proofs.Common.{after_heard, judged, judged_counts, answer_of, known_of, with_known, with_known_plug, reset_state, ended_second, node_of_device, buried, after_death, holder_of}
+use Rattle.fw_watch_laws.proofs.Common.{with_holder, swapped_by, swapped, Heed, Ignore, Refuse, Follow, made, after_made, after_found, with_manager, after_shown_by, after_followed, heed, after_heeded}
+use Rattle.fw_watch_laws.proofs.Common.{after_answer, after_answered, with_packet, after_packet, shown_at, after_word, after_shown, after_event, after_what, after, Glimpse, glimpse_by, answer_glimpse}
+use Rattle.fw_watch_laws.proofs.Common.{word_glimpse, glimpse}
+use Rattle.fw_log_entry.specs.declared.codes.event.TheConstants as Events
+use Rattle.fw_watch_remarks.specs.Remarks.{counted}
+use Rattle.fw_watch_known.specs.declared.counts.Counts.{Counts}
 use Rattle.fw_watch_laws.proofs.Frames.{manager_only, manager_known, aside, ticked_only}
 
 -- ---- what counts nothing

@@ -1,7 +1,8 @@
 -- Each test passes what is told of one kind.
-use Rattle.std.proofs.Common.{◌≡◌, refl, Bool, true, false}
-use Rattle.fw_remarks.specs.declared.remark.Remark.{Remark}
-use Rattle.fw_remarks.specs.declared.remark.Remark.TheVariants.{Reset, Units, Takes, Returns, Plug, Unseen, Sends, Held, NotManager, TooMany, UnitsInSecond, NewInSecond, Several, MoreThanMove, TwoSenders, NotTaken, OtherPlug}
+use Rattle.fw_watch_laws.proofs.Common.{◌≡◌, refl, Bool, true, false, Unseen, UnitsInSecond, NewInSecond}
+use Rattle.fw_watch_remarks.specs.declared.remark.Remark.{Remark}
+use Rattle.fw_watch_remarks.specs.declared.remark.Remark.TheVariants.{Reset, Units, Takes, Returns, Plug, Sends, Held, NotManager}
+use Rattle.fw_watch_remarks.specs.declared.remark.Remark.TheVariants.{TooMany, Several, MoreThanMove, TwoSenders, NotTaken, OtherPlug}
 use Rattle.fw_watch_laws.specs.ChangedUnseen.{tells_unseen}
 use Rattle.fw_watch_laws.specs.Orderly.{is_not_manager, is_too_many, is_several, is_more, is_new_in_second}
 use Rattle.fw_watch_laws.proofs.Remarked.{Kind, OfWord, OfRefused, OfMany, OfUnits, OfNew, OfSeveral, OfMore, kind_of}

@@ -1,26 +1,12 @@
 -- How time passes in a log: cycles, bus resets and seconds.
-use Rattle.std.proofs.Common.{◌≡◌, refl, ap, sym, inl, inr, ◌⊎◌, ℕ, ◌+◌, ◌-◌, ◌^◌, ◌≤◌, ◌==◌, nat_lt, Bool, true, false, List, [], ◌∷◌, ◌++◌, if◌then◌else◌, Option, Some, None, is_some, arith}
-use Rattle.std.proofs.lemmas.Bool.Decides.{nat_tests}
-use Rattle.std.proofs.lemmas.Option.{same_Some}
-use Rattle.fw_words.specs.declared.swap.Swap.{Swap}
-use Rattle.fw_entry.specs.declared.codes.event.TheConstants as Events
-use Rattle.fw_entry.specs.declared.entry.EventEntry.{EventEntry}
-use Rattle.fw_entry.specs.declared.entry.Timed.{Timed}
-use Rattle.fw_entry.specs.Log.{InOrder}
-use Rattle.fw_account.specs.Account.{Account}
-use Rattle.fw_account.specs.Events.{after_second, after_death, after_withholding}
-use Rattle.fw_account.specs.Fold.{after_event}
-use Rattle.fw_remarks.specs.declared.known.Managed.{Managed}
-use Rattle.fw_remarks.specs.declared.register.Register.{Register}
-use Rattle.fw_remarks.specs.declared.register.Register.TheVariants.{Bandwidth, ChannelsHigh, ChannelsLow, Output, Input}
-use Rattle.fw_known.specs.declared.asked.Answer.{Answer}
-use Rattle.fw_known.specs.declared.second.Before.TheVariants.{Nothing, Words}
-use Rattle.fw_known.specs.declared.second.Second.{Second}
-use Rattle.fw_known.specs.declared.state.State.{State}
-use Rattle.fw_known.specs.States.{is_over, ticked_second, ended_second, darkened, counted_second, capped}
-use Rattle.fw_watch.specs.declared.answer.Heed.{Heed}
-use Rattle.fw_watch.specs.declared.answer.Heed.TheVariants.{Ignore, Refuse, Follow}
-use Rattle.fw_watch.specs.Answering.{heed}
+use Rattle.fw_watch_laws.proofs.Common.{◌≡◌, refl, ap, sym, inl, inr, ◌⊎◌, ℕ, ◌+◌, ◌-◌, ◌^◌, ◌≤◌, ◌==◌, nat_lt, Bool, true, false, List, [], ◌∷◌, ◌++◌, if◌then◌else◌, Option, Some, None, is_some}
+use Rattle.fw_watch_laws.proofs.Common.{arith, nat_tests, same_Some, Swap, EventEntry, Timed, InOrder, Account, after_second, after_withholding, Managed, Register, Bandwidth, ChannelsHigh}
+use Rattle.fw_watch_laws.proofs.Common.{ChannelsLow, Output, Input, Answer, Second, State, ticked_second, ended_second, Heed, Ignore, Refuse, Follow, heed}
+use Rattle.fw_log_entry.specs.declared.codes.event.TheConstants as Events
+use Rattle.fw_model_account.specs.Events.{after_death}
+use Rattle.fw_model_account.specs.Fold.{after_event}
+use Rattle.fw_watch_known.specs.declared.second.Before.TheVariants.{Nothing, Words}
+use Rattle.fw_watch_known.specs.States.{is_over, darkened, counted_second, capped}
 use Rattle.fw_watch_laws.specs.Orderly.{reset_cycle, last_reset}
 use Rattle.fw_watch_laws.proofs.AccountFrames.{SecondKept, kept_by, kept_same}
 use Rattle.fw_watch_laws.proofs.Seconds.{made_second, found_second, heeded_second, answered_second, event_second}

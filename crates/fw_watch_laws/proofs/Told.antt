@@ -1,22 +1,11 @@
 -- That a channel has two senders is told up to the second one.
-use Rattle.std.proofs.Common.{◌≡◌, ◌≢◌, refl, ap, sym, ◌∙◌, subst, inl, inr, ◌⊎◌, ℕ, ◌<◌, ◌==◌, ◌&&◌, ◌||◌, not, Bool, true, false, is_some, List, [], ◌∷◌, ◌++◌, if◌then◌else◌, Option, Some, None}
-use Rattle.std.specs.List.{list_any}
-use Rattle.std.proofs.lemmas.Bool.{eqb-true, cases_Bool}
+use Rattle.fw_watch_laws.proofs.Common.{◌≡◌, ◌≢◌, refl, ap, sym, ◌∙◌, subst, inl, inr, ◌⊎◌, ℕ, ◌<◌, ◌==◌, ◌&&◌, ◌||◌, not, Bool, true, false, is_some, List, [], ◌∷◌, ◌++◌, if◌then◌else◌, Option, Some}
+use Rattle.fw_watch_laws.proofs.Common.{None, list_any, eqb-true, cases_Bool, InOrder, Entry, Iso, Timed, Channel, State, fresh, undue, no_state, packet_of, ticked, remarks, after, known_from, known}
 use Rattle.std.proofs.lemmas.List.{get_or-replicate, append-nil}
 use Rattle.fw_cip.specs.declared.packet.IsoPacket.{IsoPacket}
-use Rattle.fw_entry.specs.Log.{InOrder}
-use Rattle.fw_entry.specs.declared.entry.Entry.{Entry}
-use Rattle.fw_entry.specs.declared.entry.Entry.TheVariants.{Iso}
-use Rattle.fw_entry.specs.declared.entry.Timed.{Timed}
-use Rattle.fw_known.specs.declared.channel.Channel.{Channel}
-use Rattle.fw_known.specs.declared.hear.Packet.{Packet}
-use Rattle.fw_known.specs.declared.state.State.{State}
-use Rattle.fw_known.specs.Channels.{fresh, undue}
-use Rattle.fw_known.specs.Heard.{other_sender, heard_on, heard, sender_behind, channel_behind}
-use Rattle.fw_known.specs.States.{no_state}
+use Rattle.fw_watch_known.specs.declared.hear.Packet.{Packet}
+use Rattle.fw_watch_known.specs.Heard.{other_sender, heard_on, heard, sender_behind, channel_behind}
 use Rattle.fw_watch.specs.Hearing.{heard_remarks}
-use Rattle.fw_watch.specs.Steps.{packet_of, ticked, remarks, after}
-use Rattle.fw_watch.specs.Watched.{known_from, known}
 use Rattle.fw_watch.proofs.WatchLaws.{known_from_more}
 use Rattle.fw_watch_laws.specs.TwoSenders.{IsPacket, moves, stays, is_two, TwoTold}
 use Rattle.fw_watch_laws.proofs.Rows.{step_moves}

@@ -1,12 +1,11 @@
 -- What changes in the rows of channels, but for when they are due.
-use Rattle.std.proofs.Common.{◌≡◌, ◌≢◌, refl, ap, sym, ◌∙◌, subst, ℕ, zero, suc, ◌+◌, ◌-◌, ◌==◌, ◌&&◌, ◌||◌, not, nat_le, nat_lt, Bool, true, false, List, [], ◌∷◌, length, if◌then◌else◌, Option, Some, None, arith, set}
-use Rattle.std.proofs.lemmas.Bool.{eqb-true}
+use Rattle.fw_watch_laws.proofs.Common.{◌≡◌, ◌≢◌, refl, ap, sym, ◌∙◌, subst, ℕ, zero, suc, ◌+◌, ◌-◌, ◌==◌, ◌&&◌, ◌||◌, not, nat_le, nat_lt, Bool, true, false, List, [], ◌∷◌, length, if◌then◌else◌}
+use Rattle.fw_watch_laws.proofs.Common.{Option, Some, None, arith, eqb-true, Known, Channel, fresh, undue, channel_at}
+use Rattle.std.proofs.Common.{set}
 use Rattle.std.proofs.lemmas.List.{get_or-set_other, length-set}
-use Rattle.fw_remarks.specs.declared.known.Known.{Known}
-use Rattle.fw_remarks.specs.Knowing.{is_forgotten, is_channel}
-use Rattle.fw_known.specs.declared.channel.Channel.{Channel}
-use Rattle.fw_known.specs.declared.channel.Due.{Due}
-use Rattle.fw_known.specs.Channels.{fresh, undue, quiet, channel_at, freshened_one, freshened, quieted, unused, same_channel, plug_moved, is_taken, is_to_be_used, with_due, with_dues}
+use Rattle.fw_watch_remarks.specs.Knowing.{is_forgotten, is_channel}
+use Rattle.fw_watch_known.specs.declared.channel.Due.{Due}
+use Rattle.fw_watch_known.specs.Channels.{quiet, freshened_one, freshened, quieted, unused, same_channel, plug_moved, is_taken, is_to_be_used, with_due, with_dues}
 use Rattle.fw_watch_laws.specs.TwoSenders.{plug_changes}
 
 -- a channel is seen anew, or is as it was but for when it is due

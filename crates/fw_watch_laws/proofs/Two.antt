@@ -1,27 +1,15 @@
 -- Two senders on one channel are told.
-use Rattle.std.proofs.Common.{◌≡◌, ◌≢◌, refl, ap, sym, ◌∙◌, inl, inr, ◌⊎◌, ℕ, ◌<◌, ◌==◌, ◌||◌, Bool, true, false, is_some, List, [], ◌∷◌, ◌++◌, length, Option, Some, None, IfSome, arith}
-use Rattle.std.specs.List.{list_any}
-use Rattle.std.proofs.lemmas.Bool.{eq-eqb, eqb-true, cases_Bool}
+use Rattle.fw_watch_laws.proofs.Common.{◌≡◌, ◌≢◌, refl, ap, sym, ◌∙◌, inl, inr, ◌⊎◌, ℕ, ◌<◌, ◌==◌, ◌||◌, Bool, true, false, is_some, List, [], ◌∷◌, ◌++◌, length, Option, Some, None, IfSome, arith}
+use Rattle.fw_watch_laws.proofs.Common.{list_any, eq-eqb, eqb-true, cases_Bool, Fits, InOrder, Entry, Reset, Async, Iso, Event, Outcome, Shown, End, Timed, Said, Channel, State, fresh, undue}
+use Rattle.fw_watch_laws.proofs.Common.{channel_at, after_heard, no_state, held_remarks, packet_of, after_what, ticked, remarks, after, known_from, glimpse}
 use Rattle.std.proofs.lemmas.List.{length-replicate, length-set}
 use Rattle.std.proofs.lemmas.Grind.{get_or-set_at}
 use Rattle.std.proofs.lemmas.List.Folds.{list_any-append}
 use Rattle.fw_cip.specs.declared.packet.IsoPacket.{IsoPacket}
-use Rattle.fw_entry.specs.Log.{Fits, InOrder}
-use Rattle.fw_entry.specs.declared.entry.Entry.{Entry}
-use Rattle.fw_entry.specs.declared.entry.Entry.TheVariants.{Reset, Async, Iso, Event, Outcome, Shown, End}
-use Rattle.fw_entry.specs.declared.entry.Timed.{Timed}
-use Rattle.fw_remarks.specs.Remarks.{Said}
-use Rattle.fw_known.specs.declared.channel.Channel.{Channel}
-use Rattle.fw_known.specs.declared.hear.Packet.{Packet}
-use Rattle.fw_known.specs.declared.state.State.{State}
-use Rattle.fw_known.specs.Channels.{fresh, undue, channel_at}
-use Rattle.fw_known.specs.Heard.{heard_on, heard, channel_behind, after_heard}
-use Rattle.fw_known.specs.States.{no_state}
+use Rattle.fw_watch_known.specs.declared.hear.Packet.{Packet}
+use Rattle.fw_watch_known.specs.Heard.{heard_on, heard, channel_behind}
 use Rattle.fw_watch.specs.Hearing.{start_remarks, two_remarks, wrong_remarks, heard_remarks}
-use Rattle.fw_watch.specs.Holding.{held_remarks}
-use Rattle.fw_watch.specs.Steps.{packet_of, what_remarks, after_what, ticked, remarks, after}
-use Rattle.fw_watch.specs.Watched.{known_from}
-use Rattle.fw_watch_laws.specs.LastKnown.{glimpse}
+use Rattle.fw_watch.specs.Steps.{what_remarks}
 use Rattle.fw_watch_laws.specs.TwoSenders.{is_two}
 use Rattle.fw_watch_laws.proofs.Keeps.{Whole, whole_step, whole_none}
 use Rattle.fw_watch_laws.proofs.Nodes.{Few, few_step, IsSeen, glimpse_seen}

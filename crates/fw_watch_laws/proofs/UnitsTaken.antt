@@ -1,29 +1,10 @@
 -- The units that `watch` counts in a second are those that the account has allocated.
-use Rattle.std.proofs.Common.{◌≡◌, ◌≢◌, refl, ap, sym, ◌∙◌, subst, inl, inr, ◌⊎◌, ℕ, ◌≤◌, ◌==◌, Bool, true, false, Option, Some, None, is_none, arith}
-use Rattle.std.proofs.lemmas.Option.{same_Some}
-use Rattle.fw_words.specs.declared.swap.Swap.{Swap}
-use Rattle.fw_async.specs.declared.packet.Packet.{Packet}
-use Rattle.fw_entry.specs.declared.codes.event.TheConstants as Events
-use Rattle.fw_entry.specs.declared.entry.ResetEntry.{ResetEntry}
-use Rattle.fw_entry.specs.declared.entry.Entry.{Entry}
-use Rattle.fw_entry.specs.declared.entry.Entry.TheVariants.{Reset, Async, Iso, Event, Outcome, Shown, End}
-use Rattle.fw_account.specs.Account.{Account}
-use Rattle.fw_account.specs.Fold.{next_account}
-use Rattle.fw_account.specs.Words.{BandwidthAvailable, word_of}
-use Rattle.fw_remarks.specs.declared.known.Known.{Known}
-use Rattle.fw_remarks.specs.declared.known.Managed.{Managed}
-use Rattle.fw_remarks.specs.declared.register.Register.{Register}
-use Rattle.fw_remarks.specs.declared.register.Register.TheVariants.{Bandwidth, ChannelsHigh, ChannelsLow, Output, Input}
-use Rattle.fw_remarks.specs.Knowing.{all_known}
-use Rattle.fw_known.specs.declared.asked.Answer.{Answer}
-use Rattle.fw_known.specs.declared.second.Second.{Second}
-use Rattle.fw_known.specs.declared.state.State.{State}
-use Rattle.fw_known.specs.Standing.{answer_of}
-use Rattle.fw_known.specs.States.{begun, ticked_second, ended_second, counted_second}
-use Rattle.fw_watch.specs.declared.answer.Heed.{Heed}
-use Rattle.fw_watch.specs.declared.answer.Heed.TheVariants.{Ignore, Refuse, Follow}
-use Rattle.fw_watch.specs.Answering.{heed}
-use Rattle.fw_watch_laws.specs.LastKnown.{word_left, known_left, glimpse_by, answer_glimpse, is_same_by}
+use Rattle.fw_watch_laws.proofs.Common.{◌≡◌, ◌≢◌, refl, ap, sym, ◌∙◌, subst, inl, inr, ◌⊎◌, ℕ, ◌≤◌, ◌==◌, Bool, true, false, Option, Some, None, is_none, arith, same_Some, Swap, Packet, ResetEntry}
+use Rattle.fw_watch_laws.proofs.Common.{Entry, Reset, Async, Iso, Event, Outcome, Shown, End, Account, next_account, BandwidthAvailable, word_of, Known, Managed, Register, Bandwidth, ChannelsHigh}
+use Rattle.fw_watch_laws.proofs.Common.{ChannelsLow, Output, Input, all_known, Answer, Second, State, answer_of, ticked_second, ended_second, Heed, Ignore, Refuse, Follow, heed, word_left, known_left}
+use Rattle.fw_watch_laws.proofs.Common.{glimpse_by, answer_glimpse, is_same_by}
+use Rattle.fw_log_entry.specs.declared.codes.event.TheConstants as Events
+use Rattle.fw_watch_known.specs.States.{begun, counted_second}
 use Rattle.fw_watch_laws.proofs.LockWords.{same_words}
 use Rattle.fw_watch_laws.proofs.ManagedKnown.{is_that, is_managed_at}
 use Rattle.fw_watch_laws.proofs.Seconds.{made_second, found_second, heeded_second, answered_second, event_second, second_after}

@@ -1,36 +1,13 @@
 -- Which remarks tell that a word changed unseen.
-use Rattle.std.proofs.Common.{◌≡◌, refl, ap, ◌∙◌, subst, ℕ, ◌==◌, Bool, true, false, List, [], ◌∷◌, ◌++◌, if◌then◌else◌, Option, Some, None, IfSome}
-use Rattle.std.specs.List.{filter}
+use Rattle.fw_watch_laws.proofs.Common.{◌≡◌, refl, ap, ◌∙◌, subst, ℕ, ◌==◌, Bool, true, false, List, [], ◌∷◌, ◌++◌, if◌then◌else◌, Option, Some, None, IfSome, filter, Swap, Entry, Reset, Async, Iso}
+use Rattle.fw_watch_laws.proofs.Common.{Event, Outcome, Shown, End, Timed, InOrder, Known, At, Register, Bandwidth, ChannelsHigh, ChannelsLow, Output, Input, Unseen, differing, Said, said, Answer}
+use Rattle.fw_watch_laws.proofs.Common.{Channel, Second, State, Made, judged, answer_of, known_of, Heed, Ignore, Refuse, Follow, judge_remarks, held_remarks, made, with_manager, heed, with_packet}
+use Rattle.fw_watch_laws.proofs.Common.{shown_at, packet_of, ticked, remarks, known, IsPlace, Glimpse, glimpse_by, answer_glimpse, word_glimpse, glimpse}
 use Rattle.std.proofs.lemmas.List.{append-nil}
 use Rattle.std.proofs.lemmas.List.Elements.{filter-append}
-use Rattle.fw_words.specs.declared.swap.Swap.{Swap}
-use Rattle.fw_entry.specs.declared.entry.Entry.{Entry}
-use Rattle.fw_entry.specs.declared.entry.Entry.TheVariants.{Reset, Async, Iso, Event, Outcome, Shown, End}
-use Rattle.fw_entry.specs.declared.entry.Timed.{Timed}
-use Rattle.fw_entry.specs.Log.{InOrder}
-use Rattle.fw_remarks.specs.declared.known.Known.{Known}
-use Rattle.fw_remarks.specs.declared.register.At.{At}
-use Rattle.fw_remarks.specs.declared.register.Register.{Register}
-use Rattle.fw_remarks.specs.declared.register.Register.TheVariants.{Bandwidth, ChannelsHigh, ChannelsLow, Output, Input}
-use Rattle.fw_remarks.specs.declared.remark.Remark.TheVariants.{Unseen}
-use Rattle.fw_remarks.specs.Knowing.{differing}
-use Rattle.fw_remarks.specs.Remarks.{Said, said}
-use Rattle.fw_known.specs.declared.asked.Answer.{Answer}
-use Rattle.fw_known.specs.declared.channel.Channel.{Channel}
-use Rattle.fw_known.specs.declared.second.Second.{Second}
-use Rattle.fw_known.specs.declared.state.State.{State}
-use Rattle.fw_known.specs.declared.swap.Made.{Made}
-use Rattle.fw_known.specs.Judging.{judged}
-use Rattle.fw_known.specs.Standing.{answer_of}
-use Rattle.fw_known.specs.States.{known_of}
-use Rattle.fw_watch.specs.declared.answer.Heed.{Heed}
-use Rattle.fw_watch.specs.declared.answer.Heed.TheVariants.{Ignore, Refuse, Follow}
-use Rattle.fw_watch.specs.Judging.{judge_remarks}
-use Rattle.fw_watch.specs.Holding.{held_remarks}
-use Rattle.fw_watch.specs.Answering.{made, made_remarks, found_remarks, with_manager, shown_by, followed_remarks, refused_swap, not_manager_remarks, heeded_remarks, heed, answer_remarks, answered_remarks, with_packet, packet_remarks}
-use Rattle.fw_watch.specs.Steps.{reset_remarks, shown_at, word_remarks, shown_remarks, packet_of, what_remarks, ticked, remarks}
-use Rattle.fw_watch.specs.Watched.{known}
-use Rattle.fw_watch_laws.specs.LastKnown.{IsPlace, Glimpse, glimpse_by, answer_glimpse, word_glimpse, glimpse}
+use Rattle.fw_watch.specs.Answering.{made_remarks, found_remarks, shown_by, followed_remarks, refused_swap}
+use Rattle.fw_watch.specs.Answering.{not_manager_remarks, heeded_remarks, answer_remarks, answered_remarks, packet_remarks}
+use Rattle.fw_watch.specs.Steps.{reset_remarks, word_remarks, shown_remarks, what_remarks}
 use Rattle.fw_watch_laws.specs.ChangedUnseen.{is_unseen, found_due, glimpse_due, unseen_due}
 use Rattle.fw_watch_laws.proofs.Frames.{manager_known, aside, ticked_only}
 use Rattle.fw_watch_laws.proofs.Keeps.{whole_known, kept}

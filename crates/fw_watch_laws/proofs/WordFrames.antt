@@ -1,14 +1,12 @@
 -- Which words of the account a move leaves as they were, and that deaths and seconds change none.
-use Rattle.std.proofs.Common.{◌≡◌, ◌≢◌, refl, ap, sym, ◌∙◌, inl, inr, ◌⊎◌, ℕ, ◌+◌, ◌-◌, ◌*◌, ◌^◌, ◌<◌, ◌==◌, nat_lt, Bool, true, false, if◌then◌else◌, Option, Some, arith}
-use Rattle.std.proofs.lemmas.Bool.Decides.{nat_tests}
-use Rattle.fw_base.specs.Tables.{update, update_plug}
-use Rattle.fw_base.specs.declared.plug.PlugAt.{PlugAt}
-use Rattle.fw_base.proofs.Tables.{sum_to_same, update_plug_at}
-use Rattle.fw_plug.specs.Words.{Settings, flag}
-use Rattle.fw_account.specs.Account.{Account, Allocation, Connections, allocated, total, is_free, is_open}
-use Rattle.fw_account.specs.Words.{Register as Place, BandwidthAvailable, ChannelsAvailable, OutputPlug, InputPlug, word_of, bits_word}
-use Rattle.fw_account.proofs.Allocations.{total_changed}
-use Rattle.fw_account.proofs.Bounds.{IsThere}
+use Rattle.fw_watch_laws.proofs.Common.{◌≡◌, ◌≢◌, refl, ap, sym, ◌∙◌, inl, inr, ◌⊎◌, ℕ, ◌+◌, ◌-◌, ◌*◌, ◌^◌, ◌<◌, ◌==◌, nat_lt, Bool, true, false, if◌then◌else◌, Option, Some, arith, nat_tests, update}
+use Rattle.fw_watch_laws.proofs.Common.{PlugAt, Settings, flag, Account, Allocation, total, Place, BandwidthAvailable, ChannelsAvailable, OutputPlug, InputPlug, word_of}
+use Rattle.fw_terms.specs.Tables.{update_plug}
+use Rattle.fw_terms.proofs.Tables.{sum_to_same, update_plug_at}
+use Rattle.fw_model_account.specs.Account.{Connections, allocated, is_free, is_open}
+use Rattle.fw_model_account.specs.Words.{bits_word}
+use Rattle.fw_model_account.proofs.Allocations.{total_changed}
+use Rattle.fw_model_account.proofs.Bounds.{IsThere}
 
 -- ---- allocations
 

@@ -1,15 +1,13 @@
 -- A move changes the word of its register alone; deaths and seconds change none.
-use Rattle.std.proofs.Common.{◌≡◌, ◌≢◌, refl, ap, sym, ℕ, ◌+◌, ◌-◌, ◌<◌, Bool, true, false, if◌then◌else◌, Option, Some, None}
-use Rattle.fw_base.specs.declared.plug.PlugAt.{PlugAt}
-use Rattle.fw_account.specs.Account.{Account, Allocation, allocated, total, is_free, has_connection}
-use Rattle.fw_account.specs.Events.{after_death, orphaned_allocation}
-use Rattle.fw_account.specs.Moves.{Move, AllocateChannel, AllocateUnits, ConnectFirst, ConnectOverlaid, ConnectInput, DisconnectInput, DisconnectOutput, ReleaseUnits, ReleaseChannel, Can, drop_connection, made_pending, after}
-use Rattle.fw_account.specs.Words.{Register as Place, BandwidthAvailable, ChannelsAvailable, OutputPlug, InputPlug, word_of}
-use Rattle.fw_account.specs.Decode.{register_of_move}
-use Rattle.fw_account.specs.Sound.{IsSound}
-use Rattle.fw_account.proofs.Connections.{had_connection}
-use Rattle.fw_account.proofs.Deaths.{orphaned_total, orphaned_counter, orphaned_there}
-use Rattle.fw_account.proofs.Open.{open_is}
+use Rattle.fw_watch_laws.proofs.Common.{◌≡◌, ◌≢◌, refl, ap, sym, ℕ, ◌+◌, ◌-◌, ◌<◌, Bool, true, false, if◌then◌else◌, Option, Some, None, PlugAt, Account, Allocation, total, Move, AllocateChannel}
+use Rattle.fw_watch_laws.proofs.Common.{AllocateUnits, ConnectFirst, ConnectOverlaid, ConnectInput, DisconnectInput, DisconnectOutput, ReleaseUnits, ReleaseChannel, Place, BandwidthAvailable}
+use Rattle.fw_watch_laws.proofs.Common.{ChannelsAvailable, OutputPlug, InputPlug, word_of, register_of_move, IsSound}
+use Rattle.fw_model_account.specs.Account.{allocated, is_free, has_connection}
+use Rattle.fw_model_account.specs.Events.{after_death, orphaned_allocation}
+use Rattle.fw_model_account.specs.Moves.{Can, drop_connection, made_pending, after}
+use Rattle.fw_model_account.proofs.Connections.{had_connection}
+use Rattle.fw_model_account.proofs.Deaths.{orphaned_total, orphaned_counter, orphaned_there}
+use Rattle.fw_model_account.proofs.Open.{open_is}
 use Rattle.fw_watch_laws.proofs.WordFrames.{OthersSame, channel_keeps, units_keep, other_plug, IsOutput, output_keeps, input_keeps, first_keeps, free_same}
 
 -- the last connection of an output plug goes, or another

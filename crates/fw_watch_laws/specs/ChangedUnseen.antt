@@ -1,11 +1,11 @@
 -- Which words are to be told as changed unseen.
 use Rattle.std.specs.Prelude.{ℕ, ◌==◌, Bool, true, false, List, [], ◌∷◌, Option, Some, None, if◌then◌else◌}
-use Rattle.fw_entry.specs.declared.entry.Timed.{Timed}
-use Rattle.fw_remarks.specs.declared.register.At.{At}
-use Rattle.fw_remarks.specs.declared.remark.Remark.{Remark}
-use Rattle.fw_remarks.specs.declared.remark.Remark.TheVariants.{Unseen}
-use Rattle.fw_remarks.specs.Knowing.{differing}
-use Rattle.fw_remarks.specs.Remarks.{Said, said}
+use Rattle.fw_log_entry.specs.declared.entry.Timed.{Timed}
+use Rattle.fw_watch_remarks.specs.declared.register.At.{At}
+use Rattle.fw_watch_remarks.specs.declared.remark.Remark.{Remark}
+use Rattle.fw_watch_remarks.specs.declared.remark.Remark.TheVariants.{Unseen}
+use Rattle.fw_watch_remarks.specs.Knowing.{differing}
+use Rattle.fw_watch_remarks.specs.Remarks.{Said, said}
 use Rattle.fw_watch.specs.Watched.{known}
 use Rattle.fw_watch_laws.specs.LastKnown.{Glimpse, glimpse, last_known}
 
@@ -18,7 +18,7 @@ tells_unseen _ = false
 abbrev pub is_unseen : Said → Bool
 is_unseen s = tells_unseen s.remark
 
--- a word that is found changed unseen where it differs, in a bit that is known, from what was last known of its register
+-- a word that is found changed unseen if it differs, in a bit that is known, from what was last known of its register
 abbrev pub found_due : List Timed → ℕ → At → Option ℕ → List Said
 found_due front cycle at None = []
 found_due front cycle at (Some found) =
@@ -29,6 +29,6 @@ abbrev pub glimpse_due : List Timed → ℕ → Option Glimpse → List Said
 glimpse_due front cycle None = []
 glimpse_due front cycle (Some g) = found_due front cycle g.at g.found
 
--- what is to be told of an entry after others: the word that it shows of a register, where that changed unseen
+-- what is to be told of an entry after others: the word that it shows of a register, if that changed unseen
 unfoldable pub unseen_due : List Timed → Timed → List Said
 unseen_due front t = glimpse_due front t.cycle (glimpse (known front) t.what)

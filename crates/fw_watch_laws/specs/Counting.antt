@@ -1,12 +1,12 @@
 -- What the last line of a log counts.
 use Rattle.std.specs.Prelude.{◌≡◌, ℕ, ◌+◌, ◌==◌, not, Bool, true, false, List, [], ◌∷◌, Option, Some, None, count_by, if◌then◌else◌}
-use Rattle.fw_entry.specs.declared.entry.Entry.{Entry}
-use Rattle.fw_entry.specs.declared.entry.Entry.TheVariants.{Reset, Async, Iso, Event, Outcome, Shown, End}
-use Rattle.fw_entry.specs.declared.entry.Timed.{Timed}
-use Rattle.fw_remarks.specs.declared.known.Known.{Known}
-use Rattle.fw_remarks.specs.Remarks.{Said, is_finding}
-use Rattle.fw_known.specs.declared.state.State.{State}
-use Rattle.fw_known.specs.States.{capped, known_of, no_state}
+use Rattle.fw_log_entry.specs.declared.entry.Entry.{Entry}
+use Rattle.fw_log_entry.specs.declared.entry.Entry.TheVariants.{Reset, Async, Iso, Event, Outcome, Shown, End}
+use Rattle.fw_log_entry.specs.declared.entry.Timed.{Timed}
+use Rattle.fw_watch_remarks.specs.declared.known.Known.{Known}
+use Rattle.fw_watch_remarks.specs.Remarks.{Said, is_finding}
+use Rattle.fw_watch_known.specs.declared.state.State.{State}
+use Rattle.fw_watch_known.specs.States.{capped, known_of, no_state}
 use Rattle.fw_watch.specs.Steps.{after}
 use Rattle.fw_watch.specs.Watched.{known, all_remarks, findings_from}
 use Rattle.fw_watch_laws.specs.LastKnown.{Glimpse, glimpse}
@@ -47,7 +47,7 @@ abbrev pub seen_so : (Known → Option ℕ → Bool) → State → Option Glimps
 seen_so test s None = false
 seen_so test s (Some g) = test (known_of s g.at) g.found
 
--- 1 where a test passes
+-- 1 if a test passes
 abbrev pub one_if : Bool → ℕ
 one_if b = if b then 1 else 0
 

@@ -1,18 +1,18 @@
 -- What was last known of a register, by looking back over the entries of a log.
 use Rattle.std.specs.Prelude.{ℕ, ◌==◌, ◌&&◌, ◌<◌, ⊤, Bool, true, false, List, [], ◌∷◌, Option, Some, None, unwrap_or, if◌then◌else◌}
 use Rattle.fw_words.specs.declared.swap.Swap.{Swap}
-use Rattle.fw_entry.specs.declared.entry.Entry.{Entry}
-use Rattle.fw_entry.specs.declared.entry.Entry.TheVariants.{Reset, Async, Iso, Event, Outcome, Shown, End}
-use Rattle.fw_entry.specs.declared.entry.Timed.{Timed}
-use Rattle.fw_remarks.specs.declared.known.Known.{Known}
-use Rattle.fw_remarks.specs.declared.register.At.{At}
-use Rattle.fw_remarks.specs.declared.register.Register.{Register}
-use Rattle.fw_remarks.specs.declared.register.Register.TheVariants.{Bandwidth, ChannelsHigh, ChannelsLow, Output, Input}
-use Rattle.fw_remarks.specs.Knowing.{nothing_known, all_known, reset_managed, after_reset}
-use Rattle.fw_known.specs.declared.asked.Answer.{Answer}
-use Rattle.fw_known.specs.declared.state.State.{State}
-use Rattle.fw_known.specs.Standing.{answer_of}
-use Rattle.fw_known.specs.States.{known_by, no_state}
+use Rattle.fw_log_entry.specs.declared.entry.Entry.{Entry}
+use Rattle.fw_log_entry.specs.declared.entry.Entry.TheVariants.{Reset, Async, Iso, Event, Outcome, Shown, End}
+use Rattle.fw_log_entry.specs.declared.entry.Timed.{Timed}
+use Rattle.fw_watch_remarks.specs.declared.known.Known.{Known}
+use Rattle.fw_watch_remarks.specs.declared.register.At.{At}
+use Rattle.fw_watch_remarks.specs.declared.register.Register.{Register}
+use Rattle.fw_watch_remarks.specs.declared.register.Register.TheVariants.{Bandwidth, ChannelsHigh, ChannelsLow, Output, Input}
+use Rattle.fw_watch_remarks.specs.Knowing.{nothing_known, all_known, reset_managed, after_reset}
+use Rattle.fw_watch_known.specs.declared.asked.Answer.{Answer}
+use Rattle.fw_watch_known.specs.declared.state.State.{State}
+use Rattle.fw_watch_known.specs.Standing.{answer_of}
+use Rattle.fw_watch_known.specs.States.{known_by, no_state}
 use Rattle.fw_watch.specs.declared.answer.Heed.{Heed}
 use Rattle.fw_watch.specs.declared.answer.Heed.TheVariants.{Ignore, Refuse, Follow}
 use Rattle.fw_watch.specs.Answering.{heed}
@@ -64,7 +64,7 @@ abbrev pub known_left : Option ℕ → Option Swap → Known
 known_left None swap = nothing_known
 known_left (Some found) swap = all_known (word_left found swap)
 
--- what an answer shows, where it is followed: of a node that is there, and of a managed register at the resource manager
+-- what an answer shows, if it is followed: of a node that is there, and of a managed register at the resource manager
 abbrev pub glimpse_by : Heed → Answer → Option Glimpse
 glimpse_by Ignore a = None
 glimpse_by Refuse a = None
@@ -75,7 +75,7 @@ abbrev pub answer_glimpse : State → Option Answer → Option Glimpse
 answer_glimpse s None = None
 answer_glimpse s (Some a) = glimpse_by (heed s a.at) a
 
--- what a shown word shows, where its register is watched
+-- what a shown word shows, if its register is watched
 abbrev pub word_glimpse : Option At → ℕ → Option Glimpse
 word_glimpse None word = None
 word_glimpse (Some at) word = Some (record { at = at; found = Some word; left = all_known word })

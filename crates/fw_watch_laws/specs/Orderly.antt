@@ -1,29 +1,29 @@
 -- Logs without an audit fault, in which `watch` finds nothing; and what it does not find there.
 use Rattle.std.specs.Prelude.{◌≡◌, ◌≢◌, ◌<◌, ℕ, ◌+◌, ◌*◌, ⊤, IsTrue, is_some, Bool, true, false, List, [], ◌∷◌, ◌++◌, length, Option, Some, None}
 use Rattle.std.specs.List.{All, list_any}
-use Rattle.fw_base.specs.declared.label.Label.TheVariants.{Procedure}
-use Rattle.fw_base.specs.Labels.{label_code}
+use Rattle.fw_terms.specs.declared.label.Label.TheVariants.{Procedure}
+use Rattle.fw_terms.specs.Labels.{label_code}
 use Rattle.fw_csr.specs.declared.low_offset.TheConstants.{BANDWIDTH_AVAILABLE, CHANNELS_AVAILABLE_HI, CHANNELS_AVAILABLE_LO, OPCR, IPCR}
 use Rattle.fw_async.specs.declared.packet.Head.{Head}
 use Rattle.fw_async.specs.declared.packet.Packet.{Packet}
 use Rattle.fw_async.specs.declared.packet.Packet.TheVariants.{WriteQuadlet, WriteBlock, WriteReply, ReadQuadlet, ReadBlock, ReadQuadletReply, ReadBlockReply, CycleStart, Lock, LockReply}
-use Rattle.fw_entry.specs.Log.{InOrder}
-use Rattle.fw_entry.specs.declared.entry.ResetEntry.{ResetEntry}
-use Rattle.fw_entry.specs.declared.entry.Entry.{Entry}
-use Rattle.fw_entry.specs.declared.entry.Entry.TheVariants.{Reset, Async, Iso, Event, Outcome, Shown, End}
-use Rattle.fw_entry.specs.declared.entry.Timed.{Timed}
-use Rattle.fw_account.specs.Account.{Account}
-use Rattle.fw_account.specs.Words.{word_at}
-use Rattle.fw_account.specs.Fold.{account_of, entries_of}
-use Rattle.fw_faults.specs.Audited.{IsAudited}
-use Rattle.fw_remarks.specs.declared.remark.Remark.{Remark}
-use Rattle.fw_remarks.specs.declared.remark.Remark.TheVariants.{NotManager, TooMany, UnitsInSecond, NewInSecond, Several, MoreThanMove}
-use Rattle.fw_remarks.specs.declared.register.Register.{Register}
-use Rattle.fw_remarks.specs.declared.register.Register.TheVariants.{Bandwidth, ChannelsHigh, ChannelsLow, Output, Input}
-use Rattle.fw_remarks.specs.Registers.{register_at}
-use Rattle.fw_remarks.specs.Remarks.{Said}
-use Rattle.fw_known.specs.declared.asked.Answer.{Answer}
-use Rattle.fw_known.specs.Standing.{answer_of}
+use Rattle.fw_log_entry.specs.Log.{InOrder}
+use Rattle.fw_log_entry.specs.declared.entry.ResetEntry.{ResetEntry}
+use Rattle.fw_log_entry.specs.declared.entry.Entry.{Entry}
+use Rattle.fw_log_entry.specs.declared.entry.Entry.TheVariants.{Reset, Async, Iso, Event, Outcome, Shown, End}
+use Rattle.fw_log_entry.specs.declared.entry.Timed.{Timed}
+use Rattle.fw_model_account.specs.Account.{Account}
+use Rattle.fw_model_account.specs.Words.{word_at}
+use Rattle.fw_model_account.specs.Fold.{account_of, entries_of}
+use Rattle.fw_model_audit.specs.Audited.{IsAudited}
+use Rattle.fw_watch_remarks.specs.declared.remark.Remark.{Remark}
+use Rattle.fw_watch_remarks.specs.declared.remark.Remark.TheVariants.{NotManager, TooMany, UnitsInSecond, NewInSecond, Several, MoreThanMove}
+use Rattle.fw_watch_remarks.specs.declared.register.Register.{Register}
+use Rattle.fw_watch_remarks.specs.declared.register.Register.TheVariants.{Bandwidth, ChannelsHigh, ChannelsLow, Output, Input}
+use Rattle.fw_watch_remarks.specs.Registers.{register_at}
+use Rattle.fw_watch_remarks.specs.Remarks.{Said}
+use Rattle.fw_watch_known.specs.declared.asked.Answer.{Answer}
+use Rattle.fw_watch_known.specs.Standing.{answer_of}
 use Rattle.fw_watch.specs.Watched.{known, all_remarks}
 
 -- a lock at a watched register has the label of procedures

@@ -2,10 +2,10 @@
 
 ghost use Rattle.std.specs.Prelude.{◌≡◌, ◌≢◌, ◌<◌, ◌∷◌, [], ◌++◌, List, ℕ, true};
 ghost use Rattle.std.specs.List.{filter};
-ghost use Rattle.fw_entry.specs.Log.{InOrder};
-ghost use Rattle.fw_entry.specs.declared.entry.Timed.{Timed};
-ghost use Rattle.fw_remarks.specs.declared.register.At.{At};
-ghost use Rattle.fw_known.specs.States.{known_of};
+ghost use Rattle.fw_log_entry.specs.Log.{InOrder};
+ghost use Rattle.fw_log_entry.specs.declared.entry.Timed.{Timed};
+ghost use Rattle.fw_watch_remarks.specs.declared.register.At.{At};
+ghost use Rattle.fw_watch_known.specs.States.{known_of};
 ghost use Rattle.fw_watch.specs.Watched.{known};
 ghost use Rattle.fw_watch.specs.Steps.{remarks};
 ghost use Rattle.fw_watch_laws.specs.LastKnown.{IsPlace, last_known};
@@ -14,10 +14,10 @@ ghost use Rattle.fw_watch_laws.specs.Orderly.{IsOrderly, is_not_manager, is_too_
 ghost use Rattle.fw_watch_laws.specs.Counting.{AreCounted};
 ghost use Rattle.fw_watch_laws.specs.TwoSenders.{IsPacket, stays, TwoTold};
 
-/// A word is told as changed unseen exactly where it differs, in a bit that is known, from the last that was known of its register.
+/// A word is told as changed unseen exactly if it differs, in a bit that is known, from the last that was known of its register.
 /// What `watch` knows of a register is what was last known of it by looking back over the entries: what the last answer, shown word
 /// or made swap of it since the last bus reset has left known, or else the bits that the bus reset fixes, or else nothing. And of an
-/// entry of a log the remarks `Unseen` are exactly the one that is due: where it shows a word that differs from that.
+/// entry of a log the remarks `Unseen` are exactly the one that is due: if it shows a word that differs from that.
 pub fn changed_words_are_told()
     ensures kept { (entries : List Timed) (at : At) → IsPlace at → known_of (known entries) at ≡ last_known entries at }
     ensures told { (entries front rest : List Timed) (t : Timed) → InOrder 0 entries → entries ≡ front ++ t ∷ rest → filter is_unseen (remarks (known front) t) ≡ unseen_due front t }

@@ -1,13 +1,13 @@
 -- Each node has at most one request of a procedure that stands in `watch`.
-use Rattle.std.proofs.Common.{◌≡◌, refl, ap, ℕ, ◌+◌, ◌≤◌, not, Bool, true, false, List, [], ◌∷◌, ◌++◌, length, drop, if◌then◌else◌, arith}
-use Rattle.std.specs.List.{All, filter, count_by}
+use Rattle.fw_watch_runs.proofs.Common.{◌≡◌, refl, ap, ℕ, ◌+◌, ◌≤◌, not, Bool, true, false, List, [], ◌∷◌, ◌++◌, length, if◌then◌else◌, arith, All, count_by, Asked}
+use Rattle.std.proofs.Common.{drop}
+use Rattle.std.specs.List.{filter}
 use Rattle.std.proofs.lemmas.List.Elements.{All-head, All-tail}
 use Rattle.std.proofs.lemmas.List.Sums.{sum_by-cons, sum_by-append}
-use Rattle.fw_known.specs.declared.asked.Asked.{Asked}
 
 -- ---- counts
 
--- 1 where the test passes
+-- 1 if the test passes
 abbrev pub one : Bool → ℕ
 one b = if b then 1 else 0
 

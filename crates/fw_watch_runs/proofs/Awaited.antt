@@ -1,27 +1,18 @@
 -- Of requests that are of no procedure only that of the transaction of the script that waits stands in `watch`.
-use Rattle.std.proofs.Common.{◌≡◌, refl, ap, sym, ◌∙◌, ℕ, ◌+◌, ◌≤◌, ◌==◌, ◌&&◌, not, Bool, true, false, List, [], ◌∷◌, ◌++◌, length, drop, if◌then◌else◌, Option, Some, None, IsTrue, is_some, get_or, arith, true≢false}
-use Rattle.std.specs.List.{All, count_by}
-use Rattle.std.proofs.lemmas.Bool.{eqb-true, eq-eqb}
+use Rattle.fw_watch_runs.proofs.Common.{◌≡◌, refl, ap, sym, ◌∙◌, ℕ, ◌+◌, ◌≤◌, ◌==◌, ◌&&◌, not, Bool, true, false, List, [], ◌∷◌, ◌++◌, length, if◌then◌else◌, Option, Some, None, IsTrue, is_some}
+use Rattle.fw_watch_runs.proofs.Common.{get_or, arith, All, count_by, eqb-true, Procedure, label_code, Head, Packet, WriteQuadlet, WriteBlock, WriteReply, ReadQuadlet, ReadBlock, ReadQuadletReply}
+use Rattle.fw_watch_runs.proofs.Common.{ReadBlockReply, CycleStart, LockReply, Reply, Register, register_at, Asked, standing_behind, packet_of, Access, Read, Swap, access_request}
+use Rattle.std.proofs.Common.{drop, true≢false}
+use Rattle.std.proofs.lemmas.Bool.{eq-eqb}
 use Rattle.std.proofs.lemmas.List.Elements.{All-filter}
 use Rattle.fw_words.specs.declared.swap.Swap.{Swap as Words}
-use Rattle.fw_base.specs.declared.label.Label.TheVariants.{Procedure}
-use Rattle.fw_base.specs.Labels.{label_code}
-use Rattle.fw_async.specs.declared.packet.Head.{Head}
-use Rattle.fw_async.specs.declared.packet.Packet.{Packet}
-use Rattle.fw_async.specs.declared.packet.Packet.TheVariants.{WriteQuadlet, WriteBlock, WriteReply, ReadQuadlet, ReadBlock, ReadQuadletReply, ReadBlockReply, CycleStart, Lock as LockRequest, LockReply}
-use Rattle.fw_csr.specs.declared.reply.Reply.{Reply}
-use Rattle.fw_account.specs.Words.{first_address}
-use Rattle.fw_remarks.specs.declared.register.Register.{Register}
-use Rattle.fw_remarks.specs.Registers.{register_at}
-use Rattle.fw_known.specs.declared.asked.Asking.{Asking}
-use Rattle.fw_known.specs.declared.asked.Asking.TheVariants.{Read as AskRead}
-use Rattle.fw_known.specs.declared.asked.Asked.{Asked}
-use Rattle.fw_known.specs.Standing.{is_read, alike, is_of, answers, lock_of, without_same, without_answered, asked_at_register, with_request, standing_behind}
-use Rattle.fw_node.specs.Packets.{packet_of, response_head}
-use Rattle.fw_run.specs.declared.order.Access.{Access}
-use Rattle.fw_run.specs.declared.order.Access.TheVariants.{Read, Swap}
-use Rattle.fw_run.specs.Spaces.{access_request}
-use Rattle.fw_run.proofs.Transactions.{access_response}
+use Rattle.fw_async.specs.declared.packet.Packet.TheVariants.{Lock as LockRequest}
+use Rattle.fw_model_account.specs.Words.{first_address}
+use Rattle.fw_watch_known.specs.declared.asked.Asking.{Asking}
+use Rattle.fw_watch_known.specs.declared.asked.Asking.TheVariants.{Read as AskRead}
+use Rattle.fw_watch_known.specs.Standing.{is_read, alike, is_of, answers, lock_of, without_same, without_answered, asked_at_register, with_request}
+use Rattle.fw_node.specs.Packets.{response_head}
+use Rattle.fw_model_run.proofs.Transactions.{access_response}
 use Rattle.fw_watch_laws.specs.Orderly.{IsLabelled}
 use Rattle.fw_watch_laws.proofs.Matches.{one_more}
 use Rattle.fw_watch_runs.proofs.Alone.{one, count_last, count_drop, count_none}

@@ -1,24 +1,17 @@
 -- The requests that stand in `watch` after entries of a run.
-use Rattle.std.proofs.Common.{◌≡◌, ap, sym, ◌∙◌, subst, ℕ, ◌+◌, ◌==◌, not, Bool, true, false, List, [], if◌then◌else◌, Option, Some, None, arith}
-use Rattle.std.specs.List.{All}
+use Rattle.fw_watch_runs.proofs.Common.{◌≡◌, ap, sym, ◌∙◌, subst, ℕ, ◌+◌, ◌==◌, not, Bool, true, false, List, [], if◌then◌else◌, Option, Some, None, arith, All, Packet, Entry, Reset, Async, Iso}
+use Rattle.fw_watch_runs.proofs.Common.{Event, Outcome, Shown, End, Timed, Account, Asked, answer_of, standing_behind, after, IsLabelledIn}
 use Rattle.std.proofs.lemmas.List.Elements.{All-filter}
-use Rattle.fw_async.specs.declared.packet.Packet.{Packet}
-use Rattle.fw_entry.specs.declared.codes.event.TheConstants as Events
-use Rattle.fw_entry.specs.declared.entry.EventEntry.{EventEntry}
-use Rattle.fw_entry.specs.declared.entry.Entry.{Entry}
-use Rattle.fw_entry.specs.declared.entry.Entry.TheVariants.{Reset, Async, Iso, Event, Outcome, Shown, End}
-use Rattle.fw_entry.specs.declared.entry.Timed.{Timed}
-use Rattle.fw_account.specs.Account.{Account}
-use Rattle.fw_known.specs.declared.asked.Asked.{Asked}
-use Rattle.fw_known.specs.declared.channel.Channel.{Channel}
-use Rattle.fw_known.specs.declared.second.Second.{Second}
-use Rattle.fw_known.specs.declared.state.State.{State}
-use Rattle.fw_known.specs.Heard.{after_heard}
-use Rattle.fw_known.specs.Standing.{answer_of, is_from, without_source, standing_behind}
-use Rattle.fw_known.specs.States.{reset_state, ended_second, node_of_device, buried, after_death}
+use Rattle.fw_log_entry.specs.declared.codes.event.TheConstants as Events
+use Rattle.fw_log_entry.specs.declared.entry.EventEntry.{EventEntry}
+use Rattle.fw_watch_known.specs.declared.channel.Channel.{Channel}
+use Rattle.fw_watch_known.specs.declared.second.Second.{Second}
+use Rattle.fw_watch_known.specs.declared.state.State.{State}
+use Rattle.fw_watch_known.specs.Heard.{after_heard}
+use Rattle.fw_watch_known.specs.Standing.{is_from, without_source}
+use Rattle.fw_watch_known.specs.States.{reset_state, ended_second, node_of_device, buried, after_death}
 use Rattle.fw_watch.specs.Answering.{with_packet, after_packet}
-use Rattle.fw_watch.specs.Steps.{shown_at, after_shown, after_event, after_what, after}
-use Rattle.fw_watch_laws.specs.Orderly.{IsLabelledIn}
+use Rattle.fw_watch.specs.Steps.{shown_at, after_shown, after_event, after_what}
 use Rattle.fw_watch_laws.proofs.Frames.{answered_frame, word_frame, aside, ticked_only}
 use Rattle.fw_watch_runs.proofs.Awaited.{IsOwned, beside_standing}
 use Rattle.fw_watch_runs.proofs.Beside.{IsBesideIn}

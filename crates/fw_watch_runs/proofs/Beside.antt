@@ -1,20 +1,12 @@
 -- What a run writes beside the transactions of its script: reads have the label of procedures, and writes have not.
-use Rattle.std.proofs.Common.{◌≡◌, ◌≢◌, refl, sym, subst, ℕ, ◌==◌, Bool, true, false, List, length, if◌then◌else◌, Option, Some, None, option_map}
-use Rattle.std.specs.Bool.{⊤}
-use Rattle.std.proofs.lemmas.Option.{same_Some}
+use Rattle.fw_watch_runs.proofs.Common.{◌≡◌, ◌≢◌, refl, sym, subst, ℕ, ◌==◌, Bool, true, false, List, length, if◌then◌else◌, Option, Some, None, option_map, ⊤, same_Some, Procedure, label_code, Head}
+use Rattle.fw_watch_runs.proofs.Common.{Packet, WriteQuadlet, WriteBlock, WriteReply, ReadQuadlet, ReadBlock, ReadQuadletReply, ReadBlockReply, CycleStart, LockReply, Reply, Entry, Reset, Async, Iso}
+use Rattle.fw_watch_runs.proofs.Common.{Event, Outcome, Shown, End, Account, packet_of, IsGood, half, reply_from, State}
 use Rattle.fw_words.specs.declared.swap.Swap.{Swap}
-use Rattle.fw_base.specs.declared.label.Label.TheVariants.{Procedure}
-use Rattle.fw_base.specs.Labels.{label_code}
-use Rattle.fw_async.specs.declared.packet.Head.{Head}
-use Rattle.fw_async.specs.declared.packet.Packet.{Packet}
-use Rattle.fw_async.specs.declared.packet.Packet.TheVariants.{WriteQuadlet, WriteBlock, WriteReply, ReadQuadlet, ReadBlock, ReadQuadletReply, ReadBlockReply, CycleStart, Lock, LockReply}
+use Rattle.fw_async.specs.declared.packet.Packet.TheVariants.{Lock}
 use Rattle.fw_csr.specs.declared.request.Request.{Request}
 use Rattle.fw_csr.specs.declared.request.Request.TheVariants as Asks
-use Rattle.fw_csr.specs.declared.reply.Reply.{Reply}
 use Rattle.fw_csr.specs.Requests.{request_at}
-use Rattle.fw_entry.specs.declared.entry.Entry.{Entry}
-use Rattle.fw_entry.specs.declared.entry.Entry.TheVariants.{Reset, Async, Iso, Event, Outcome, Shown, End}
-use Rattle.fw_account.specs.Account.{Account}
 use Rattle.fw_cmp.specs.declared.current.Current.{Current}
 use Rattle.fw_cmp.specs.declared.current.Current.TheVariants.{Nothing, Asking, Hearing, Overtaken}
 use Rattle.fw_cmp.specs.declared.outcome.Next.{Next}
@@ -23,14 +15,12 @@ use Rattle.fw_cmp.specs.declared.request.Access.{Access}
 use Rattle.fw_cmp.specs.Controllers.{IsHeard}
 use Rattle.fw_cmp.specs.Requests.{offset_of, access_of, request_of, addressee_of}
 use Rattle.fw_cmp.specs.Turns.{next, after_next}
-use Rattle.fw_node.specs.Packets.{packet_of, response_to}
-use Rattle.fw_step.specs.Requests.{Tells}
-use Rattle.fw_step.proofs.Leads.{turn_tells}
-use Rattle.fw_run.specs.Frames.{write_request}
-use Rattle.fw_run.specs.Good.{IsGood}
-use Rattle.fw_run.specs.HalfSteps.{head_from, said, asks, hears_from, hears, half_of, half}
-use Rattle.fw_run.specs.Spaces.{reply_from}
-use Rattle.fw_run.specs.State.{State, directory_of}
+use Rattle.fw_node.specs.Packets.{response_to}
+use Rattle.fw_model_controllers.specs.Requests.{Tells}
+use Rattle.fw_model_controllers.proofs.Leads.{turn_tells}
+use Rattle.fw_model_run.specs.Frames.{write_request}
+use Rattle.fw_model_run.specs.HalfSteps.{head_from, said, asks, hears_from, hears, half_of}
+use Rattle.fw_model_run.specs.State.{directory_of}
 use Rattle.fw_watch_streams.specs.Streams.{IsOfTalker}
 
 -- a read and the response to one have the label of procedures, a write and a block read have not

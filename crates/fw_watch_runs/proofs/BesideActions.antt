@@ -1,32 +1,25 @@
 -- What each action writes, but those of a transaction of the script.
-use Rattle.std.proofs.Common.{◌≡◌, refl, sym, subst, ℕ, ◌+◌, ◌==◌, Bool, true, false, List, [], ◌∷◌, if◌then◌else◌, Option, Some, None, option_map, arith}
-use Rattle.std.specs.Bool.{⊤}
-use Rattle.fw_base.specs.declared.label.Label.TheVariants.{Procedure, Script}
-use Rattle.fw_base.specs.Labels.{label_code}
-use Rattle.fw_async.specs.declared.packet.Head.{Head}
-use Rattle.fw_async.specs.declared.packet.Packet.{Packet}
-use Rattle.fw_csr.specs.declared.reply.Reply.{Reply}
-use Rattle.fw_entry.specs.declared.entry.Entry.{Entry}
-use Rattle.fw_entry.specs.declared.entry.Entry.TheVariants.{Reset as ResetOf, Async, Iso, End}
-use Rattle.fw_entry.specs.declared.entry.Timed.{Timed}
-use Rattle.fw_account.specs.Account.{Account}
-use Rattle.fw_account.specs.Words.{node_of}
+use Rattle.fw_watch_runs.proofs.Common.{◌≡◌, refl, sym, subst, ℕ, ◌+◌, ◌==◌, Bool, true, false, List, [], ◌∷◌, if◌then◌else◌, Option, Some, None, option_map, arith, ⊤, Procedure, label_code, Head}
+use Rattle.fw_watch_runs.proofs.Common.{Packet, Reply, Entry, Async, Iso, End, Timed, Account, packet_of, Action, HalfStep, Unsettled, Pass, EndSecond, Ask, Answer, Contend, KeepBlock, Step, at_most}
+use Rattle.fw_watch_runs.proofs.Common.{IsGood, half, reply_from, State}
+use Rattle.fw_terms.specs.declared.label.Label.TheVariants.{Script}
+use Rattle.fw_log_entry.specs.declared.entry.Entry.TheVariants.{Reset as ResetOf}
+use Rattle.fw_model_account.specs.Words.{node_of}
 use Rattle.fw_manager.specs.Bids.{CandidateState, bid_request, stage_in}
 use Rattle.fw_manager.specs.declared.candidate.Stage.{Stage}
 use Rattle.fw_manager.specs.declared.candidate.Stage.TheVariants.{Fresh, Asked, Heard, Answered}
 use Rattle.fw_manager.specs.declared.bid.Bid.TheVariants.{Elected, Defeated}
-use Rattle.fw_node.specs.Packets.{packet_of, response_to}
-use Rattle.fw_run.specs.Actions.{Action, Withhold, AddDevice, AddCable, ResetBus, StartConnection, StartBreak, HalfStep, Rest, Unsettled, Pass, EndSecond, Die, CarryOut, Lose, TellLoss, Start, Ask, Answer, ShowWord, SendCommand, SendFrame, Receive, InsertTape, EjectTape, StartCycle, SendPacket, BecomeCandidate, Contend, TieReel, KeepBlock, Finish, Step}
-use Rattle.fw_run.specs.Afterwards.{Resets, Declares, Joins, Takes}
-use Rattle.fw_run.specs.Bidding.{bid_head, bid_said, bid_at, bid_step, own_node, epoch_at, Bids}
-use Rattle.fw_run.specs.Entries.{second_over, died, started, inserted, ejected, dubbing, unsettled, lost, withheld, shown_entry}
-use Rattle.fw_run.specs.Streams.{cycle_start, stream_packet, bytes_of}
-use Rattle.fw_run.specs.Frames.{command_write, response_write, frame_head, frame_packet, Sends, Receives}
-use Rattle.fw_run.specs.Giving.{at_most}
-use Rattle.fw_run.specs.Good.{IsGood}
-use Rattle.fw_run.specs.HalfSteps.{half, is_waiting}
-use Rattle.fw_run.specs.Spaces.{reply_from, read_at}
-use Rattle.fw_run.specs.State.{State, is_on, is_deaf}
+use Rattle.fw_node.specs.Packets.{response_to}
+use Rattle.fw_model_run.specs.Actions.{Withhold, AddDevice, AddCable, ResetBus, StartConnection, StartBreak, Rest, Die, CarryOut, Lose, TellLoss, Start}
+use Rattle.fw_model_run.specs.Actions.{ShowWord, SendCommand, SendFrame, Receive, InsertTape, EjectTape, StartCycle, SendPacket, BecomeCandidate, TieReel, Finish}
+use Rattle.fw_model_run.specs.Afterwards.{Resets, Declares, Joins, Takes}
+use Rattle.fw_model_run.specs.Bidding.{bid_head, bid_said, bid_at, bid_step, own_node, epoch_at, Bids}
+use Rattle.fw_model_run.specs.Entries.{second_over, died, started, inserted, ejected, dubbing, unsettled, lost, withheld, shown_entry}
+use Rattle.fw_model_run.specs.Streams.{cycle_start, stream_packet, bytes_of}
+use Rattle.fw_model_run.specs.Frames.{command_write, response_write, frame_head, frame_packet, Sends, Receives}
+use Rattle.fw_model_run.specs.HalfSteps.{is_waiting}
+use Rattle.fw_model_run.specs.Spaces.{read_at}
+use Rattle.fw_model_run.specs.State.{is_on, is_deaf}
 use Rattle.fw_watch_runs.proofs.Beside.{IsBesideIn, IsBesideSome, response_is, half_beside, frame_beside, answered_beside}
 
 -- the action is neither the request of a transaction of the script, nor the response

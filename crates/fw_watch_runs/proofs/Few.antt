@@ -1,23 +1,15 @@
 -- In a log without an audit fault at most 63 requests of procedures stand in `watch` at a time.
-use Rattle.std.proofs.Common.{◌≡◌, refl, sym, subst, ℕ, zero, suc, ◌+◌, ◌-◌, ◌<◌, ◌≤◌, ◌==◌, ◌&&◌, not, nat_le, nat_lt, Bool, true, false, List, [], ◌∷◌, ◌++◌, length, if◌then◌else◌, Option, Some, None, get_or, slice_get, arith}
+use Rattle.fw_watch_runs.proofs.Common.{◌≡◌, refl, sym, subst, ℕ, ◌+◌, ◌≤◌, ◌==◌, ◌&&◌, not, Bool, true, false, List, [], ◌∷◌, ◌++◌, length, if◌then◌else◌, Option, Some, None, get_or, arith, count_by}
+use Rattle.fw_watch_runs.proofs.Common.{eqb-true, nat_tests, Procedure, label_code, ResetEntry, Timed, device_of_id, Account, Asked, after, IsOrderly}
+use Rattle.std.proofs.Common.{zero, suc, ◌-◌, ◌<◌, nat_le, nat_lt}
+use Rattle.std.proofs.Common.{slice_get}
 use Rattle.std.specs.Prelude.{option_map}
-use Rattle.std.specs.List.{count_by}
-use Rattle.std.proofs.lemmas.Bool.{eqb-true}
-use Rattle.std.proofs.lemmas.Bool.Decides.{nat_tests}
-use Rattle.fw_base.specs.declared.label.Label.TheVariants.{Procedure}
-use Rattle.fw_base.specs.Labels.{label_code}
-use Rattle.fw_entry.specs.declared.nodes.NodeRow.{NodeRow}
-use Rattle.fw_entry.specs.declared.entry.ResetEntry.{ResetEntry}
-use Rattle.fw_entry.specs.declared.entry.Timed.{Timed}
-use Rattle.fw_entry.specs.Network.{first_id, device_of_id}
-use Rattle.fw_account.specs.Account.{Account}
-use Rattle.fw_account.specs.Fold.{no_account}
-use Rattle.fw_account.proofs.Packets.{device_started}
-use Rattle.fw_known.specs.declared.asked.Asked.{Asked}
-use Rattle.fw_known.specs.declared.state.State.{State}
-use Rattle.fw_watch.specs.Steps.{after}
+use Rattle.fw_log_entry.specs.declared.nodes.NodeRow.{NodeRow}
+use Rattle.fw_log_entry.specs.Network.{first_id}
+use Rattle.fw_model_account.specs.Fold.{no_account}
+use Rattle.fw_model_account.proofs.Packets.{device_started}
+use Rattle.fw_watch_known.specs.declared.state.State.{State}
 use Rattle.fw_watch.specs.Watched.{known}
-use Rattle.fw_watch_laws.specs.Orderly.{IsOrderly}
 use Rattle.fw_watch_laws.proofs.Latest.{next_latest}
 use Rattle.fw_watch_laws.proofs.OnBus.{IsOnBus, step_on}
 use Rattle.fw_watch_laws.proofs.Passing.{Passes, known_push}
@@ -92,7 +84,7 @@ few_own l s b a i =
     let f = few_below 63 s.standing i in
     omega (arith, e, f)
 
--- ---- each front
+-- ---- each prefix
 
 record IsKept (front : List Timed) (l : Account) : Type 0 where
   pub nodes : IsOnBus l.latest (known front)
@@ -111,7 +103,7 @@ kept_step entries front rest t l m y f =
       single = subst R push (step_single t (known front) l m f.owed f.single y.next);
     }
 
--- where at most one stands that is of no procedure, fewer than 256 stand
+-- if at most one stands that is of no procedure, fewer than 256 stand
 pub few_stand : (entries front rest : List Timed) → IsOrderly entries → entries ≡ front ++ rest → count_by (λ q. not (is_own q)) (known front).standing ≤ 1
     → length (known front).standing < 256
 few_stand entries front rest o e others =

@@ -1,10 +1,11 @@
 -- No transaction of the script waits before and after each action but its request and its response.
-use Rattle.std.proofs.Common.{◌≡◌, refl, ap, ◌∙◌, ℕ, Bool, true, false, List, [], ◌∷◌, None}
-use Rattle.fw_entry.specs.declared.entry.Timed.{Timed}
-use Rattle.fw_run.specs.Actions.{Action, Withhold, AddDevice, AddCable, ResetBus, StartConnection, StartBreak, HalfStep, Rest, Unsettled, Pass, EndSecond, Die, CarryOut, Lose, TellLoss, Start, Ask, Answer, ShowWord, SendCommand, SendFrame, Receive, InsertTape, EjectTape, StartCycle, SendPacket, BecomeCandidate, Contend, TieReel, KeepBlock, Finish, Step}
-use Rattle.fw_run.specs.Afterwards.{Resets, Declares, Joins, Takes}
-use Rattle.fw_run.specs.HalfSteps.{is_waiting}
-use Rattle.fw_run.specs.State.{State, is_on, is_deaf}
+use Rattle.fw_watch_runs.proofs.Common.{◌≡◌, refl, ap, ◌∙◌, ℕ, Bool, true, false, List, [], ◌∷◌, None, Timed, Action, HalfStep, Unsettled, Pass, EndSecond, Ask, Answer, Contend, KeepBlock, Step}
+use Rattle.fw_watch_runs.proofs.Common.{State}
+use Rattle.fw_model_run.specs.Actions.{Withhold, AddDevice, AddCable, ResetBus, StartConnection, StartBreak, Rest, Die, CarryOut, Lose, TellLoss, Start}
+use Rattle.fw_model_run.specs.Actions.{ShowWord, SendCommand, SendFrame, Receive, InsertTape, EjectTape, StartCycle, SendPacket, BecomeCandidate, TieReel, Finish}
+use Rattle.fw_model_run.specs.Afterwards.{Resets, Declares, Joins, Takes}
+use Rattle.fw_model_run.specs.HalfSteps.{is_waiting}
+use Rattle.fw_model_run.specs.State.{is_on, is_deaf}
 use Rattle.fw_watch_runs.proofs.BesideActions.{IsNoTransaction}
 
 -- the transaction of a state is that of another

@@ -1,10 +1,11 @@
 -- Of findings the log of a run has none but that a channel is held.
-use Rattle.std.proofs.Common.{◌≡◌, refl, ◌||◌, Bool, true, false, List, [], ◌∷◌}
+use Rattle.fw_watch_runs.proofs.Common.{◌≡◌, refl, Bool, true, false, List, [], ◌∷◌, Timed}
+use Rattle.std.proofs.Common.{◌||◌}
 use Rattle.std.specs.List.{list_any}
-use Rattle.fw_entry.specs.declared.entry.Timed.{Timed}
-use Rattle.fw_remarks.specs.declared.remark.Remark.{Remark}
-use Rattle.fw_remarks.specs.declared.remark.Remark.TheVariants.{Reset, Units, Takes, Returns, Plug, Unseen, Sends, Held, NotManager, TooMany, UnitsInSecond, NewInSecond, Several, MoreThanMove, TwoSenders, NotTaken, OtherPlug}
-use Rattle.fw_remarks.specs.Remarks.{Said}
+use Rattle.fw_watch_remarks.specs.declared.remark.Remark.{Remark}
+use Rattle.fw_watch_remarks.specs.declared.remark.Remark.TheVariants.{Reset, Units, Takes, Returns, Plug, Unseen, Sends, Held, NotManager}
+use Rattle.fw_watch_remarks.specs.declared.remark.Remark.TheVariants.{TooMany, UnitsInSecond, NewInSecond, Several, MoreThanMove, TwoSenders, NotTaken, OtherPlug}
+use Rattle.fw_watch_remarks.specs.Remarks.{Said}
 use Rattle.fw_watch.specs.Watched.{all_remarks}
 use Rattle.fw_watch_laws.specs.Orderly.{is_not_manager, is_too_many, is_several, is_more, is_new_in_second, HasNone}
 use Rattle.fw_watch_streams.specs.Streams.{is_two_senders, is_not_taken, is_other_plug}

@@ -1,22 +1,13 @@
 -- In a run a bus reset in a second comes within 8000 cycles of the one before, and so does each isochronous packet.
-use Rattle.std.proofs.Common.{◌≡◌, refl, ap, sym, ◌∙◌, subst, ℕ, ◌+◌, Bool, true, false, List, [], ◌∷◌, ◌++◌, Option, Some, None, IsTrue, is_some, if◌then◌else◌, arith}
-use Rattle.std.proofs.lemmas.Option.{same_Some}
-use Rattle.fw_entry.specs.declared.entry.Entry.{Entry}
-use Rattle.fw_entry.specs.declared.entry.Entry.TheVariants.{Reset, Async, Iso, Event, Outcome, Shown, End}
-use Rattle.fw_entry.specs.declared.entry.ResetEntry.{ResetEntry}
-use Rattle.fw_entry.specs.declared.entry.Timed.{Timed}
-use Rattle.fw_account.specs.Account.{Account}
-use Rattle.fw_run.specs.Actions.{Action, Steps}
-use Rattle.fw_run.specs.Giving.{at_cycle, at_most}
-use Rattle.fw_run.specs.Good.{IsGood}
-use Rattle.fw_run.specs.State.{State, first_state}
-use Rattle.fw_run.proofs.Alterations.{Allows, Alteration, NewDevice, NewCable, Halved, Connected, Breaks, Passed, Over, Died, Started, Withheld, Asked, Answered, Candidate, Bid, Tied, Kept, Beside, AtUnits, altered, marked, told_by}
-use Rattle.fw_run.proofs.Effects.{Effect, altering, effect, resetting}
-use Rattle.fw_run.proofs.Marks.{Opens, Ends, Closes, Neither, Marks, closes, ends, mark, nothing}
-use Rattle.fw_run.proofs.Settling.{half_turn}
-use Rattle.fw_run.proofs.Withholds.{withholding_keeps}
+use Rattle.fw_watch_runs.proofs.Common.{◌≡◌, refl, ap, sym, ◌∙◌, subst, ℕ, ◌+◌, Bool, true, false, List, [], ◌∷◌, ◌++◌, Option, Some, None, IsTrue, is_some, if◌then◌else◌, arith, same_Some, Entry}
+use Rattle.fw_watch_runs.proofs.Common.{Reset, Async, Iso, Event, Outcome, Shown, End, ResetEntry, Timed, Account, Action, Steps, at_cycle, at_most, IsGood, State, first_state, AreElsewhere}
+use Rattle.fw_model_run.proofs.Alterations.{Allows, Alteration, NewDevice, NewCable, Halved, Connected, Breaks, Passed, Over, Died, Started, Withheld}
+use Rattle.fw_model_run.proofs.Alterations.{Asked, Answered, Candidate, Bid, Tied, Kept, Beside, AtUnits, altered, marked, told_by}
+use Rattle.fw_model_run.proofs.Effects.{Effect, altering, effect, resetting}
+use Rattle.fw_model_run.proofs.Marks.{Opens, Ends, Closes, Neither, Marks, closes, ends, mark, nothing}
+use Rattle.fw_model_run.proofs.Settling.{half_turn}
+use Rattle.fw_model_run.proofs.Withholds.{withholding_keeps}
 use Rattle.fw_watch_laws.specs.Orderly.{reset_cycle, last_reset, HasTimelyResets}
-use Rattle.fw_watch_runs.specs.Elsewhere.{AreElsewhere}
 use Rattle.fw_watch_runs.proofs.Written.{RunKeeps, IsWritten, at_entry}
 
 -- while a second runs, it is that of the last bus reset
@@ -56,7 +47,7 @@ no_reset a o (closes x f) e = not_closes (sym f ∙ e)
 
 -- ---- actions
 
--- the second runs after an alteration where it ran before
+-- the second runs after an alteration if it ran before
 runs_before : (s : State) (a : Action) (y : Alteration) → IsGood s → Allows s a y → (altered s y).account.reclaiming ≡ true → s.account.reclaiming ≡ true
 runs_before s a (Halved d lost resets half_steps) g ok runs = sym (half_turn s d g ok.2).1.reclaiming ∙ runs
 runs_before s a Over g ok runs = ok.1

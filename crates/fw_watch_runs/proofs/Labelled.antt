@@ -1,37 +1,24 @@
 -- In a run the locks at watched registers have the label of procedures.
-use Rattle.std.proofs.Common.{◌≡◌, refl, ap, sym, ◌∙◌, subst, ℕ, ◌+◌, ◌==◌, Bool, true, false, List, length, if◌then◌else◌, Option, Some, None, is_some, option_map, arith}
-use Rattle.std.specs.Bool.{⊤}
-use Rattle.std.proofs.lemmas.Bool.Decides.{nat_tests}
-use Rattle.std.proofs.lemmas.Option.{same_Some}
-use Rattle.fw_base.specs.declared.label.Label.TheVariants.{Procedure}
-use Rattle.fw_base.specs.Labels.{label_code}
-use Rattle.fw_async.specs.declared.packet.Head.{Head}
-use Rattle.fw_async.specs.declared.packet.Packet.{Packet}
+use Rattle.fw_watch_runs.proofs.Common.{◌≡◌, refl, ap, sym, ◌∙◌, subst, ℕ, ◌+◌, ◌==◌, Bool, true, false, List, length, if◌then◌else◌, Option, Some, None, is_some, option_map, arith, ⊤, nat_tests}
+use Rattle.fw_watch_runs.proofs.Common.{same_Some, Procedure, label_code, Head, Packet, Reply, Entry, Async, packet_of, Register, register_at, Access, Read, Swap, half, access_request, State}
+use Rattle.fw_watch_runs.proofs.Common.{IsLabelledIn}
 use Rattle.fw_csr.specs.declared.request.Request.{Request}
 use Rattle.fw_csr.specs.declared.request.Request.TheVariants as Asks
-use Rattle.fw_csr.specs.declared.reply.Reply.{Reply}
-use Rattle.fw_entry.specs.declared.entry.Entry.{Entry}
-use Rattle.fw_entry.specs.declared.entry.Entry.TheVariants.{Async}
-use Rattle.fw_account.specs.Words.{first_address}
+use Rattle.fw_model_account.specs.Words.{first_address}
 use Rattle.fw_cmp.specs.declared.current.Current.{Current}
 use Rattle.fw_cmp.specs.declared.current.Current.TheVariants.{Nothing, Asking, Hearing, Overtaken}
 use Rattle.fw_cmp.specs.declared.outcome.Next.{Next}
 use Rattle.fw_cmp.specs.declared.outcome.Next.TheVariants.{Send, End as EndJob, Idle, Waiting, Deaf, Force}
 use Rattle.fw_cmp.specs.declared.request.Access.{Access as Controlled}
 use Rattle.fw_cmp.specs.Requests.{access_of, request_of, addressee_of}
-use Rattle.fw_node.specs.Packets.{packet_of, response_to}
-use Rattle.fw_remarks.specs.declared.register.Register.{Register}
-use Rattle.fw_remarks.specs.declared.register.Register.TheVariants.{Bandwidth, ChannelsHigh, ChannelsLow, Output, Input}
-use Rattle.fw_remarks.specs.Registers.{register_at}
-use Rattle.fw_run.specs.declared.order.Access.{Access}
-use Rattle.fw_run.specs.declared.order.Access.TheVariants.{Read, Swap}
-use Rattle.fw_run.specs.Frames.{write_request}
-use Rattle.fw_run.specs.HalfSteps.{head_from, said, hears_from, hears, half_of, half}
-use Rattle.fw_run.specs.Named.{is_guarded_at}
-use Rattle.fw_run.specs.Spaces.{access_request}
-use Rattle.fw_run.specs.State.{State, directory_of}
+use Rattle.fw_node.specs.Packets.{response_to}
+use Rattle.fw_watch_remarks.specs.declared.register.Register.TheVariants.{Bandwidth, ChannelsHigh, ChannelsLow, Output, Input}
+use Rattle.fw_model_run.specs.Frames.{write_request}
+use Rattle.fw_model_run.specs.HalfSteps.{head_from, said, hears_from, hears, half_of}
+use Rattle.fw_model_run.specs.Named.{is_guarded_at}
+use Rattle.fw_model_run.specs.State.{directory_of}
 use Rattle.fw_watch_laws.specs.LastKnown.{IsNumber}
-use Rattle.fw_watch_laws.specs.Orderly.{IsLabelled, IsLabelledIn, offset_of}
+use Rattle.fw_watch_laws.specs.Orderly.{IsLabelled, offset_of}
 use Rattle.fw_watch_laws.proofs.Offsets.{offset_at}
 use Rattle.fw_watch_laws.proofs.Swaps.{number_of}
 use Rattle.fw_watch_runs.specs.Elsewhere.{SwapsElsewhere}

@@ -1,3 +1,4 @@
+pub mod Common
 pub mod RunsElsewhere
 pub mod Labelled
 pub mod RunsLabelled

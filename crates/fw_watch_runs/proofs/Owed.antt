@@ -1,26 +1,18 @@
 -- A request of a procedure that stands in `watch` is outstanding in the account: after packets.
-use Rattle.std.proofs.Common.{◌≡◌, ◌≢◌, refl, ap, sym, ◌∙◌, subst, ℕ, ◌==◌, ◌&&◌, not, Bool, true, false, List, if◌then◌else◌, Option, Some, None, is_none, get_or, arith, true≢false}
-use Rattle.std.specs.List.{All, filter}
-use Rattle.std.proofs.lemmas.Bool.{eqb-true, eq-eqb}
-use Rattle.std.proofs.lemmas.Bool.Decides.{nat_tests}
+use Rattle.fw_watch_runs.proofs.Common.{◌≡◌, ◌≢◌, refl, ap, sym, ◌∙◌, subst, ℕ, ◌==◌, ◌&&◌, not, Bool, true, false, List, if◌then◌else◌, Option, Some, None, get_or, arith, All, eqb-true, nat_tests}
+use Rattle.fw_watch_runs.proofs.Common.{same_Some, Procedure, label_code, Head, Packet, WriteQuadlet, WriteBlock, WriteReply, ReadQuadlet, ReadBlock, ReadQuadletReply, ReadBlockReply, CycleStart}
+use Rattle.fw_watch_runs.proofs.Common.{LockReply, ResetEntry, device_of_id, Account, Register, register_at, Asked, standing_behind}
+use Rattle.std.proofs.Common.{is_none, true≢false}
+use Rattle.std.specs.List.{filter}
+use Rattle.std.proofs.lemmas.Bool.{eq-eqb}
 use Rattle.std.proofs.lemmas.List.Elements.{All-filter, filter_passes}
-use Rattle.std.proofs.lemmas.Option.{same_Some}
 use Rattle.fw_words.specs.declared.swap.Swap.{Swap}
-use Rattle.fw_base.specs.declared.label.Label.TheVariants.{Procedure}
-use Rattle.fw_base.specs.Labels.{label_code}
-use Rattle.fw_async.specs.declared.packet.Head.{Head}
-use Rattle.fw_async.specs.declared.packet.Packet.{Packet}
-use Rattle.fw_async.specs.declared.packet.Packet.TheVariants.{WriteQuadlet, WriteBlock, WriteReply, ReadQuadlet, ReadBlock, ReadQuadletReply, ReadBlockReply, CycleStart, Lock as LockRequest, LockReply}
-use Rattle.fw_entry.specs.declared.entry.ResetEntry.{ResetEntry}
-use Rattle.fw_entry.specs.Network.{device_of_id}
-use Rattle.fw_account.specs.Account.{Account, Operation, Reads, Locks, Request}
-use Rattle.fw_account.specs.Packets.{asked as asked_in, asked_by, Reply, Read as ReadReply, Locked, replied, is_reply_to, answered as answered_in, after_reply, after_packet}
-use Rattle.fw_remarks.specs.declared.register.Register.{Register}
-use Rattle.fw_remarks.specs.Registers.{register_at}
-use Rattle.fw_known.specs.declared.asked.Asking.{Asking}
-use Rattle.fw_known.specs.declared.asked.Asking.TheVariants.{Read}
-use Rattle.fw_known.specs.declared.asked.Asked.{Asked}
-use Rattle.fw_known.specs.Standing.{lock_by, lock_of, is_read, alike, is_of, answers, without_same, without_answered, asked_at_register, with_request, standing_behind}
+use Rattle.fw_async.specs.declared.packet.Packet.TheVariants.{Lock as LockRequest}
+use Rattle.fw_model_account.specs.Account.{Operation, Reads, Locks, Request}
+use Rattle.fw_model_account.specs.Packets.{asked as asked_in, asked_by, Reply, Read as ReadReply, Locked, replied, is_reply_to, answered as answered_in, after_reply, after_packet}
+use Rattle.fw_watch_known.specs.declared.asked.Asking.{Asking}
+use Rattle.fw_watch_known.specs.declared.asked.Asking.TheVariants.{Read}
+use Rattle.fw_watch_known.specs.Standing.{lock_by, lock_of, is_read, alike, is_of, answers, without_same, without_answered, asked_at_register, with_request}
 use Rattle.fw_watch_laws.proofs.Matches.{IsApart, IsSame, IsMatched, asking_of, one_more}
 use Rattle.fw_watch_laws.proofs.Matching.{AllMatched, IsEnded, reply_to as ends}
 use Rattle.fw_watch_laws.proofs.Outstanding.{IsReplyTo, reply_to}
@@ -33,7 +25,7 @@ pub record IsOwed (l : Account) (q : Asked) : Type 0 where
   pub outstanding : l.outstanding controller ≡ Some request
   pub target : request.target ≡ q.destination
 
--- where it has the label of procedures
+-- if it has the label of procedures
 abbrev pub OwesOwn : Account → Asked → Type 0
 OwesOwn l q = q.label ≡ label_code Procedure → IsOwed l q
 
@@ -69,7 +61,7 @@ still_asked : (b : Bool) (l : Account) (c d : ℕ) (x r : Request) → (d == c) 
 still_asked true l c d x r e none some = (let f : l.outstanding d ≡ l.outstanding c = ap l.outstanding (eqb-true d c e) in cc)
 still_asked false l c d x r e none some = some
 
--- others are outstanding as they were, where the requester had none
+-- others are outstanding as they were, if the requester had none
 asked_owed : (l : Account) (c : ℕ) (x : Request) (q : Asked) → l.outstanding c ≡ None → OwesOwn l q → OwesOwn (asked_in c x l) q
 asked_owed l c x q none o label =
     let w = o label in
@@ -123,7 +115,7 @@ request_if true l m h address operation asking (Some c) xs e f a next = free (is
 
 -- ---- responses
 
--- where the request of a controller ends, those of others are outstanding as they were
+-- if the request of a controller ends, those of others are outstanding as they were
 pub ended_owed : (l m : Account) (c : ℕ) (q : Asked) → IsEnded l m c → ((w : IsOwed l q) → w.controller ≢ c) → IsOwed l q → IsOwed m q
 ended_owed l m c q i other w =
     let no : (w.controller == c) ≡ false = (let n = other w in grind (arith, nat_tests, n)) in

@@ -1,31 +1,26 @@
 -- A request of a procedure that stands in `watch` is outstanding in the account: after entries.
-use Rattle.std.proofs.Common.{◌≡◌, ◌≢◌, refl, ap, sym, ◌∙◌, subst, ℕ, zero, suc, ◌+◌, ◌-◌, ◌<◌, ◌==◌, not, nat_le, nat_lt, Bool, true, false, List, [], ◌∷◌, length, if◌then◌else◌, Option, Some, None, is_some, get_or, slice_get, arith}
+use Rattle.fw_watch_runs.proofs.Common.{◌≡◌, ◌≢◌, refl, ap, sym, ◌∙◌, subst, ℕ, ◌+◌, ◌==◌, not, Bool, true, false, List, [], ◌∷◌, length, if◌then◌else◌, Option, Some, None, is_some, get_or, arith}
+use Rattle.fw_watch_runs.proofs.Common.{nat_tests, same_Some, ResetEntry, Entry, Reset, Async, Iso, Event, Outcome, Shown, End, Timed, device_of_id, Account, Asked, answer_of, after}
+use Rattle.std.proofs.Common.{zero, suc, ◌-◌, ◌<◌, nat_le}
+use Rattle.std.proofs.Common.{nat_lt, slice_get}
 use Rattle.std.specs.Prelude.{option_map}
 use Rattle.std.specs.List.{position_or_len}
 use Rattle.std.proofs.lemmas.Bool.{eq-eqb}
-use Rattle.std.proofs.lemmas.Bool.Decides.{nat_tests}
-use Rattle.std.proofs.lemmas.Option.{same_Some}
-use Rattle.fw_entry.specs.declared.codes.event.TheConstants as Events
-use Rattle.fw_entry.specs.declared.nodes.NodeRow.{NodeRow}
-use Rattle.fw_entry.specs.declared.entry.EventEntry.{EventEntry}
-use Rattle.fw_entry.specs.declared.entry.ResetEntry.{ResetEntry}
-use Rattle.fw_entry.specs.declared.entry.Entry.{Entry}
-use Rattle.fw_entry.specs.declared.entry.Entry.TheVariants.{Reset, Async, Iso, Event, Outcome, Shown, End}
-use Rattle.fw_entry.specs.declared.entry.Timed.{Timed}
-use Rattle.fw_entry.specs.Network.{first_id, device_of_id}
-use Rattle.fw_account.specs.Account.{Account}
-use Rattle.fw_account.specs.Events.{after_second, after_withholding, after_death as death_in}
-use Rattle.fw_account.specs.Fold.{after_event as event_in, next_account}
-use Rattle.fw_account.proofs.Packets.{device_started}
-use Rattle.fw_known.specs.declared.asked.Asked.{Asked}
-use Rattle.fw_known.specs.declared.channel.Channel.{Channel}
-use Rattle.fw_known.specs.declared.second.Second.{Second}
-use Rattle.fw_known.specs.declared.state.State.{State}
-use Rattle.fw_known.specs.Heard.{after_heard}
-use Rattle.fw_known.specs.Standing.{answer_of, is_from, without_source}
-use Rattle.fw_known.specs.States.{is_device, reset_state, ended_second, node_of_device, buried, after_death}
+use Rattle.fw_log_entry.specs.declared.codes.event.TheConstants as Events
+use Rattle.fw_log_entry.specs.declared.nodes.NodeRow.{NodeRow}
+use Rattle.fw_log_entry.specs.declared.entry.EventEntry.{EventEntry}
+use Rattle.fw_log_entry.specs.Network.{first_id}
+use Rattle.fw_model_account.specs.Events.{after_second, after_withholding, after_death as death_in}
+use Rattle.fw_model_account.specs.Fold.{after_event as event_in, next_account}
+use Rattle.fw_model_account.proofs.Packets.{device_started}
+use Rattle.fw_watch_known.specs.declared.channel.Channel.{Channel}
+use Rattle.fw_watch_known.specs.declared.second.Second.{Second}
+use Rattle.fw_watch_known.specs.declared.state.State.{State}
+use Rattle.fw_watch_known.specs.Heard.{after_heard}
+use Rattle.fw_watch_known.specs.Standing.{is_from, without_source}
+use Rattle.fw_watch_known.specs.States.{is_device, reset_state, ended_second, node_of_device, buried, after_death}
 use Rattle.fw_watch.specs.Answering.{with_packet, after_packet}
-use Rattle.fw_watch.specs.Steps.{shown_at, after_shown, after_event, after_what, after}
+use Rattle.fw_watch.specs.Steps.{shown_at, after_shown, after_event, after_what}
 use Rattle.fw_watch_laws.proofs.Frames.{answered_frame, word_frame, aside, ticked_only}
 use Rattle.fw_watch_laws.proofs.Matches.{IsApart}
 use Rattle.fw_watch_laws.proofs.Matching.{AllMatched}
@@ -115,7 +110,7 @@ death_by (Some r) device l m s e apart b n a =
 
 -- ---- other events
 
--- where the nodes and what is outstanding are as they were
+-- if the nodes and what is outstanding are as they were
 same_asks : (l m : Account) (xs : List Asked) → m.latest ≡ l.latest → m.outstanding ≡ l.outstanding → AllOwed l xs → AllOwed m xs
 same_asks l m xs e f a k d n label =
     let q : Asked = get_or xs k d in

@@ -1,25 +1,26 @@
 -- In a run the script swaps at no watched register.
-use Rattle.std.proofs.Common.{◌||◌, ◌≡◌, ℕ, zero, suc, ◌+◌, List, [], ◌∷◌, ◌++◌, ◌==◌, ◌&&◌, cond, Bool, true, false, Option, Some, None, refl, sym, subst}
+use Rattle.fw_watch_runs.proofs.Common.{◌≡◌, ℕ, ◌+◌, List, [], ◌∷◌, ◌++◌, ◌==◌, ◌&&◌, Bool, true, false, Option, Some, None, refl, sym, subst, Timed, State, ResetEntry, Action, HalfStep, Unsettled}
+use Rattle.fw_watch_runs.proofs.Common.{Pass, EndSecond, Contend, KeepBlock, IsElsewhere, AreElsewhere}
+use Rattle.std.proofs.Common.{◌||◌, zero, suc, cond}
 use Rattle.std.specs.Prelude.{⊤}
-use Rattle.fw_entry.specs.declared.entry.Timed.{Timed}
-use Rattle.fw_command.specs.declared.command.Command.{Command}
-use Rattle.fw_run.specs.declared.order.Order.{Order}
-use Rattle.fw_run.specs.State.{State, living}
-use Rattle.fw_base.specs.declared.plug.PlugAt.{PlugAt}
-use Rattle.fw_entry.specs.declared.entry.ResetEntry.{ResetEntry}
-use Rattle.fw_run.specs.Streams.{talkers}
-use Rattle.fw_run.specs.Actions.{Action, HalfStep, Unsettled, Pass, EndSecond, Contend, KeepBlock}
-use Rattle.fw_run.specs.Carrying.{times, half_steps_of, Rounds, none, round, rest, Carries, withholds, withholds_already, declares, joins, resets, connects, breaks, steps, settled, unsettled as not_settled, waits, waits_over, writes_cycles, next_cycle, SendsPackets, HasCycle, HasCycles, dies, dies_late, dies_idle, loses, starts, goes_on, transacts, shows, commanded, inserts, ejects, ejects_nothing, SendsAll, quiet, sends, becomes_candidate, stays_candidate, contends, dubs, ends}
-use Rattle.fw_run.specs.Rules.{IsOrder}
-use Rattle.fw_run.specs.Runs.{Run, begun, and_then}
-use Rattle.fw_run.specs.Recording.{heard_in}
-use Rattle.fw_command.specs.declared.command.Command.TheVariants as Commands
-use Rattle.fw_run.specs.declared.order.Order.TheVariants as order
-use Rattle.fw_run.specs.declared.rule.RuleFault.TheVariants.{Guarded}
+use Rattle.fw_script_command.specs.declared.command.Command.{Command}
+use Rattle.fw_order.specs.declared.order.Order.{Order}
+use Rattle.fw_model_run.specs.State.{living}
+use Rattle.fw_terms.specs.declared.plug.PlugAt.{PlugAt}
+use Rattle.fw_model_run.specs.Streams.{talkers}
+use Rattle.fw_model_run.specs.Carrying.{times, half_steps_of, Rounds, none, round, rest, Carries, withholds, withholds_already, declares, joins, resets, connects, breaks, steps, settled}
+use Rattle.fw_model_run.specs.Carrying.{unsettled as not_settled, waits, waits_over, writes_cycles, next_cycle, SendsPackets, HasCycle, HasCycles, dies, dies_late, dies_idle, loses, starts, goes_on}
+use Rattle.fw_model_run.specs.Carrying.{transacts, shows, commanded, inserts, ejects, ejects_nothing, SendsAll, quiet, sends, becomes_candidate, stays_candidate, contends, dubs, ends}
+use Rattle.fw_model_run.specs.Rules.{IsOrder}
+use Rattle.fw_model_run.specs.Runs.{Run, begun, and_then}
+use Rattle.fw_model_run.specs.Recording.{heard_in}
+use Rattle.fw_script_command.specs.declared.command.Command.TheVariants as Commands
+use Rattle.fw_order.specs.declared.order.Order.TheVariants as order
+use Rattle.fw_order.specs.declared.rule.RuleFault.TheVariants.{Guarded}
 use Rattle.fw_csr.specs.declared.low_offset.TheConstants.{BUS_MANAGER_ID}
-use Rattle.fw_run.specs.Named.{is_guarded_at, is_guarded_in}
-use Rattle.fw_run.specs.Rules.{IsGuarded}
-use Rattle.fw_watch_runs.specs.Elsewhere.{SwapsElsewhere, IsElsewhere, AreElsewhere}
+use Rattle.fw_model_run.specs.Named.{is_guarded_at, is_guarded_in}
+use Rattle.fw_model_run.specs.Rules.{IsGuarded}
+use Rattle.fw_watch_runs.specs.Elsewhere.{SwapsElsewhere}
 
 -- the order swaps at no register of the resource manager that holds channels and units, and at no plug register
 abbrev pub OrdersElsewhere : Order → Type 0

@@ -1,45 +1,40 @@
 -- The entries of each action of a run.
-use Rattle.std.proofs.Common.{◌≡◌, refl, ap, sym, subst, ℕ, ◌+◌, Bool, true, false, List, [], ◌∷◌, ◌++◌, ◌==◌, is_some, if◌then◌else◌, Option, Some, None}
-use Rattle.std.specs.Bool.{⊤}
-use Rattle.std.specs.List.{All}
+use Rattle.fw_watch_runs.proofs.Common.{◌≡◌, refl, ap, sym, subst, ℕ, ◌+◌, Bool, true, false, List, [], ◌∷◌, ◌++◌, ◌==◌, is_some, if◌then◌else◌, Option, Some, None, ⊤, All, Head, Register}
+use Rattle.fw_watch_runs.proofs.Common.{register_at, Entry, Async, Iso, End, Timed, packet_of, Action, HalfStep, Unsettled, Pass, EndSecond, Ask, Answer, Contend, KeepBlock, Step, Steps, at_most}
+use Rattle.fw_watch_runs.proofs.Common.{half, target_node, transaction_head, access_request, reply_from, State, first_state, IsLabelledIn, IsOrderly, IsElsewhere, AreElsewhere}
 use Rattle.std.proofs.lemmas.List.Elements.{All-cons, All-nil}
-use Rattle.fw_async.specs.declared.packet.Head.{Head}
-use Rattle.fw_remarks.specs.declared.register.Register.{Register}
-use Rattle.fw_remarks.specs.Registers.{plug_number, register_at}
+use Rattle.fw_watch_remarks.specs.Registers.{plug_number}
 use Rattle.fw_csr.specs.declared.offset.TheConstants.{BUS_MANAGER_ID}
-use Rattle.fw_entry.specs.declared.entry.Entry.{Entry}
-use Rattle.fw_entry.specs.declared.entry.Entry.TheVariants.{Reset as ResetOf, Async, Iso, End}
-use Rattle.fw_entry.specs.declared.entry.Timed.{Timed}
-use Rattle.fw_entry.specs.Log.{InOrder}
-use Rattle.fw_account.specs.Words.{node_of}
-use Rattle.fw_command.specs.declared.command.Command.{Command}
-use Rattle.fw_command.specs.declared.command.Command.TheVariants as Commands
+use Rattle.fw_log_entry.specs.declared.entry.Entry.TheVariants.{Reset as ResetOf}
+use Rattle.fw_log_entry.specs.Log.{InOrder}
+use Rattle.fw_model_account.specs.Words.{node_of}
+use Rattle.fw_script_command.specs.declared.command.Command.{Command}
+use Rattle.fw_script_command.specs.declared.command.Command.TheVariants as Commands
 use Rattle.fw_manager.specs.Bids.{CandidateState, bid_request, stage_in}
 use Rattle.fw_manager.specs.declared.candidate.Stage.{Stage}
 use Rattle.fw_manager.specs.declared.candidate.Stage.TheVariants.{Fresh, Asked, Heard, Answered}
 use Rattle.fw_manager.specs.declared.bid.Bid.TheVariants.{Elected, Defeated}
-use Rattle.fw_node.specs.Packets.{packet_of}
-use Rattle.fw_run.specs.Actions.{Action, Withhold, AddDevice, AddCable, ResetBus, StartConnection, StartBreak, HalfStep, Rest, Unsettled, Pass, EndSecond, Die, CarryOut, Lose, TellLoss, Start, Ask, Answer, ShowWord, SendCommand, SendFrame, Receive, InsertTape, EjectTape, StartCycle, SendPacket, BecomeCandidate, Contend, TieReel, KeepBlock, Finish, Step, Steps}
-use Rattle.fw_run.specs.Afterwards.{Resets, Declares, Joins, Takes}
-use Rattle.fw_run.specs.Bidding.{bid_head, bid_said, bid_at, bid_step, own_node, epoch_at, Bids}
-use Rattle.fw_run.specs.Entries.{second_over, died, started, inserted, ejected, dubbing, unsettled, lost, withheld, shown_entry}
-use Rattle.fw_run.specs.Streams.{cycle_start, stream_packet, bytes_of}
-use Rattle.fw_run.specs.Frames.{command_write, response_write, request_of, frame_head, frame_packet, Sends, Receives}
-use Rattle.fw_run.specs.Giving.{at_most}
-use Rattle.fw_run.specs.HalfSteps.{half, is_waiting}
-use Rattle.fw_run.specs.Logs.{HasNoEnd}
-use Rattle.fw_run.specs.Runs.{Run}
-use Rattle.fw_run.specs.Spaces.{target_node, transaction_head, access_request, reply_from, read_at}
-use Rattle.fw_run.specs.State.{State, first_state, is_on, is_deaf}
-use Rattle.fw_run.proofs.Audits.{run_audited}
-use Rattle.fw_run.proofs.Logs.{run_opens, run_spells}
-use Rattle.fw_run.proofs.Runs.{run_steps}
-use Rattle.fw_watch_laws.specs.Orderly.{IsLabelled, IsLabelledIn, IsOrderly}
+use Rattle.fw_model_run.specs.Actions.{Withhold, AddDevice, AddCable, ResetBus, StartConnection, StartBreak, Rest, Die, CarryOut, Lose, TellLoss, Start}
+use Rattle.fw_model_run.specs.Actions.{ShowWord, SendCommand, SendFrame, Receive, InsertTape, EjectTape, StartCycle, SendPacket, BecomeCandidate, TieReel, Finish}
+use Rattle.fw_model_run.specs.Afterwards.{Resets, Declares, Joins, Takes}
+use Rattle.fw_model_run.specs.Bidding.{bid_head, bid_said, bid_at, bid_step, own_node, epoch_at, Bids}
+use Rattle.fw_model_run.specs.Entries.{second_over, died, started, inserted, ejected, dubbing, unsettled, lost, withheld, shown_entry}
+use Rattle.fw_model_run.specs.Streams.{cycle_start, stream_packet, bytes_of}
+use Rattle.fw_model_run.specs.Frames.{command_write, response_write, request_of, frame_head, frame_packet, Sends, Receives}
+use Rattle.fw_model_run.specs.HalfSteps.{is_waiting}
+use Rattle.fw_model_run.specs.Logs.{HasNoEnd}
+use Rattle.fw_model_run.specs.Runs.{Run}
+use Rattle.fw_model_run.specs.Spaces.{read_at}
+use Rattle.fw_model_run.specs.State.{is_on, is_deaf}
+use Rattle.fw_model_run.proofs.Audits.{run_audited}
+use Rattle.fw_model_run.proofs.Logs.{run_opens, run_spells}
+use Rattle.fw_model_run.proofs.Runs.{run_steps}
+use Rattle.fw_watch_laws.specs.Orderly.{IsLabelled}
 use Rattle.fw_watch_laws.proofs.AtManager.{swap_at_manager}
 use Rattle.fw_watch_laws.proofs.Many.{none_too_many}
 use Rattle.fw_watch_laws.proofs.More.{none_more}
 use Rattle.fw_watch_laws.proofs.Several.{none_several}
-use Rattle.fw_watch_runs.specs.Elsewhere.{IsElsewhere, AreElsewhere, HasNoBadSwap}
+use Rattle.fw_watch_runs.specs.Elsewhere.{HasNoBadSwap}
 use Rattle.fw_watch_runs.proofs.Labelled.{IsLabelledSome, response_labelled, response_some, script_labelled, frame_labelled, half_labelled}
 use Rattle.fw_watch_runs.proofs.RunsElsewhere.{run_elsewhere}
 

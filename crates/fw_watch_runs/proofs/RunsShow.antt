@@ -1,32 +1,18 @@
 -- What `watch` sees of the log of a run is the account's.
-use Rattle.std.proofs.Common.{◌≡◌, refl, ap, sym, ◌∙◌, subst, ℕ, List, [], ◌∷◌, ◌++◌, Option, Some, None, IsTrue, arith}
-use Rattle.std.specs.List.{All}
-use Rattle.fw_async.specs.declared.packet.Head.{Head}
-use Rattle.fw_async.specs.declared.packet.Packet.{Packet}
-use Rattle.fw_async.specs.declared.packet.Packet.TheVariants.{WriteQuadlet, WriteBlock, WriteReply, ReadQuadlet, ReadBlock, ReadQuadletReply, ReadBlockReply, CycleStart, Lock, LockReply}
-use Rattle.fw_entry.specs.declared.entry.Entry.{Entry}
-use Rattle.fw_entry.specs.declared.entry.Entry.TheVariants.{Reset, Async, Iso, Event, Outcome, Shown, End}
-use Rattle.fw_entry.specs.declared.entry.Timed.{Timed}
-use Rattle.fw_account.specs.Account.{Account}
-use Rattle.fw_known.specs.declared.asked.Asked.{Asked}
-use Rattle.fw_known.specs.declared.state.State.{State as Known}
-use Rattle.fw_known.specs.Standing.{standing_behind}
-use Rattle.fw_known.specs.States.{no_state}
-use Rattle.fw_watch.specs.Steps.{after}
+use Rattle.fw_watch_runs.proofs.Common.{◌≡◌, refl, ap, sym, ◌∙◌, subst, ℕ, List, [], ◌∷◌, ◌++◌, Option, Some, None, IsTrue, arith, All, Head, Packet, WriteQuadlet, WriteBlock, WriteReply, ReadQuadlet}
+use Rattle.fw_watch_runs.proofs.Common.{ReadBlock, ReadQuadletReply, ReadBlockReply, CycleStart, LockReply, Entry, Reset, Async, Iso, Event, Outcome, Shown, End, Timed, Account, Asked}
+use Rattle.fw_watch_runs.proofs.Common.{standing_behind, after, packet_of, Access, Read, Swap, Ask, Step, at_cycle, access_request, target_node, transaction_head, State, first_state, IsElsewhere}
+use Rattle.fw_async.specs.declared.packet.Packet.TheVariants.{Lock}
+use Rattle.fw_watch_known.specs.declared.state.State.{State as Known}
+use Rattle.fw_watch_known.specs.States.{no_state}
 use Rattle.fw_watch.specs.Watched.{known_from, known}
 use Rattle.fw_watch.proofs.WatchLaws.{known_from_more}
-use Rattle.fw_node.specs.Packets.{packet_of}
-use Rattle.fw_run.specs.declared.order.Access.{Access}
-use Rattle.fw_run.specs.declared.order.Access.TheVariants.{Read, Swap}
-use Rattle.fw_run.specs.declared.order.Transaction.{Transaction}
-use Rattle.fw_run.specs.Actions.{Ask, Answer as AnswerIt, Answers, Step}
-use Rattle.fw_run.specs.Giving.{at_cycle}
-use Rattle.fw_run.specs.Spaces.{access_request, target_node, transaction_head}
-use Rattle.fw_run.specs.State.{State, first_state, is_linked}
-use Rattle.fw_run.proofs.Transactions.{response_is}
+use Rattle.fw_order.specs.declared.order.Transaction.{Transaction}
+use Rattle.fw_model_run.specs.Actions.{Answer as AnswerIt, Answers}
+use Rattle.fw_model_run.specs.State.{is_linked}
+use Rattle.fw_model_run.proofs.Transactions.{response_is}
 use Rattle.fw_watch_laws.specs.Orderly.{IsApartOf, IsApartIn}
 use Rattle.fw_watch_laws.proofs.Passing.{known_push}
-use Rattle.fw_watch_runs.specs.Elsewhere.{IsElsewhere}
 use Rattle.fw_watch_runs.proofs.Awaited.{IsOwned, Stand, asked_standing, answered_standing}
 use Rattle.fw_watch_runs.proofs.AwaitedEntries.{packet_stands, step_owned}
 use Rattle.fw_watch_runs.proofs.Beside.{IsBesideIn}

@@ -1,33 +1,16 @@
 -- The log of a run shows the account's words: its entries, and all of it.
-use Rattle.std.proofs.Common.{◌≡◌, ◌≢◌, refl, ap, sym, ◌∙◌, subst, ℕ, ◌≤◌, List, [], ◌∷◌, ◌++◌, Option, Some, None, append_assoc, arith}
-use Rattle.std.specs.List.{All, count_by}
+use Rattle.fw_watch_runs.proofs.Common.{◌≡◌, ◌≢◌, refl, ap, sym, ◌∙◌, subst, ℕ, ◌≤◌, List, [], ◌∷◌, ◌++◌, Option, Some, None, arith, All, count_by, same_Some, Procedure, label_code, Head}
+use Rattle.fw_watch_runs.proofs.Common.{ReadQuadletReply, Reply, Async, Timed, Account, Asked, answer_of, packet_of, Access, Read, Swap, Action, Ask, Answer, Step, Steps, at_cycle, IsGood, reply_from}
+use Rattle.fw_watch_runs.proofs.Common.{access_request, target_node, transaction_head, State, first_state, IsOrderly, AreElsewhere}
+use Rattle.std.proofs.Common.{append_assoc}
 use Rattle.std.proofs.lemmas.List.Elements.{All-cons, All-nil}
-use Rattle.std.proofs.lemmas.Option.{same_Some}
-use Rattle.fw_base.specs.declared.label.Label.TheVariants.{Procedure}
-use Rattle.fw_base.specs.Labels.{label_code}
-use Rattle.fw_async.specs.declared.packet.Head.{Head}
-use Rattle.fw_async.specs.declared.packet.Packet.TheVariants.{ReadQuadletReply}
-use Rattle.fw_csr.specs.declared.reply.Reply.{Reply}
-use Rattle.fw_entry.specs.declared.entry.Entry.TheVariants.{Async}
-use Rattle.fw_entry.specs.declared.entry.Timed.{Timed}
-use Rattle.fw_account.specs.Account.{Account}
-use Rattle.fw_account.specs.Words.{word_at}
-use Rattle.fw_known.specs.declared.asked.Asked.{Asked}
-use Rattle.fw_known.specs.declared.asked.Answer.{Answer as Given}
-use Rattle.fw_known.specs.Standing.{answer_of}
+use Rattle.fw_model_account.specs.Words.{word_at}
+use Rattle.fw_watch_known.specs.declared.asked.Answer.{Answer as Given}
 use Rattle.fw_watch.specs.Watched.{known}
-use Rattle.fw_node.specs.Packets.{packet_of}
-use Rattle.fw_run.specs.declared.order.Access.{Access}
-use Rattle.fw_run.specs.declared.order.Access.TheVariants.{Read, Swap}
-use Rattle.fw_run.specs.declared.order.Transaction.{Transaction}
-use Rattle.fw_run.specs.Actions.{Action, Ask, Answer, Answers, Step, Steps}
-use Rattle.fw_run.specs.Giving.{at_cycle}
-use Rattle.fw_run.specs.Good.{IsGood}
-use Rattle.fw_run.specs.Spaces.{reply_from, access_request, target_node, transaction_head}
-use Rattle.fw_run.specs.State.{State, first_state}
-use Rattle.fw_run.proofs.Transactions.{response_is, access_response}
-use Rattle.fw_watch_laws.specs.Orderly.{IsApartOf, IsApartIn, IsOrderly, ShowsAccount, offset_of}
-use Rattle.fw_watch_runs.specs.Elsewhere.{AreElsewhere}
+use Rattle.fw_order.specs.declared.order.Transaction.{Transaction}
+use Rattle.fw_model_run.specs.Actions.{Answers}
+use Rattle.fw_model_run.proofs.Transactions.{response_is, access_response}
+use Rattle.fw_watch_laws.specs.Orderly.{IsApartOf, IsApartIn, ShowsAccount, offset_of}
 use Rattle.fw_watch_runs.proofs.Awaited.{is_other, none_other}
 use Rattle.fw_watch_runs.proofs.Beside.{IsBesideIn}
 use Rattle.fw_watch_runs.proofs.BesideActions.{step_beside}

@@ -1,19 +1,15 @@
 -- What `watch` does not find in the log of a run.
-use Rattle.std.proofs.Common.{List, [], ◌∷◌, ◌++◌}
-use Rattle.fw_entry.specs.declared.entry.Timed.{Timed}
-use Rattle.fw_command.specs.declared.command.Command.{Command}
-use Rattle.fw_command.specs.declared.command.Command.TheVariants as Commands
-use Rattle.fw_run.specs.Actions.{Action, Steps}
-use Rattle.fw_run.specs.Logs.{HasNoEnd}
-use Rattle.fw_run.specs.Runs.{Run}
-use Rattle.fw_run.specs.State.{State, first_state}
-use Rattle.fw_run.proofs.Runs.{run_steps}
+use Rattle.fw_watch_runs.proofs.Common.{List, [], ◌∷◌, ◌++◌, Timed, Action, Steps, State, first_state, IsOrderly, AreElsewhere}
+use Rattle.fw_script_command.specs.declared.command.Command.{Command}
+use Rattle.fw_script_command.specs.declared.command.Command.TheVariants as Commands
+use Rattle.fw_model_run.specs.Logs.{HasNoEnd}
+use Rattle.fw_model_run.specs.Runs.{Run}
+use Rattle.fw_model_run.proofs.Runs.{run_steps}
 use Rattle.fw_watch_laws.specs.ChangedUnseen.{tells_unseen}
-use Rattle.fw_watch_laws.specs.Orderly.{IsOrderly, is_new_in_second, HasNone}
+use Rattle.fw_watch_laws.specs.Orderly.{is_new_in_second, HasNone}
 use Rattle.fw_watch_laws.proofs.Known.{none_unseen}
 use Rattle.fw_watch_laws.proofs.NewInSecond.{none_new}
 use Rattle.fw_watch_streams.proofs.Tuned.{none_two, none_plug, none_free}
-use Rattle.fw_watch_runs.specs.Elsewhere.{AreElsewhere}
 use Rattle.fw_watch_runs.specs.Silent.{IsSeenWhole, HasNoOddPacket, is_beyond_held}
 use Rattle.fw_watch_runs.proofs.HeldAlone.{held_alone}
 use Rattle.fw_watch_runs.proofs.InTime.{run_timely}

@@ -1,24 +1,14 @@
 -- In a run isochronous packets are those of plugs that talk, and come in time.
-use Rattle.std.proofs.Common.{◌≡◌, ap, sym, ◌∙◌, subst, ℕ, List, [], ◌∷◌, ◌++◌, Option, Some, None, IsTrue, arith}
-use Rattle.std.proofs.lemmas.Option.{same_Some}
-use Rattle.fw_async.specs.declared.packet.Packet.{Packet}
+use Rattle.fw_watch_runs.proofs.Common.{◌≡◌, ap, sym, ◌∙◌, subst, ℕ, List, [], ◌∷◌, ◌++◌, Option, Some, None, IsTrue, arith, same_Some, Packet, Entry, Async, Iso, Timed, Account, Action, Ask, Answer}
+use Rattle.fw_watch_runs.proofs.Common.{Step, Steps, at_cycle, at_most, IsGood, State, first_state, AreElsewhere}
 use Rattle.fw_cip.specs.declared.packet.IsoPacket.{IsoPacket}
-use Rattle.fw_entry.specs.declared.entry.Entry.{Entry}
-use Rattle.fw_entry.specs.declared.entry.Entry.TheVariants.{Async, Iso}
-use Rattle.fw_entry.specs.declared.entry.Timed.{Timed}
-use Rattle.fw_account.specs.Account.{Account}
-use Rattle.fw_account.specs.Fold.{next_account}
-use Rattle.fw_run.specs.Actions.{Action, Ask, Answer, Step, Steps}
-use Rattle.fw_run.specs.Giving.{at_cycle, at_most}
-use Rattle.fw_run.specs.Good.{IsGood}
-use Rattle.fw_run.specs.State.{State, first_state}
-use Rattle.fw_run.proofs.Along.{step_led}
-use Rattle.fw_run.proofs.Leads.{NextIs}
-use Rattle.fw_run.proofs.Led.{Led}
-use Rattle.fw_run.proofs.Steps.{step_good}
+use Rattle.fw_model_account.specs.Fold.{next_account}
+use Rattle.fw_model_run.proofs.Along.{step_led}
+use Rattle.fw_model_run.proofs.Leads.{NextIs}
+use Rattle.fw_model_run.proofs.Led.{Led}
+use Rattle.fw_model_run.proofs.Steps.{step_good}
 use Rattle.fw_watch_laws.specs.Orderly.{reset_cycle, last_reset}
 use Rattle.fw_watch_streams.specs.Streams.{IsOfTalker, SendsOfTalkers, HasTimelyPackets}
-use Rattle.fw_watch_runs.specs.Elsewhere.{AreElsewhere}
 use Rattle.fw_watch_runs.proofs.BesideActions.{step_beside}
 use Rattle.fw_watch_runs.proofs.Beside.{IsBesideIn}
 use Rattle.fw_watch_runs.proofs.InTime.{IsSince, since_keeps, since_first, last_append}

@@ -1,33 +1,24 @@
 -- What a read of the script at a watched register is answered is the account's word.
-use Rattle.std.proofs.Common.{◌≡◌, ◌≢◌, inl, inr, refl, ap, sym, ◌∙◌, ℕ, ◌+◌, ◌-◌, nat_le, Bool, true, List, if◌then◌else◌, Option, Some, None, option_map, IsTrue, arith}
-use Rattle.std.specs.List.{All}
-use Rattle.std.proofs.lemmas.Bool.Decides.{nat_tests}
-use Rattle.std.proofs.lemmas.Option.{same_Some}
-use Rattle.fw_base.specs.declared.label.Label.TheVariants.{Procedure}
-use Rattle.fw_base.specs.Labels.{label_code}
-use Rattle.fw_async.specs.declared.packet.Head.{Head}
-use Rattle.fw_async.specs.declared.packet.Packet.TheVariants.{ReadQuadletReply, LockReply}
-use Rattle.fw_csr.specs.declared.reply.Reply.{Reply}
+use Rattle.fw_watch_runs.proofs.Common.{◌≡◌, ◌≢◌, refl, ap, sym, ◌∙◌, ℕ, ◌+◌, Bool, true, List, if◌then◌else◌, Option, Some, None, option_map, IsTrue, arith, All, nat_tests, same_Some, Procedure}
+use Rattle.fw_watch_runs.proofs.Common.{label_code, Head, ReadQuadletReply, LockReply, Reply, Asked, answer_of, Access, Read, Swap, IsGood, reply_from, access_request, target_node, transaction_head}
+use Rattle.fw_watch_runs.proofs.Common.{State}
+use Rattle.std.proofs.Common.{inl, inr, ◌-◌, nat_le}
 use Rattle.fw_csr.specs.Requests.{request_at}
-use Rattle.fw_entry.specs.Network.{first_id}
-use Rattle.fw_account.specs.Words.{Register as Place, word_of, word_at, register_at as place_at, register_of, first_address}
-use Rattle.fw_account.proofs.Places.{register_at_address}
-use Rattle.fw_faults.specs.Looked.{is_watched}
-use Rattle.fw_known.specs.declared.asked.Asked.{Asked}
-use Rattle.fw_known.specs.declared.asked.Answer.{Answer}
-use Rattle.fw_known.specs.Standing.{node_of, answer_of}
+use Rattle.fw_log_entry.specs.Network.{first_id}
+use Rattle.fw_model_account.specs.Words.{Register as Place, word_of, word_at, register_at as place_at, register_of, first_address}
+use Rattle.fw_model_account.proofs.Places.{register_at_address}
+use Rattle.fw_model_audit.specs.Looked.{is_watched}
+use Rattle.fw_watch_known.specs.declared.asked.Answer.{Answer}
+use Rattle.fw_watch_known.specs.Standing.{node_of}
 use Rattle.fw_node.specs.Packets.{response_head, old_bytes}
 use Rattle.fw_node.specs.Space as Spaces
-use Rattle.fw_run.specs.declared.order.Access.{Access}
-use Rattle.fw_run.specs.declared.order.Access.TheVariants.{Read, Swap}
-use Rattle.fw_run.specs.declared.order.Transaction.{Transaction}
-use Rattle.fw_run.specs.Good.{IsGood}
-use Rattle.fw_run.specs.Spaces.{space_at, reply_from, access_request, target_node, transaction_head}
-use Rattle.fw_run.specs.State.{State, number_in, is_linked}
-use Rattle.fw_run.proofs.Answers.{refused}
-use Rattle.fw_run.proofs.Transactions.{linked_number_of, access_response}
-use Rattle.fw_run.proofs.Watched.{space_lacks}
-use Rattle.fw_run.proofs.Words.{node_space_of, answers_word}
+use Rattle.fw_order.specs.declared.order.Transaction.{Transaction}
+use Rattle.fw_model_run.specs.Spaces.{space_at}
+use Rattle.fw_model_run.specs.State.{number_in, is_linked}
+use Rattle.fw_model_run.proofs.Answers.{refused}
+use Rattle.fw_model_run.proofs.Transactions.{linked_number_of, access_response}
+use Rattle.fw_model_run.proofs.Watched.{space_lacks}
+use Rattle.fw_model_run.proofs.Words.{node_space_of, answers_word}
 use Rattle.fw_watch_laws.specs.Orderly.{offset_of}
 use Rattle.fw_watch_laws.proofs.Answered.{IsReadAnswer, of_all}
 use Rattle.fw_watch_laws.proofs.Offsets.{offset_at, watched}

@@ -1,35 +1,26 @@
 -- Of each node at most one request of a procedure stands in `watch`.
-use Rattle.std.proofs.Common.{◌≡◌, refl, ap, sym, ◌∙◌, subst, ℕ, ◌+◌, ◌≤◌, ◌==◌, ◌&&◌, not, Bool, true, false, List, [], ◌∷◌, ◌++◌, length, drop, if◌then◌else◌, Option, Some, None, is_none, get_or, arith, true≢false}
-use Rattle.std.specs.List.{filter, count_by}
-use Rattle.std.proofs.lemmas.Bool.{eqb-true}
-use Rattle.std.proofs.lemmas.Option.{same_Some}
-use Rattle.fw_base.specs.declared.label.Label.TheVariants.{Procedure}
-use Rattle.fw_base.specs.Labels.{label_code}
-use Rattle.fw_async.specs.declared.packet.Head.{Head}
-use Rattle.fw_async.specs.declared.packet.Packet.{Packet}
-use Rattle.fw_async.specs.declared.packet.Packet.TheVariants.{WriteQuadlet, WriteBlock, WriteReply, ReadQuadlet, ReadBlock, ReadQuadletReply, ReadBlockReply, CycleStart, Lock as LockRequest, LockReply}
-use Rattle.fw_entry.specs.declared.codes.event.TheConstants as Events
-use Rattle.fw_entry.specs.declared.entry.EventEntry.{EventEntry}
-use Rattle.fw_entry.specs.declared.entry.Entry.{Entry}
-use Rattle.fw_entry.specs.declared.entry.Entry.TheVariants.{Reset, Async, Iso, Event, Outcome, Shown, End}
-use Rattle.fw_entry.specs.declared.entry.Timed.{Timed}
-use Rattle.fw_entry.specs.Network.{device_of_id}
-use Rattle.fw_account.specs.Account.{Account, Operation, Reads, Locks, Request}
-use Rattle.fw_account.specs.Fold.{next_account}
-use Rattle.fw_account.specs.Packets.{asked as asked_in, asked_by, after_packet}
-use Rattle.fw_remarks.specs.declared.register.Register.{Register}
-use Rattle.fw_remarks.specs.Registers.{register_at}
-use Rattle.fw_known.specs.declared.asked.Asking.{Asking}
-use Rattle.fw_known.specs.declared.asked.Asking.TheVariants.{Read}
-use Rattle.fw_known.specs.declared.asked.Asked.{Asked}
-use Rattle.fw_known.specs.declared.channel.Channel.{Channel}
-use Rattle.fw_known.specs.declared.second.Second.{Second}
-use Rattle.fw_known.specs.declared.state.State.{State}
-use Rattle.fw_known.specs.Heard.{after_heard}
-use Rattle.fw_known.specs.Standing.{lock_of, is_of, answers, is_from, answer_of, latest, without_same, without_answered, without_source, asked_at_register, with_request, standing_behind}
-use Rattle.fw_known.specs.States.{reset_state, ended_second, node_of_device, buried, after_death}
+use Rattle.fw_watch_runs.proofs.Common.{◌≡◌, refl, ap, sym, ◌∙◌, subst, ℕ, ◌+◌, ◌≤◌, ◌==◌, ◌&&◌, not, Bool, true, false, List, [], ◌∷◌, ◌++◌, length, if◌then◌else◌, Option, Some, None, get_or, arith}
+use Rattle.fw_watch_runs.proofs.Common.{count_by, eqb-true, same_Some, Procedure, label_code, Head, Packet, WriteQuadlet, WriteBlock, WriteReply, ReadQuadlet, ReadBlock, ReadQuadletReply}
+use Rattle.fw_watch_runs.proofs.Common.{ReadBlockReply, CycleStart, LockReply, Entry, Reset, Async, Iso, Event, Outcome, Shown, End, Timed, device_of_id, Account, Register, register_at, Asked}
+use Rattle.fw_watch_runs.proofs.Common.{answer_of, standing_behind, after}
+use Rattle.std.proofs.Common.{drop, is_none, true≢false}
+use Rattle.std.specs.List.{filter}
+use Rattle.fw_async.specs.declared.packet.Packet.TheVariants.{Lock as LockRequest}
+use Rattle.fw_log_entry.specs.declared.codes.event.TheConstants as Events
+use Rattle.fw_log_entry.specs.declared.entry.EventEntry.{EventEntry}
+use Rattle.fw_model_account.specs.Account.{Operation, Reads, Locks, Request}
+use Rattle.fw_model_account.specs.Fold.{next_account}
+use Rattle.fw_model_account.specs.Packets.{asked as asked_in, asked_by, after_packet}
+use Rattle.fw_watch_known.specs.declared.asked.Asking.{Asking}
+use Rattle.fw_watch_known.specs.declared.asked.Asking.TheVariants.{Read}
+use Rattle.fw_watch_known.specs.declared.channel.Channel.{Channel}
+use Rattle.fw_watch_known.specs.declared.second.Second.{Second}
+use Rattle.fw_watch_known.specs.declared.state.State.{State}
+use Rattle.fw_watch_known.specs.Heard.{after_heard}
+use Rattle.fw_watch_known.specs.Standing.{lock_of, is_of, answers, is_from, latest, without_same, without_answered, without_source, asked_at_register, with_request}
+use Rattle.fw_watch_known.specs.States.{reset_state, ended_second, node_of_device, buried, after_death}
 use Rattle.fw_watch.specs.Answering.{with_packet, after_packet as packet_after}
-use Rattle.fw_watch.specs.Steps.{shown_at, after_shown, after_event, after_what, after}
+use Rattle.fw_watch.specs.Steps.{shown_at, after_shown, after_event, after_what}
 use Rattle.fw_watch_laws.proofs.Frames.{answered_frame, word_frame, aside, ticked_only}
 use Rattle.fw_watch_runs.proofs.Alone.{one, count_filter, count_drop, count_last, count_none}
 use Rattle.fw_watch_runs.proofs.Owed.{IsOwed, OwesOwn, AllOwed, none_of}

@@ -1,17 +1,12 @@
 -- The action that writes an entry of a run, and what actions keep on the way to it.
-use Rattle.std.proofs.Common.{◌≡◌, refl, ap, sym, ◌∙◌, subst, List, [], ◌∷◌, ◌++◌, Option, Some, None, append_assoc}
+use Rattle.fw_watch_runs.proofs.Common.{◌≡◌, refl, ap, sym, ◌∙◌, subst, List, [], ◌∷◌, ◌++◌, Option, Some, None, Entry, Timed, Action, Step, Steps, at_cycle, at_most, IsGood, State, first_state}
+use Rattle.fw_watch_runs.proofs.Common.{IsElsewhere, AreElsewhere}
+use Rattle.std.proofs.Common.{append_assoc}
 use Rattle.std.proofs.lemmas.List.{append-nil}
-use Rattle.fw_entry.specs.declared.entry.Entry.{Entry}
-use Rattle.fw_entry.specs.declared.entry.Timed.{Timed}
-use Rattle.fw_account.specs.Fold.{no_account, account_of, entries_of}
-use Rattle.fw_run.specs.Actions.{Action, Step, Steps}
-use Rattle.fw_run.specs.Giving.{at_cycle, at_most}
-use Rattle.fw_run.specs.Good.{IsGood}
-use Rattle.fw_run.specs.State.{State, first_state}
-use Rattle.fw_run.proofs.Along.{Fronts, step_led, steps_along, along_account, steps_front}
-use Rattle.fw_run.proofs.Steps.{step_good, steps_good}
-use Rattle.fw_run.proofs.Times.{first_good}
-use Rattle.fw_watch_runs.specs.Elsewhere.{IsElsewhere, AreElsewhere}
+use Rattle.fw_model_account.specs.Fold.{no_account, account_of, entries_of}
+use Rattle.fw_model_run.proofs.Along.{Fronts, step_led, steps_along, along_account, steps_front}
+use Rattle.fw_model_run.proofs.Steps.{step_good, steps_good}
+use Rattle.fw_model_run.proofs.Times.{first_good}
 
 -- an action that writes this entry after those
 pub record Writes (s : State) (xs : List Action) (front : List Timed) (e : Timed) : Type 0 where
@@ -93,7 +88,7 @@ next_elsewhere : (xs ys : List Action) (a : Action) → AreElsewhere (xs ++ a �
 next_elsewhere [] ys a e = e.0
 next_elsewhere (x ∷ xs) ys a e = next_elsewhere xs ys a e.1
 
--- a state after the first actions of a run, where it holds
+-- a state after the first actions of a run, if it holds
 pub record IsReached (R : List Timed → State → Type 0) (front : List Timed) (s : State) : Type 0 where
   pub good : IsGood s
   pub account : account_of (entries_of front) ≡ Some s.account
@@ -107,7 +102,7 @@ reached R k first xs front s e f = record {
   holds = steps_keep R k [] first_state s xs front first_good e f first;
 }
 
--- each front of the log is reached
+-- each prefix of the log is reached
 pub at_front : (R : List Timed → State → Type 0) → RunKeeps R → R [] first_state → (xs : List Action) (log front rest : List Timed) (s : State) → AreElsewhere xs
     → Steps first_state xs log s → log ≡ front ++ rest → (t : State) × IsReached R front t
 at_front R k first xs log front rest s e f is =

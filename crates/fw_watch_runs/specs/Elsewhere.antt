@@ -1,10 +1,10 @@
 -- What the script of a run swaps, and what `watch` then does not find in the log.
 use Rattle.std.specs.Prelude.{◌≡◌, ⊤, false, List, [], ◌∷◌}
-use Rattle.fw_entry.specs.declared.entry.Timed.{Timed}
-use Rattle.fw_run.specs.declared.order.Access.{Access}
-use Rattle.fw_run.specs.declared.order.Access.TheVariants.{Read, Swap}
-use Rattle.fw_run.specs.Actions.{Action, Ask}
-use Rattle.fw_run.specs.Named.{is_guarded_at}
+use Rattle.fw_log_entry.specs.declared.entry.Timed.{Timed}
+use Rattle.fw_order.specs.declared.order.Access.{Access}
+use Rattle.fw_order.specs.declared.order.Access.TheVariants.{Read, Swap}
+use Rattle.fw_model_run.specs.Actions.{Action, Ask}
+use Rattle.fw_model_run.specs.Named.{is_guarded_at}
 use Rattle.fw_watch_laws.specs.Orderly.{is_not_manager, is_too_many, is_several, is_more, HasNone}
 
 -- it is no swap at a register of the resource manager that holds channels or units, nor at a plug register

@@ -1,9 +1,9 @@
 -- What `watch` sees of the log of a run, and what it does not find there.
 use Rattle.std.specs.Prelude.{Bool, false, List}
-use Rattle.fw_entry.specs.declared.entry.Timed.{Timed}
-use Rattle.fw_remarks.specs.declared.remark.Remark.{Remark}
-use Rattle.fw_remarks.specs.declared.remark.Remark.TheVariants.{Held}
-use Rattle.fw_remarks.specs.Remarks.{is_finding}
+use Rattle.fw_log_entry.specs.declared.entry.Timed.{Timed}
+use Rattle.fw_watch_remarks.specs.declared.remark.Remark.{Remark}
+use Rattle.fw_watch_remarks.specs.declared.remark.Remark.TheVariants.{Held}
+use Rattle.fw_watch_remarks.specs.Remarks.{is_finding}
 use Rattle.fw_watch_laws.specs.Orderly.{ShowsAccount, HasTimelyResets, HasNone}
 use Rattle.fw_watch_streams.specs.Streams.{SendsOfTalkers, HasTimelyPackets, is_two_senders, is_not_taken, is_other_plug}
 

@@ -1,13 +1,13 @@
 //! Laws of `watch` on the logs of runs, each as the contract of an empty function.
 
 ghost use Rattle.std.specs.Prelude.{◌∷◌, [], ◌++◌, List};
-ghost use Rattle.fw_entry.specs.declared.entry.Timed.{Timed};
-ghost use Rattle.fw_command.specs.declared.command.Command.{Command};
-ghost use Rattle.fw_command.specs.declared.command.Command.TheVariants.{End};
-ghost use Rattle.fw_run.specs.Actions.{Action};
-ghost use Rattle.fw_run.specs.Logs.{HasNoEnd};
-ghost use Rattle.fw_run.specs.Runs.{Run};
-ghost use Rattle.fw_run.specs.State.{State};
+ghost use Rattle.fw_log_entry.specs.declared.entry.Timed.{Timed};
+ghost use Rattle.fw_script_command.specs.declared.command.Command.{Command};
+ghost use Rattle.fw_script_command.specs.declared.command.Command.TheVariants.{End};
+ghost use Rattle.fw_model_run.specs.Actions.{Action};
+ghost use Rattle.fw_model_run.specs.Logs.{HasNoEnd};
+ghost use Rattle.fw_model_run.specs.Runs.{Run};
+ghost use Rattle.fw_model_run.specs.State.{State};
 ghost use Rattle.fw_watch_laws.specs.ChangedUnseen.{tells_unseen};
 ghost use Rattle.fw_watch_laws.specs.Orderly.{IsOrderly, is_new_in_second, HasNone};
 ghost use Rattle.fw_watch_runs.specs.Elsewhere.{HasNoBadSwap};

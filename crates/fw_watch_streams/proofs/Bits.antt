@@ -1,11 +1,11 @@
--- A bit that is known to be set is set, where no bit that is known differs.
+-- A bit that is known to be set is set, if no bit that is known differs.
 use Rattle.std.proofs.Common.{◌≡◌, refl, ap, sym, ◌∙◌, ℕ, ◌+◌, ◌-◌, ◌/◌, ◌%◌, ◌^◌, ◌<◌, ◌==◌, ◌&&◌, Bool, true, min, bit_xor, arith}
 use Rattle.std.specs.Int.{bit_at}
 use Rattle.std.proofs.lemmas.Bool.{eqb-true, eq-eqb}
 use Rattle.std.proofs.lemmas.Nat.Bits.{bit_at_and, bit_at_xor, bit_at-zero, bit_at-lt}
 use Rattle.fw_words.specs.Quadlet.{field}
-use Rattle.fw_remarks.specs.declared.known.Known.{Known}
-use Rattle.fw_remarks.specs.Knowing.{bit_of, differing, is_known_set}
+use Rattle.fw_watch_remarks.specs.declared.known.Known.{Known}
+use Rattle.fw_watch_remarks.specs.Knowing.{bit_of, differing, is_known_set}
 
 -- bit i of a quadlet, from the highest on, is that of its number from the lowest
 bit_is : (w i : ℕ) → i < 32 → field w i i ≡ bit_at w (31 - i)

@@ -2,26 +2,27 @@
 use Rattle.std.proofs.Common.{◌≡◌, inl, inr, refl, ap, sym, ◌∙◌, subst, ℕ, ◌==◌, ◌&&◌, ◌||◌, Bool, true, false, if◌then◌else◌, Option, Some, None, is_none, is_some}
 use Rattle.std.proofs.lemmas.Option.{same_Some}
 use Rattle.fw_words.specs.Quadlet.{quadlet_at}
-use Rattle.fw_base.specs.declared.plug.PlugAt.{PlugAt}
-use Rattle.fw_base.specs.declared.label.Label.TheVariants.{Procedure}
-use Rattle.fw_base.specs.Labels.{label_code}
-use Rattle.fw_base.specs.Tables.{update_plug}
-use Rattle.fw_base.proofs.Tables.{update_plug_at}
+use Rattle.fw_terms.specs.declared.plug.PlugAt.{PlugAt}
+use Rattle.fw_terms.specs.declared.label.Label.TheVariants.{Procedure}
+use Rattle.fw_terms.specs.Labels.{label_code}
+use Rattle.fw_terms.specs.Tables.{update_plug}
+use Rattle.fw_terms.proofs.Tables.{update_plug_at}
 use Rattle.fw_plug.specs.Words.{Settings}
 use Rattle.fw_async.specs.declared.packet.Packet.{Packet}
-use Rattle.fw_async.specs.declared.packet.Packet.TheVariants.{WriteQuadlet, WriteBlock, WriteReply, ReadQuadlet, ReadBlock, ReadQuadletReply, ReadBlockReply, CycleStart, Lock as LockRequest, LockReply}
-use Rattle.fw_entry.specs.declared.codes.event.TheConstants.{SECOND_OVER, DIED, WITHHELD}
-use Rattle.fw_entry.specs.declared.entry.EventEntry.{EventEntry}
-use Rattle.fw_entry.specs.Network.{device_of_id}
-use Rattle.fw_account.specs.Account.{Account, Operation, Reads, Locks, Request, has_connection, talks}
-use Rattle.fw_account.specs.Events.{after_second, after_death, after_withholding}
-use Rattle.fw_account.specs.Fold.{after_event}
-use Rattle.fw_account.specs.Moves.{Move, AllocateChannel, AllocateUnits, ConnectFirst, ConnectOverlaid, ConnectInput, DisconnectInput, DisconnectOutput, ReleaseUnits, ReleaseChannel, after}
-use Rattle.fw_account.specs.Decode.{move_at}
-use Rattle.fw_account.specs.Sound.{IsSound}
-use Rattle.fw_account.specs.Words.{Register as Place, register_of}
-use Rattle.fw_account.specs.Packets.{asked, asked_by, Reply, Read as ReadReply, Locked, ended, moved, swapped, is_swapped, replied, is_reply_to, replied_to, answered, after_packet}
-use Rattle.fw_account.proofs.Deaths.{orphaned_has}
+use Rattle.fw_async.specs.declared.packet.Packet.TheVariants.{WriteQuadlet, WriteBlock, WriteReply, ReadQuadlet, ReadBlock}
+use Rattle.fw_async.specs.declared.packet.Packet.TheVariants.{ReadQuadletReply, ReadBlockReply, CycleStart, Lock as LockRequest, LockReply}
+use Rattle.fw_log_entry.specs.declared.codes.event.TheConstants.{SECOND_OVER, DIED, WITHHELD}
+use Rattle.fw_log_entry.specs.declared.entry.EventEntry.{EventEntry}
+use Rattle.fw_log_entry.specs.Network.{device_of_id}
+use Rattle.fw_model_account.specs.Account.{Account, Operation, Reads, Locks, Request, has_connection, talks}
+use Rattle.fw_model_account.specs.Events.{after_second, after_death, after_withholding}
+use Rattle.fw_model_account.specs.Fold.{after_event}
+use Rattle.fw_model_account.specs.Moves.{Move, AllocateChannel, AllocateUnits, ConnectFirst, ConnectOverlaid, ConnectInput, DisconnectInput, DisconnectOutput, ReleaseUnits, ReleaseChannel, after}
+use Rattle.fw_model_account.specs.Decode.{move_at}
+use Rattle.fw_model_account.specs.Sound.{IsSound}
+use Rattle.fw_model_account.specs.Words.{Register as Place, register_of}
+use Rattle.fw_model_account.specs.Packets.{asked, asked_by, Reply, Read as ReadReply, Locked, ended, moved, swapped, is_swapped, replied, is_reply_to, replied_to, answered, after_packet}
+use Rattle.fw_model_account.proofs.Deaths.{orphaned_has}
 
 -- a plug that goes on talking after it did before, and keeps what it kept
 abbrev pub GoesOn : Account → Account → Type 0

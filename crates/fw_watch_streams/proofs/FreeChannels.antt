@@ -1,27 +1,28 @@
 -- The channel of a packet is not known to be free, or the second after a bus reset runs.
-use Rattle.std.proofs.Common.{◌≡◌, ◌⊎◌, inl, inr, refl, ap, sym, ◌∙◌, subst, ℕ, ◌+◌, ◌-◌, ◌<◌, ◌≤◌, ◌==◌, ◌||◌, nat_lt, Bool, true, false, if◌then◌else◌, Option, Some, None, is_some, arith, true≢false}
+use Rattle.std.proofs.Common.{◌≡◌, ◌⊎◌, inl, inr, refl, ap, sym, ◌∙◌, subst, ℕ, ◌+◌, ◌-◌, ◌<◌, ◌≤◌}
+use Rattle.std.proofs.Common.{◌==◌, ◌||◌, nat_lt, Bool, true, false, if◌then◌else◌, Option, Some, None, is_some, arith, true≢false}
 use Rattle.std.proofs.lemmas.Bool.Decides.{nat_tests}
 use Rattle.std.proofs.lemmas.Option.{same_Some}
 use Rattle.fw_cip.specs.declared.packet.IsoPacket.{IsoPacket}
-use Rattle.fw_entry.specs.declared.codes.event.TheConstants as Events
-use Rattle.fw_entry.specs.declared.entry.ResetEntry.{ResetEntry}
-use Rattle.fw_entry.specs.declared.entry.Entry.{Entry}
-use Rattle.fw_entry.specs.declared.entry.Entry.TheVariants.{Reset, Async, Iso, Event, Outcome, Shown, End}
-use Rattle.fw_entry.specs.declared.entry.Timed.{Timed}
-use Rattle.fw_account.specs.Account.{Account, Allocation}
-use Rattle.fw_account.specs.Sound.{IsSound}
-use Rattle.fw_account.specs.Words.{ChannelsAvailable, word_of}
-use Rattle.fw_account.proofs.Events.{talker_is_allocated}
-use Rattle.fw_account.proofs.Places.{channels_high_at, channels_low_at}
-use Rattle.fw_remarks.specs.declared.known.Known.{Known}
-use Rattle.fw_remarks.specs.declared.known.Managed.{Managed}
-use Rattle.fw_remarks.specs.declared.register.Register.TheVariants.{ChannelsHigh, ChannelsLow}
-use Rattle.fw_remarks.specs.Knowing.{differing, is_known_set}
-use Rattle.fw_known.specs.declared.second.Second.{Second}
-use Rattle.fw_known.specs.declared.state.State.{State}
-use Rattle.fw_known.specs.Heard.{is_known_free, is_free}
-use Rattle.fw_known.specs.Standing.{answer_of}
-use Rattle.fw_known.specs.States.{manager_of, is_absent, begun, ticked_second, ended_second, known_of}
+use Rattle.fw_log_entry.specs.declared.codes.event.TheConstants as Events
+use Rattle.fw_log_entry.specs.declared.entry.ResetEntry.{ResetEntry}
+use Rattle.fw_log_entry.specs.declared.entry.Entry.{Entry}
+use Rattle.fw_log_entry.specs.declared.entry.Entry.TheVariants.{Reset, Async, Iso, Event, Outcome, Shown, End}
+use Rattle.fw_log_entry.specs.declared.entry.Timed.{Timed}
+use Rattle.fw_model_account.specs.Account.{Account, Allocation}
+use Rattle.fw_model_account.specs.Sound.{IsSound}
+use Rattle.fw_model_account.specs.Words.{ChannelsAvailable, word_of}
+use Rattle.fw_model_account.proofs.Events.{talker_is_allocated}
+use Rattle.fw_model_account.proofs.Places.{channels_high_at, channels_low_at}
+use Rattle.fw_watch_remarks.specs.declared.known.Known.{Known}
+use Rattle.fw_watch_remarks.specs.declared.known.Managed.{Managed}
+use Rattle.fw_watch_remarks.specs.declared.register.Register.TheVariants.{ChannelsHigh, ChannelsLow}
+use Rattle.fw_watch_remarks.specs.Knowing.{differing, is_known_set}
+use Rattle.fw_watch_known.specs.declared.second.Second.{Second}
+use Rattle.fw_watch_known.specs.declared.state.State.{State}
+use Rattle.fw_watch_known.specs.Heard.{is_known_free, is_free}
+use Rattle.fw_watch_known.specs.Standing.{answer_of}
+use Rattle.fw_watch_known.specs.States.{manager_of, is_absent, begun, ticked_second, ended_second, known_of}
 use Rattle.fw_watch.specs.Steps.{ticked, after}
 use Rattle.fw_watch_laws.specs.Orderly.{reset_cycle}
 use Rattle.fw_watch_laws.proofs.Agrees.{IsManager}

@@ -2,21 +2,21 @@
 use Rattle.std.proofs.Common.{◌≡◌, ◌≢◌, ◌⊎◌, inl, inr, refl, ap, sym, ◌∙◌, subst, ℕ, ◌+◌, ◌*◌, ◌<◌, ◌==◌, ◌&&◌, Bool, true, false, if◌then◌else◌, Option, Some, None, unwrap_or, arith, true≢false}
 use Rattle.std.proofs.lemmas.Bool.{eqb-true}
 use Rattle.std.proofs.lemmas.List.{get_or-replicate}
-use Rattle.fw_entry.specs.declared.entry.ResetEntry.{ResetEntry}
-use Rattle.fw_entry.specs.declared.entry.Entry.{Entry}
-use Rattle.fw_entry.specs.declared.entry.Entry.TheVariants.{Reset, Async, Iso, Event, Outcome, Shown, End}
-use Rattle.fw_entry.specs.declared.entry.Timed.{Timed}
-use Rattle.fw_account.specs.Account.{Account}
-use Rattle.fw_account.specs.Fold.{no_account}
-use Rattle.fw_account.specs.Words.{Register as Place, word_of}
-use Rattle.fw_account.proofs.Bounds.{register_there}
-use Rattle.fw_remarks.specs.declared.known.Known.{Known}
-use Rattle.fw_remarks.specs.declared.register.At.{At}
-use Rattle.fw_remarks.specs.declared.register.Register.{Register}
-use Rattle.fw_remarks.specs.declared.register.Register.TheVariants.{Bandwidth, ChannelsHigh, ChannelsLow, Output, Input}
-use Rattle.fw_remarks.specs.Knowing.{nothing_known, all_known, channel_of}
-use Rattle.fw_known.specs.declared.state.State.{State}
-use Rattle.fw_known.specs.States.{known_of, no_state}
+use Rattle.fw_log_entry.specs.declared.entry.ResetEntry.{ResetEntry}
+use Rattle.fw_log_entry.specs.declared.entry.Entry.{Entry}
+use Rattle.fw_log_entry.specs.declared.entry.Entry.TheVariants.{Reset, Async, Iso, Event, Outcome, Shown, End}
+use Rattle.fw_log_entry.specs.declared.entry.Timed.{Timed}
+use Rattle.fw_model_account.specs.Account.{Account}
+use Rattle.fw_model_account.specs.Fold.{no_account}
+use Rattle.fw_model_account.specs.Words.{Register as Place, word_of}
+use Rattle.fw_model_account.proofs.Bounds.{register_there}
+use Rattle.fw_watch_remarks.specs.declared.known.Known.{Known}
+use Rattle.fw_watch_remarks.specs.declared.register.At.{At}
+use Rattle.fw_watch_remarks.specs.declared.register.Register.{Register}
+use Rattle.fw_watch_remarks.specs.declared.register.Register.TheVariants.{Bandwidth, ChannelsHigh, ChannelsLow, Output, Input}
+use Rattle.fw_watch_remarks.specs.Knowing.{nothing_known, all_known, channel_of}
+use Rattle.fw_watch_known.specs.declared.state.State.{State}
+use Rattle.fw_watch_known.specs.States.{known_of, no_state}
 use Rattle.fw_watch.specs.Steps.{after}
 use Rattle.fw_watch_laws.specs.LastKnown.{IsPlace, Glimpse, glimpse, is_same_by, is_same, left_by, left, fixed}
 use Rattle.fw_watch_laws.specs.Orderly.{offset_of}

@@ -1,30 +1,31 @@
 -- No plug that is known on the channel of a packet is of another node than the packet's.
-use Rattle.std.proofs.Common.{◌≡◌, ◌≢◌, inl, inr, refl, ap, sym, ◌∙◌, subst, ℕ, zero, suc, ◌+◌, ◌-◌, ◌*◌, ◌<◌, ◌≤◌, ◌==◌, ◌&&◌, ◌||◌, nat_le, Bool, true, false, List, [], ◌∷◌, length, drop, if◌then◌else◌, Option, Some, None, get_or, slice_get, arith}
+use Rattle.std.proofs.Common.{◌≡◌, ◌≢◌, inl, inr, refl, ap, sym, ◌∙◌, subst, ℕ, zero, suc, ◌+◌, ◌-◌, ◌*◌, ◌<◌, ◌≤◌, ◌==◌}
+use Rattle.std.proofs.Common.{◌&&◌, ◌||◌, nat_le, Bool, true, false, List, [], ◌∷◌, length, drop, if◌then◌else◌, Option, Some, None, get_or, slice_get, arith}
 use Rattle.std.specs.List.{list_any, slice_range}
 use Rattle.std.proofs.lemmas.Bool.{eqb-true, eq-eqb, cases_eq}
 use Rattle.std.proofs.lemmas.List.{get_or-take, get_or-drop, length-take, get_or_default}
 use Rattle.std.proofs.lemmas.List.Folds.{list_any_none}
 use Rattle.std.proofs.lemmas.List.Sums.{position_or_len_is}
 use Rattle.std.proofs.lemmas.Option.{get_or_from_slice_get, slice_get-get_or}
-use Rattle.fw_base.specs.declared.plug.PlugAt.{PlugAt}
+use Rattle.fw_terms.specs.declared.plug.PlugAt.{PlugAt}
 use Rattle.fw_cip.specs.declared.packet.IsoPacket.{IsoPacket}
-use Rattle.fw_entry.specs.declared.nodes.NodeRow.{NodeRow}
-use Rattle.fw_entry.specs.declared.entry.ResetEntry.{ResetEntry}
-use Rattle.fw_entry.specs.Network.{first_id, row_of_node}
-use Rattle.fw_account.specs.Account.{Account, has_connection}
-use Rattle.fw_account.specs.Network.{is_output}
-use Rattle.fw_account.specs.Sound.{IsSound, IsConflictFree}
-use Rattle.fw_account.specs.Words.{Register as Place, word_of, node_of}
-use Rattle.fw_account.proofs.Bounds.{IsThere, register_there}
-use Rattle.fw_account.proofs.Places.{device_at_id}
-use Rattle.fw_remarks.specs.declared.known.Known.{Known}
-use Rattle.fw_remarks.specs.declared.register.Register.TheVariants.{Output}
-use Rattle.fw_remarks.specs.Knowing.{nothing_known, all_known, channel_of, is_channel, is_on}
-use Rattle.fw_known.specs.declared.channel.Channel.{Channel}
-use Rattle.fw_known.specs.declared.state.State.{State}
-use Rattle.fw_known.specs.Channels.{has_output, node_bit, owners_to, others_on}
-use Rattle.fw_known.specs.Heard.{is_sender, owners_of}
-use Rattle.fw_known.specs.States.{known_of}
+use Rattle.fw_log_entry.specs.declared.nodes.NodeRow.{NodeRow}
+use Rattle.fw_log_entry.specs.declared.entry.ResetEntry.{ResetEntry}
+use Rattle.fw_log_entry.specs.Network.{first_id, row_of_node}
+use Rattle.fw_model_account.specs.Account.{Account, has_connection}
+use Rattle.fw_model_account.specs.Network.{is_output}
+use Rattle.fw_model_account.specs.Sound.{IsSound, IsConflictFree}
+use Rattle.fw_model_account.specs.Words.{Register as Place, word_of, node_of}
+use Rattle.fw_model_account.proofs.Bounds.{IsThere, register_there}
+use Rattle.fw_model_account.proofs.Places.{device_at_id}
+use Rattle.fw_watch_remarks.specs.declared.known.Known.{Known}
+use Rattle.fw_watch_remarks.specs.declared.register.Register.TheVariants.{Output}
+use Rattle.fw_watch_remarks.specs.Knowing.{nothing_known, all_known, channel_of, is_channel, is_on}
+use Rattle.fw_watch_known.specs.declared.channel.Channel.{Channel}
+use Rattle.fw_watch_known.specs.declared.state.State.{State}
+use Rattle.fw_watch_known.specs.Channels.{has_output, node_bit, owners_to, others_on}
+use Rattle.fw_watch_known.specs.Heard.{is_sender, owners_of}
+use Rattle.fw_watch_known.specs.States.{known_of}
 use Rattle.fw_watch.specs.Steps.{ticked}
 use Rattle.fw_watch_laws.specs.Orderly.{offset_of}
 use Rattle.fw_watch_laws.proofs.Frames.{ticked_only}

@@ -2,29 +2,30 @@
 use Rattle.std.proofs.Common.{◌≡◌, refl, sym, ◌∙◌, ℕ, zero, suc, ◌+◌, ◌==◌, Bool, true, false, Option, Some, None}
 use Rattle.fw_words.specs.declared.swap.Swap.{Swap}
 use Rattle.fw_cip.specs.declared.packet.IsoPacket.{IsoPacket}
-use Rattle.fw_entry.specs.declared.entry.Entry.{Entry}
-use Rattle.fw_entry.specs.declared.entry.Entry.TheVariants.{Reset, Async, Iso, Event, Outcome, Shown, End}
-use Rattle.fw_entry.specs.declared.entry.Timed.{Timed}
-use Rattle.fw_remarks.specs.declared.register.At.{At}
-use Rattle.fw_remarks.specs.declared.register.Register.{Register}
-use Rattle.fw_remarks.specs.declared.register.Register.TheVariants.{Bandwidth, ChannelsHigh, ChannelsLow, Output, Input}
-use Rattle.fw_remarks.specs.declared.remark.Remark.{Remark}
-use Rattle.fw_remarks.specs.declared.remark.Remark.TheVariants.{Reset as ResetRemark, Unseen, Sends, Held, NotManager, TwoSenders, NotTaken, OtherPlug}
-use Rattle.fw_remarks.specs.Knowing.{differing}
-use Rattle.fw_remarks.specs.Remarks.{Said, said}
-use Rattle.fw_known.specs.declared.asked.Answer.{Answer}
-use Rattle.fw_known.specs.declared.channels.Late.{Late}
-use Rattle.fw_known.specs.declared.hear.Packet.{Packet}
-use Rattle.fw_known.specs.declared.state.State.{State}
-use Rattle.fw_known.specs.declared.swap.Made.{Made}
-use Rattle.fw_known.specs.Channels.{channel_at, late_to}
-use Rattle.fw_known.specs.Heard.{heard}
-use Rattle.fw_known.specs.Judging.{judged}
-use Rattle.fw_known.specs.Standing.{answer_of}
-use Rattle.fw_known.specs.States.{known_of}
+use Rattle.fw_log_entry.specs.declared.entry.Entry.{Entry}
+use Rattle.fw_log_entry.specs.declared.entry.Entry.TheVariants.{Reset, Async, Iso, Event, Outcome, Shown, End}
+use Rattle.fw_log_entry.specs.declared.entry.Timed.{Timed}
+use Rattle.fw_watch_remarks.specs.declared.register.At.{At}
+use Rattle.fw_watch_remarks.specs.declared.register.Register.{Register}
+use Rattle.fw_watch_remarks.specs.declared.register.Register.TheVariants.{Bandwidth, ChannelsHigh, ChannelsLow, Output, Input}
+use Rattle.fw_watch_remarks.specs.declared.remark.Remark.{Remark}
+use Rattle.fw_watch_remarks.specs.declared.remark.Remark.TheVariants.{Reset as ResetRemark, Unseen, Sends, Held, NotManager, TwoSenders, NotTaken, OtherPlug}
+use Rattle.fw_watch_remarks.specs.Knowing.{differing}
+use Rattle.fw_watch_remarks.specs.Remarks.{Said, said}
+use Rattle.fw_watch_known.specs.declared.asked.Answer.{Answer}
+use Rattle.fw_watch_known.specs.declared.channels.Late.{Late}
+use Rattle.fw_watch_known.specs.declared.hear.Packet.{Packet}
+use Rattle.fw_watch_known.specs.declared.state.State.{State}
+use Rattle.fw_watch_known.specs.declared.swap.Made.{Made}
+use Rattle.fw_watch_known.specs.Channels.{channel_at, late_to}
+use Rattle.fw_watch_known.specs.Heard.{heard}
+use Rattle.fw_watch_known.specs.Judging.{judged}
+use Rattle.fw_watch_known.specs.Standing.{answer_of}
+use Rattle.fw_watch_known.specs.States.{known_of}
 use Rattle.fw_watch.specs.declared.answer.Heed.{Heed}
 use Rattle.fw_watch.specs.declared.answer.Heed.TheVariants.{Ignore, Refuse, Follow}
-use Rattle.fw_watch.specs.Answering.{heed, made, made_remarks, found_remarks, with_manager, shown_by, followed_remarks, refused_swap, not_manager_remarks, heeded_remarks, answer_remarks, answered_remarks, with_packet, packet_remarks}
+use Rattle.fw_watch.specs.Answering.{heed, made, made_remarks, found_remarks, with_manager, shown_by, followed_remarks}
+use Rattle.fw_watch.specs.Answering.{refused_swap, not_manager_remarks, heeded_remarks, answer_remarks, answered_remarks, with_packet, packet_remarks}
 use Rattle.fw_watch.specs.Hearing.{start_remarks, wrong_remarks, heard_remarks}
 use Rattle.fw_watch.specs.Holding.{late_remarks, after_late, held_remarks}
 use Rattle.fw_watch.specs.Judging.{judge_remarks}
@@ -167,7 +168,7 @@ what_quiet q cycle (Outcome o) s f w = refl
 what_quiet q cycle (Shown x) s f w = word_quiet (shown_at s x) q cycle x.word s f
 what_quiet q cycle End s f w = refl
 
--- where nothing is odd in a packet, nothing is told
+-- if nothing is odd in a packet, nothing is told
 pub entry_quiet : (q : Said → Bool) (s : State) (t : Timed) → IsOfPackets q
     → ((p : IsoPacket) → t.what ≡ Iso p → IsNone q (wrong_remarks (heard (ticked t.cycle s) (packet_of t.cycle p)) (packet_of t.cycle p))) → IsNone q (remarks s t)
 unfolding remarks

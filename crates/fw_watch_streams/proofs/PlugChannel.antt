@@ -3,15 +3,15 @@ use Rattle.std.proofs.Common.{◌≡◌, refl, ap, ◌∙◌, ℕ, ◌+◌, ◌*
 use Rattle.std.proofs.lemmas.Bool.Decides.{nat_tests}
 use Rattle.std.proofs.lemmas.Nat.{and_mask}
 use Rattle.std.proofs.lemmas.Nat.Bits.{and_high}
-use Rattle.fw_base.specs.declared.plug.PlugAt.{PlugAt}
+use Rattle.fw_terms.specs.declared.plug.PlugAt.{PlugAt}
 use Rattle.fw_plug.specs.Words.{Settings, FitsRegister, OutFields, flag, out_word}
 use Rattle.fw_plug.proofs.Words.{fields_of_word}
 use Rattle.fw_words.specs.Quadlet.{field}
-use Rattle.fw_account.specs.Account.{Account, counter, is_there, has_connection}
-use Rattle.fw_account.specs.Sound.{IsSound}
-use Rattle.fw_account.specs.Words.{OutputPlug, word_of}
-use Rattle.fw_account.specs.Network.{is_output}
-use Rattle.fw_remarks.specs.Knowing.{all_known, channel_of}
+use Rattle.fw_model_account.specs.Account.{Account, counter, is_there, has_connection}
+use Rattle.fw_model_account.specs.Sound.{IsSound}
+use Rattle.fw_model_account.specs.Words.{OutputPlug, word_of}
+use Rattle.fw_model_account.specs.Network.{is_output}
+use Rattle.fw_watch_remarks.specs.Knowing.{all_known, channel_of}
 
 -- ---- words
 
@@ -46,7 +46,7 @@ last : (t : Bool) (k : ℕ) → (if t && true then Some k else None) ≡ (if t t
 last true k = refl
 last false k = refl
 
--- where the word is connected, it is on its channel
+-- if the word is connected, it is on its channel
 by_word : (b : Bool) (n : ℕ) (k : Settings) → n < 64 → FitsRegister k
     → channel_of (all_known (out_word (record { broadcast = b; counter = n; settings = k }))) ≡ (if nat_lt 0 n || b then Some k.channel else None)
 unfolding channel_of

@@ -2,29 +2,29 @@
 use Rattle.std.proofs.Common.{◌≡◌, ◌≢◌, ◌⊎◌, inl, inr, refl, ap, sym, ◌∙◌, subst, ℕ, ◌<◌, ◌==◌, ◌&&◌, ◌||◌, not, Bool, true, false, if◌then◌else◌, Option, Some, None}
 use Rattle.std.proofs.lemmas.Bool.{eqb-true, eq-eqb}
 use Rattle.std.proofs.lemmas.Option.{same_Some}
-use Rattle.fw_base.specs.declared.plug.PlugAt.{PlugAt}
-use Rattle.fw_base.proofs.Tables.{update_plug_at}
+use Rattle.fw_terms.specs.declared.plug.PlugAt.{PlugAt}
+use Rattle.fw_terms.proofs.Tables.{update_plug_at}
 use Rattle.fw_cip.specs.declared.packet.IsoPacket.{IsoPacket}
-use Rattle.fw_entry.specs.declared.entry.ResetEntry.{ResetEntry}
-use Rattle.fw_entry.specs.declared.entry.Entry.{Entry}
-use Rattle.fw_entry.specs.declared.entry.Entry.TheVariants.{Reset, Async, Iso, Event, Outcome, Shown, End}
-use Rattle.fw_entry.specs.declared.entry.Timed.{Timed}
-use Rattle.fw_account.specs.Account.{Account, has_connection}
-use Rattle.fw_account.specs.Fold.{next_account}
-use Rattle.fw_account.specs.Network.{is_output}
-use Rattle.fw_account.specs.Sound.{IsSound, IsConflictFree}
-use Rattle.fw_account.specs.Words.{Register as Place, OutputPlug, word_of, node_of}
-use Rattle.fw_account.proofs.Bounds.{IsThere}
-use Rattle.fw_account.proofs.Network.{no_outputs}
-use Rattle.fw_remarks.specs.declared.known.Known.{Known}
-use Rattle.fw_remarks.specs.declared.register.Register.{Register}
-use Rattle.fw_remarks.specs.declared.register.Register.TheVariants.{Bandwidth, ChannelsHigh, ChannelsLow, Output, Input}
-use Rattle.fw_remarks.specs.Knowing.{all_known, channel_of}
-use Rattle.fw_known.specs.declared.channel.Channel.{Channel}
-use Rattle.fw_known.specs.declared.state.State.{State}
-use Rattle.fw_known.specs.Channels.{fresh, undue}
-use Rattle.fw_known.specs.Heard.{sender_behind, channel_behind}
-use Rattle.fw_known.specs.States.{known_of}
+use Rattle.fw_log_entry.specs.declared.entry.ResetEntry.{ResetEntry}
+use Rattle.fw_log_entry.specs.declared.entry.Entry.{Entry}
+use Rattle.fw_log_entry.specs.declared.entry.Entry.TheVariants.{Reset, Async, Iso, Event, Outcome, Shown, End}
+use Rattle.fw_log_entry.specs.declared.entry.Timed.{Timed}
+use Rattle.fw_model_account.specs.Account.{Account, has_connection}
+use Rattle.fw_model_account.specs.Fold.{next_account}
+use Rattle.fw_model_account.specs.Network.{is_output}
+use Rattle.fw_model_account.specs.Sound.{IsSound, IsConflictFree}
+use Rattle.fw_model_account.specs.Words.{Register as Place, OutputPlug, word_of, node_of}
+use Rattle.fw_model_account.proofs.Bounds.{IsThere}
+use Rattle.fw_model_account.proofs.Network.{no_outputs}
+use Rattle.fw_watch_remarks.specs.declared.known.Known.{Known}
+use Rattle.fw_watch_remarks.specs.declared.register.Register.{Register}
+use Rattle.fw_watch_remarks.specs.declared.register.Register.TheVariants.{Bandwidth, ChannelsHigh, ChannelsLow, Output, Input}
+use Rattle.fw_watch_remarks.specs.Knowing.{all_known, channel_of}
+use Rattle.fw_watch_known.specs.declared.channel.Channel.{Channel}
+use Rattle.fw_watch_known.specs.declared.state.State.{State}
+use Rattle.fw_watch_known.specs.Channels.{fresh, undue}
+use Rattle.fw_watch_known.specs.Heard.{sender_behind, channel_behind}
+use Rattle.fw_watch_known.specs.States.{known_of}
 use Rattle.fw_watch.specs.Steps.{ticked, after}
 use Rattle.fw_watch_laws.specs.LastKnown.{Glimpse, glimpse}
 use Rattle.fw_watch_laws.specs.TwoSenders.{plug_changes, changes, found_moves, glimpse_moves, moves}

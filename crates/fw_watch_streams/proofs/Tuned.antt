@@ -3,23 +3,23 @@ use Rattle.std.proofs.Common.{◌≡◌, ◌⊎◌, refl, ap, sym, ◌∙◌, su
 use Rattle.std.proofs.lemmas.Bool.{eq-eqb}
 use Rattle.std.proofs.lemmas.List.{get_or-replicate}
 use Rattle.fw_cip.specs.declared.packet.IsoPacket.{IsoPacket}
-use Rattle.fw_entry.specs.Log.{InOrder}
-use Rattle.fw_entry.specs.declared.entry.Entry.TheVariants.{Iso}
-use Rattle.fw_entry.specs.declared.entry.Timed.{Timed}
-use Rattle.fw_account.specs.Account.{Account}
-use Rattle.fw_account.specs.Fold.{no_account}
-use Rattle.fw_account.proofs.Fold.{next_keeps}
-use Rattle.fw_account.proofs.Shared.{is_conflict_free}
-use Rattle.fw_remarks.specs.declared.remark.Remark.TheVariants.{TwoSenders, NotTaken, OtherPlug}
-use Rattle.fw_remarks.specs.Remarks.{Said, said}
-use Rattle.fw_known.specs.declared.channel.Channel.{Channel}
-use Rattle.fw_known.specs.declared.hear.Heard.{Heard}
-use Rattle.fw_known.specs.declared.hear.Packet.{Packet}
-use Rattle.fw_known.specs.declared.second.Second.{Second}
-use Rattle.fw_known.specs.declared.state.State.{State}
-use Rattle.fw_known.specs.Channels.{fresh}
-use Rattle.fw_known.specs.Heard.{is_free, other_sender, owners_of, heard}
-use Rattle.fw_known.specs.States.{no_state}
+use Rattle.fw_log_entry.specs.Log.{InOrder}
+use Rattle.fw_log_entry.specs.declared.entry.Entry.TheVariants.{Iso}
+use Rattle.fw_log_entry.specs.declared.entry.Timed.{Timed}
+use Rattle.fw_model_account.specs.Account.{Account}
+use Rattle.fw_model_account.specs.Fold.{no_account}
+use Rattle.fw_model_account.proofs.Fold.{next_keeps}
+use Rattle.fw_model_account.proofs.Shared.{is_conflict_free}
+use Rattle.fw_watch_remarks.specs.declared.remark.Remark.TheVariants.{TwoSenders, NotTaken, OtherPlug}
+use Rattle.fw_watch_remarks.specs.Remarks.{Said, said}
+use Rattle.fw_watch_known.specs.declared.channel.Channel.{Channel}
+use Rattle.fw_watch_known.specs.declared.hear.Heard.{Heard}
+use Rattle.fw_watch_known.specs.declared.hear.Packet.{Packet}
+use Rattle.fw_watch_known.specs.declared.second.Second.{Second}
+use Rattle.fw_watch_known.specs.declared.state.State.{State}
+use Rattle.fw_watch_known.specs.Channels.{fresh}
+use Rattle.fw_watch_known.specs.Heard.{is_free, other_sender, owners_of, heard}
+use Rattle.fw_watch_known.specs.States.{no_state}
 use Rattle.fw_watch.specs.Hearing.{two_remarks, free_remarks, owners_remarks, wrong_remarks}
 use Rattle.fw_watch.specs.Steps.{packet_of, ticked, after}
 use Rattle.fw_watch.specs.Watched.{known}

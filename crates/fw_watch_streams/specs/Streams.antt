@@ -1,14 +1,14 @@
 -- Isochronous packets of a log whose account is kept, and what `watch` does not find of them.
 use Rattle.std.specs.Prelude.{◌≡◌, ◌<◌, ℕ, ◌+◌, Bool, true, false, IsTrue, List, ◌∷◌, ◌++◌, Some, None}
-use Rattle.fw_base.specs.declared.plug.PlugAt.{PlugAt}
+use Rattle.fw_terms.specs.declared.plug.PlugAt.{PlugAt}
 use Rattle.fw_cip.specs.declared.packet.IsoPacket.{IsoPacket}
-use Rattle.fw_entry.specs.declared.entry.Entry.TheVariants.{Iso}
-use Rattle.fw_entry.specs.declared.entry.Timed.{Timed}
-use Rattle.fw_account.specs.Account.{Account, talks}
-use Rattle.fw_account.specs.Fold.{account_of, entries_of}
-use Rattle.fw_account.specs.Words.{node_of}
-use Rattle.fw_remarks.specs.declared.remark.Remark.{Remark}
-use Rattle.fw_remarks.specs.declared.remark.Remark.TheVariants.{TwoSenders, NotTaken, OtherPlug}
+use Rattle.fw_log_entry.specs.declared.entry.Entry.TheVariants.{Iso}
+use Rattle.fw_log_entry.specs.declared.entry.Timed.{Timed}
+use Rattle.fw_model_account.specs.Account.{Account, talks}
+use Rattle.fw_model_account.specs.Fold.{account_of, entries_of}
+use Rattle.fw_model_account.specs.Words.{node_of}
+use Rattle.fw_watch_remarks.specs.declared.remark.Remark.{Remark}
+use Rattle.fw_watch_remarks.specs.declared.remark.Remark.TheVariants.{TwoSenders, NotTaken, OtherPlug}
 use Rattle.fw_watch_laws.specs.Orderly.{last_reset}
 
 -- an output plug that talks sends the packet: on its channel, with the SID of its node

@@ -1,7 +1,7 @@
 //! Laws of `watch` on isochronous packets, each as the contract of an empty function.
 
 ghost use Rattle.std.specs.Prelude.{List};
-ghost use Rattle.fw_entry.specs.declared.entry.Timed.{Timed};
+ghost use Rattle.fw_log_entry.specs.declared.entry.Timed.{Timed};
 ghost use Rattle.fw_watch_laws.specs.Orderly.{IsOrderly, ShowsAccount, HasNone};
 ghost use Rattle.fw_watch_streams.specs.Streams.{SendsOfTalkers, HasTimelyPackets, is_two_senders, is_not_taken, is_other_plug};
 

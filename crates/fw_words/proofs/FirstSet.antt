@@ -18,7 +18,7 @@ first_set_here q at n some h = let e : n ≡ suc (n - 1) = omega arith in rw (e,
 pub first_set_next : (q at n : ℕ) → 0 < n → field q at at ≢ 1 → first_set q at n ≡ first_set q (at + 1) (n - 1)
 first_set_next q at n some h = let e : n ≡ suc (n - 1) = omega arith in rw e (first_set_step q at (n - 1) ∙ grind (arith, nat_tests))
 
--- where none of the low bits is 1, they are 0
+-- if none of the low bits is 1, they are 0
 pub low_zero : (q at n : ℕ) → at + n ≡ 32 → first_set q at n ≡ None → q % 2 ^ n ≡ 0
 low_zero q at zero whole h = omega arith
 low_zero q at (suc n) whole h =

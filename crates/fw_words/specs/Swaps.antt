@@ -9,6 +9,6 @@ abbrev pub quadlet_swap : ℕ → List ℕ → Option Swap
 quadlet_swap function bytes =
     if (function == 2) && (length bytes == 8) then Some (record { argument = quadlet_at bytes 0; new = quadlet_at bytes 4 }) else None
 
--- the eight bytes of a quadlet compare_swap: its argument, and the new value behind it
+-- the eight bytes of a quadlet compare_swap: its argument, and the new value after it
 abbrev pub swap_bytes : Swap → List ℕ
 swap_bytes s = to_be_bytes w32 s.argument ++ to_be_bytes w32 s.new

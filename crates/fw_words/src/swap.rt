@@ -6,13 +6,13 @@ use crate::quadlet_at;
 /// The extended transaction code of a compare_swap (IEEE 1394-1995, lock functions).
 pub const COMPARE_SWAP: u8 = 2;
 
-/// The two quadlets of a quadlet compare_swap, a lock transaction: the register becomes `new` exactly where it equals
+/// The two quadlets of a quadlet compare_swap, a lock transaction: the register becomes `new` exactly if it equals
 /// `argument`.
 #[derive(Clone, Copy, PartialEq, Eq)]
 pub struct Swap {
     /// arg_value, with which the register is compared.
     pub argument: u32,
-    /// data_value, which the register becomes where the two are equal.
+    /// data_value, which the register becomes if the two are equal.
     pub new: u32,
 }
 

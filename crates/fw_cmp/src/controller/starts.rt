@@ -11,7 +11,7 @@ ghost use Rattle.fw_cmp.specs.Starts.{IsMaking, OkWithin, start, start_own, star
 
 use super::Controller;
 use crate::{Slot, StartFault};
-use fw_base::PlugAt;
+use fw_terms::PlugAt;
 
 impl Controller {
     /// Starts a point-to-point connection on this channel, or on the lowest free one, and answers its slot. A refused
@@ -121,7 +121,7 @@ impl Controller {
         self.agenda.place_break(slot);
     }
 
-    /// Why `start_break` would refuse a break of the connection in this slot. None where it would not.
+    /// Why `start_break` would refuse a break of the connection in this slot. None if it would not.
     pub fn check_break(&self, slot: u8) -> Option<StartFault>
         ensures { result ≡ break_fault self.now.state slot }
     {

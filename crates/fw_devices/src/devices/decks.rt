@@ -3,7 +3,7 @@
 ghost use Rattle.std.specs.Prelude.{◌≡◌, ◌<◌, ℕ, Some, None, IsSome, IsTrue, IfSome, is_some, length, slice_set};
 ghost use Rattle.std.specs.Option.{option_map};
 ghost use Rattle.fw_async.specs.Async.{Fits};
-ghost use Rattle.fw_base.specs.Devices.{has_link};
+ghost use Rattle.fw_terms.specs.Devices.{has_link};
 ghost use Rattle.fw_tape.specs.Blocks.{blocks_among};
 ghost use Rattle.fw_tape.specs.Desks.{AnyVendorByte};
 ghost use Rattle.fw_tape.specs.Motion.{inserted, MayPass};
@@ -19,7 +19,7 @@ use fw_node::Node;
 use fw_tape::{Desk, TapeSystem};
 use fw_words::Bytes512;
 
-// A tape goes into the unit of a node, where it has one.
+// A tape goes into the unit of a node, if it has one.
 fn insert(node: &mut Node, tape: u16, system: TapeSystem)
     ensures { node.new ≡ with_tape (Some (inserted tape system)) node.old }
 {
@@ -39,7 +39,7 @@ fn eject(node: &mut Node) -> bool
     }
 }
 
-// Cycles go by for the tape of a node, where it has one. Answers how many blocks it gives in them.
+// Cycles go by for the tape of a node, if it has one. Answers how many blocks it gives in them.
 #[inline(always)]
 fn pass(node: &mut Node, cycles: u64) -> u64
     requires { MayPass cycles (tape_of node.old) }
@@ -107,7 +107,7 @@ impl Devices {
         eject(&mut self.nodes[usize::from(device)])
     }
 
-    /// Cycles go by for the tape of a device, which moves where it plays, plays in reverse or records. Answers how many blocks it
+    /// Cycles go by for the tape of a device, which moves if it plays, plays in reverse or records. Answers how many blocks it
     /// gives in them.
     #[inline(always)]
     pub fn pass(&mut self, device: u8, cycles: u64) -> u64

@@ -6,9 +6,9 @@ ghost use Rattle.fw_tree.specs.Topology.{IsFault, IsJoined};
 ghost use Rattle.fw_devices.specs.Network.{facts_of, with_device};
 
 use super::Devices;
-use fw_base::DeviceKind;
-use fw_command::Name;
 use fw_node::Node;
+use fw_script_command::Name;
+use fw_terms::DeviceKind;
 use fw_tree::{End, PhyFacts, TreeFault};
 
 // What the PHY of a device says.

@@ -8,8 +8,8 @@ use super::Devices;
 use crate::bus::no_reset;
 use crate::frame::Frame;
 use crate::names::Names;
-use fw_base::DeviceKind;
 use fw_node::Node;
+use fw_terms::DeviceKind;
 use fw_tree::Cabling;
 use std::alloc::{AllocError, Global};
 

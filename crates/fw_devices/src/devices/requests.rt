@@ -4,7 +4,7 @@ ghost use Rattle.std.specs.Prelude.{◌≡◌, ◌<◌, ℕ, Some, IsSome, IsTru
 ghost use Rattle.fw_async.specs.Async.{Fits};
 ghost use Rattle.fw_async.specs.Reader.{Spells};
 ghost use Rattle.fw_async.specs.declared.packet.Packet.{Packet as RequestPacket};
-ghost use Rattle.fw_base.specs.Devices.{has_link};
+ghost use Rattle.fw_terms.specs.Devices.{has_link};
 ghost use Rattle.fw_csr.specs.declared.request.Request.TheVariants.{Read};
 ghost use Rattle.fw_node.specs.Packets.{IsRequest, IsServed, request_in, response_of};
 ghost use Rattle.fw_node.specs.Space.{answer_of};
@@ -29,7 +29,7 @@ fn end_second(nodes: &mut [Node])
 impl Devices {
     /// Carries a request packet to the node of a device out at its registers in cycle `now`, and gives the response packet
     /// (`fw_node::Node::carry_out`). Nothing follows from a frame: those go by `answer_frame`.
-    // Inlined at its calls, where the response is then put in its place: else it is copied there.
+    // Inlined at its calls, if the response is then put in its place: else it is copied there.
     #[inline(always)]
     pub fn answer(&mut self, device: u8, now: u64, packet: &Packet) -> Packet<'static>
         requires request { IsSome (request_in packet.now) }

@@ -1,7 +1,7 @@
 //! Bus resets.
 
 ghost use Rattle.std.specs.Prelude.{◌≡◌, ◌+◌, ◌<◌, ◌≤◌, ◌^◌, ℕ, Some, IfSome, length};
-ghost use Rattle.fw_entry.specs.Log.{ResetFits};
+ghost use Rattle.fw_log_entry.specs.Log.{ResetFits};
 ghost use Rattle.fw_tree.specs.Cables.{IsOnBus};
 ghost use Rattle.fw_tree.specs.Numbers.{number_at};
 ghost use Rattle.fw_devices.specs.Entries.{node_device};
@@ -10,11 +10,11 @@ ghost use Rattle.fw_devices.specs.Resets.{IsReset, numbered};
 
 use super::Devices;
 use crate::bus::find;
-use fw_entry::BorrowedReset;
+use fw_log_entry::BorrowedReset;
 use fw_node::Node;
 use fw_tree::Numbering;
 
-// A bus reset for one device, which has this number where it is on the bus.
+// A bus reset for one device, which has this number if it is on the bus.
 fn reset_node(node: &mut Node, number: Option<u8>, manager: Option<u8>)
     requires { IfSome number (λ n. n ≤ 62) }
     ensures { node.new ≡ numbered number manager node.old }
@@ -62,7 +62,7 @@ impl Devices {
         BorrowedReset::new(&self.bus.entry)
     }
 
-    /// The device that is the node with this number. None where no node has it.
+    /// The device that is the node with this number. None if no node has it.
     pub fn device_at(&self, number: u8) -> Option<u8>
         ensures { result ≡ node_device self.now.latest.nodes number }
     {

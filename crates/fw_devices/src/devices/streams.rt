@@ -13,7 +13,7 @@ use crate::talkers::Talkers;
 use fw_tape::BlockPlace;
 
 impl Devices {
-    /// The channel on which the output plug of a device talks: None exactly where it does not talk, or the device has none.
+    /// The channel on which the output plug of a device talks: None exactly if it does not talk, or the device has none.
     pub fn talking_on(&self, device: u8) -> Option<u8>
         requires declared { device < length self.now.nodes }
         ensures value { result ≡ talking_on (node_at self.now.nodes device) }
@@ -22,7 +22,7 @@ impl Devices {
         self.nodes[usize::from(device)].talking_on()
     }
 
-    /// The device whose output plug talks on each channel, one of them where there are several. None exactly where no device has one.
+    /// The device whose output plug talks on each channel, one of them if there are several. None exactly if no device has one.
     pub fn talkers(&self) -> Talkers
         ensures { AreTalkers (length self.now.nodes) self.now.nodes result }
     {
@@ -35,7 +35,7 @@ impl Devices {
         talkers
     }
 
-    /// Which block the tape of a device gives in the cycle that passed last: None exactly where none was due.
+    /// Which block the tape of a device gives in the cycle that passed last: None exactly if none was due.
     pub fn block_now(&self, device: u8) -> Option<BlockPlace>
         requires declared { device < length self.now.nodes }
         ensures value { result ≡ block_now (tape_of (node_at self.now.nodes device)) }

@@ -16,7 +16,7 @@ use fw_words::Bytes;
 /// How many bytes are asked for at once.
 const PIECE: usize = 4096;
 
-/// How many bytes are held at most: the text of the line last read, the front of the next, and those that were asked for behind it.
+/// How many bytes are held at most: the text of the line last read, the beginning of the next, and those that were asked for after it.
 pub(super) const HELD_LIMIT: usize = TEXT_LIMIT + LINE_LIMIT + PIECE;
 
 /// Appends bytes for which there is room.
@@ -31,7 +31,7 @@ fn put(bytes: &mut Vec<u8>, more: &[u8])
     }
 }
 
-/// Puts the text of the line last read, the front of the next and a piece in place of what was held.
+/// Puts the text of the line last read, the beginning of the next and a piece in place of what was held.
 fn refill(bytes: &mut Vec<u8>, text: &[u8], front: &[u8], piece: &[u8])
     requires room { length text.now + length front.now + length piece.now ≤ vec_capacity bytes.old }
     ensures text { take (length text.now) bytes.new.items ≡ text.now }
@@ -46,7 +46,7 @@ fn refill(bytes: &mut Vec<u8>, text: &[u8], front: &[u8], piece: &[u8])
 }
 
 impl ScriptReader {
-    // Puts bytes behind the text of the line last read and the front of the next. No bytes are the source's end.
+    // Puts bytes after the text of the line last read and the beginning of the next. No bytes are the source's end.
     fn hold(&mut self, piece: &[u8])
         requires cut { IsCut self.old }
         requires few { length piece.now ≤ 4096 }
@@ -65,7 +65,7 @@ impl ScriptReader {
         self.whole = piece.is_empty();
     }
 
-    // Takes bytes from the source, behind the front of a line that is held.
+    // Takes bytes from the source, after the beginning of a line that is held.
     pub(super) fn take<S: Source>(&mut self, source: &mut S) -> Result<(), ScriptFault>
         requires open { IsOpen self.old.stage }
         requires cut { IsCut self.old }

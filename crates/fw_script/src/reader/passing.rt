@@ -10,8 +10,8 @@ use super::ScriptReader;
 use crate::ScriptFault;
 use crate::line::{Front, Meaning, meaning_of};
 use crate::stage::Stage;
-use fw_command::Command;
 use fw_outside::Source;
+use fw_script_command::Command;
 
 /// What a line says that is held.
 #[derive(Clone, Copy)]

@@ -65,7 +65,7 @@ impl ScriptReader {
         &self.bytes[self.at..self.at + count]
     }
 
-    // Goes behind a line of so many bytes, with its line feed.
+    // Goes after a line of so many bytes, with its line feed.
     pub(super) fn advance(&mut self, count: usize, size: usize)
         requires text { count ≤ length self.old.rest }
         requires short { count ≤ 256 }

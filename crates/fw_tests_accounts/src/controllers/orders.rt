@@ -4,8 +4,8 @@ ghost use Rattle.std.specs.Prelude.{◌<◌};
 ghost use Rattle.fw_cmp.specs.Fits.{PlugFits};
 ghost use Rattle.fw_cmp.specs.Holdings.{CanGoOn};
 
-use fw_base::PlugAt;
 use fw_cmp::{Controller, Directory, StartFault};
+use fw_terms::PlugAt;
 use std::process::Abort;
 
 /// The first plug of device 0, and of device 1.

@@ -75,7 +75,7 @@ fn passes_second(c: &mut Controller, d: &Directory)
     c.second_over();
 }
 
-/// What it does at cycle 8000, where no request of its own stands.
+/// What it does at cycle 8000, if no request of its own stands.
 fn does(rt: &impl Abort, c: &mut Controller, d: &Directory) -> Next
     requires nodes { HasNodeNumbers d.now }
     requires reached { CanGoOn d.now c.old.state }
@@ -135,7 +135,7 @@ fn loses(c: &mut Controller, d: &Directory)
     }
 }
 
-/// What it does in a cycle, where no request of its own stands.
+/// What it does in a cycle, if no request of its own stands.
 fn turns(rt: &impl Abort, c: &mut Controller, d: &Directory, now: u64) -> Next
     requires nodes { HasNodeNumbers d.now }
     requires reached { CanGoOn d.now c.old.state }

@@ -3,10 +3,10 @@
 ghost use Rattle.std.specs.Prelude.{◌≡◌, ◌<◌, ◌+◌, ℕ};
 ghost use Rattle.fw_tree.specs.Cables.{IsOnBus};
 
-use fw_base::DeviceKind;
-use fw_command::Name;
 use fw_devices::Devices;
 use fw_phy::read_phy;
+use fw_script_command::Name;
+use fw_terms::DeviceKind;
 use fw_tree::End;
 use std::process::Abort;
 use std::test::Fail;
@@ -83,7 +83,7 @@ pub fn connect_first(rt: &impl Abort, devices: &mut Devices, port: u8, b: Port)
     connect(rt, devices, (0, port), b);
 }
 
-/// Each device's number, 63 where it is no node.
+/// Each device's number, 63 if it is no node.
 pub fn numbers_are(rt: &impl Abort, devices: &Devices, numbers: &[u8]) {
     assert!(rt; usize::from(devices.count()) == numbers.len());
     for d in 0..devices.count() {

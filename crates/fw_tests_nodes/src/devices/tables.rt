@@ -1,9 +1,9 @@
 use super::buses::*;
 use fw_async::{Head, Packet};
-use fw_base::DeviceKind;
 use fw_csr::{BANDWIDTH_AVAILABLE, Reply};
 use fw_devices::Devices;
 use fw_plug::OPCR;
+use fw_terms::DeviceKind;
 use std::process::Abort;
 use std::test::Fail;
 

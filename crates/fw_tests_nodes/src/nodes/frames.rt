@@ -1,16 +1,16 @@
 //! Command frames to nodes, and the packets that follow them, in quadlets.
 
 ghost use Rattle.std.specs.Prelude.{◌≡◌, None, IsSome, IsTrue};
-ghost use Rattle.fw_base.specs.Devices.{has_link};
+ghost use Rattle.fw_terms.specs.Devices.{has_link};
 ghost use Rattle.fw_tape.specs.Desks.{AnyVendorByte};
 
 use super::packets::{bytes_of, packet_of};
 use super::requests::{NOW, node_of};
 use arrayvec::ArrayVec;
 use fw_async::{Packet, write_packet};
-use fw_base::DeviceKind;
 use fw_node::Node;
 use fw_tape::Desk;
+use fw_terms::DeviceKind;
 use fw_words::Bytes;
 use std::process::Abort;
 

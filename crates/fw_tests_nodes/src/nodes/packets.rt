@@ -2,13 +2,13 @@
 
 ghost use Rattle.std.specs.Prelude.{IfSome, IsSome, IsTrue};
 ghost use Rattle.fw_async.specs.Reader.{Spells};
-ghost use Rattle.fw_base.specs.Devices.{has_link};
+ghost use Rattle.fw_terms.specs.Devices.{has_link};
 
 use super::requests::{NOW, node_of};
 use arrayvec::ArrayVec;
 use fw_async::{Packet, PacketRoom, read_packet};
-use fw_base::DeviceKind;
 use fw_node::Node;
+use fw_terms::DeviceKind;
 use fw_words::{Quadlet, put_quadlet};
 use std::process::Abort;
 

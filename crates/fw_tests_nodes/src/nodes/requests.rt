@@ -1,13 +1,13 @@
 //! Nodes of each kind, and requests to them.
 
 ghost use Rattle.std.specs.Prelude.{◌≡◌, None, IsSome, IsTrue};
-ghost use Rattle.fw_base.specs.Devices.{has_link};
+ghost use Rattle.fw_terms.specs.Devices.{has_link};
 ghost use Rattle.fw_node.specs.Packets.{request_in};
 
 use fw_async::{Head, Packet};
-use fw_base::DeviceKind;
 use fw_csr::REGISTER_SPACE;
 use fw_node::Node;
+use fw_terms::DeviceKind;
 use fw_words::{Bytes, Data, Quadlet, put_quadlet, quadlet_at};
 use std::process::Abort;
 

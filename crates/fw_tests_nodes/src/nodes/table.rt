@@ -1,10 +1,10 @@
 //! The registers of each kind of device, and the offsets at which none stands.
 
 ghost use Rattle.std.specs.Prelude.{IsTrue};
-ghost use Rattle.fw_base.specs.Devices.{has_link};
+ghost use Rattle.fw_terms.specs.Devices.{has_link};
 
 use super::requests::{Ask, answer, node_of};
-use fw_base::DeviceKind;
+use fw_terms::DeviceKind;
 use std::process::Abort;
 
 /// What a register allows.
@@ -96,7 +96,7 @@ fn answers(rt: &impl Abort, kind: DeviceKind, offset: u16, exchanges: &[Exchange
     }
 }
 
-/// A register allows what its row says, and nothing else; a swap stores exactly where its argument is the word.
+/// A register allows what its row says, and nothing else; a swap stores exactly if its argument is the word.
 fn check_register(rt: &impl Abort, kind: DeviceKind, row: Row)
     requires { IsTrue (has_link kind) }
 {
@@ -130,7 +130,7 @@ fn check_register(rt: &impl Abort, kind: DeviceKind, row: Row)
     answers(rt, kind, offset, &exchanges);
 }
 
-/// What is answered where no register stands.
+/// What is answered if no register stands.
 const NO_REGISTER: [Exchange; 6] = [
     (Ask::Read, (ADDRESS_ERROR, Some(0))),
     (Ask::Swap(0, 0), (ADDRESS_ERROR, None)),

@@ -10,7 +10,7 @@ use fw_fcp::Frame;
 use fw_tape::Desk;
 use fw_words::{Bytes, Bytes512};
 
-/// Mixes bytes, and an end behind them, into a sum.
+/// Mixes bytes, and an end after them, into a sum.
 fn mixed(sum: u32, bytes: &[u8]) -> u32 {
     let mut sum = sum;
     for byte in bytes {

@@ -42,7 +42,7 @@ const ASKS_POWER: Step = Answers(&[0x03, 0xFF, 0xB2, 0x7F], &[0x0F, 0xFF, 0xB2, 
 
 const POWER_OFF: Step = Answers(&[0x00, 0xFF, 0xB2, 0x60], &[0x09, 0xFF, 0xB2, 0x60]);
 
-/// UNIT INFO, power, a command whose zeros behind its operands come back, a vendor's command, and requests of which four are kept.
+/// UNIT INFO, power, a command whose zeros after its operands come back, a vendor's command, and requests of which four are kept.
 const UNIT: [Step; 16] = [
     Answers(
         &[0x01, 0xFF, 0x30, 0xFF, 0xFF, 0xFF, 0xFF, 0xFF],

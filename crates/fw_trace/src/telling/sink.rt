@@ -1,17 +1,17 @@
 //! A sink, and what is told to it.
 
 ghost use Rattle.std.specs.Prelude.{◌≡◌, ◌++◌, [], None, Some, OnOk};
-ghost use Rattle.fw_tracer.specs.Caused.{caused_text};
-ghost use Rattle.fw_tracer.specs.Commands.{begun, ended, last_lines};
-ghost use Rattle.fw_tracer.specs.Lines.{line_text};
+ghost use Rattle.fw_trace_lines.specs.Caused.{caused_text};
+ghost use Rattle.fw_trace_lines.specs.Commands.{begun, ended, last_lines};
+ghost use Rattle.fw_trace_lines.specs.Lines.{line_text};
 ghost use Rattle.fw_trace.specs.Framing.{framed};
 ghost use Rattle.fw_trace.specs.Passed.{PassesBy, WasPassed, was_passed-prop};
 ghost use Rattle.fw_trace.specs.Telling.{faults_by};
 
 use super::Teller;
 use crate::lack::Lack;
-use fw_command::Command;
 use fw_outside::{Failed, Sink};
+use fw_script_command::Command;
 use std::alloc::AllocError;
 
 /// A sink that reads what it is given as a log, and writes to another what is told of its entries.

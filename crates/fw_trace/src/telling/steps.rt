@@ -1,19 +1,20 @@
 //! What is told before a command and after it.
 
 ghost use Rattle.std.specs.Prelude.{◌≡◌, ◌++◌, [], None, false, OnOk, IfOk};
-ghost use Rattle.fw_tracer.specs.Caused.{untold, caused_text};
-ghost use Rattle.fw_tracer.specs.Commands.{begun, ended, last_lines};
-ghost use Rattle.fw_tracer.specs.Lines.{line_text};
+ghost use Rattle.fw_trace_lines.specs.Caused.{untold, caused_text};
+ghost use Rattle.fw_trace_lines.specs.Commands.{begun, ended, last_lines};
+ghost use Rattle.fw_trace_lines.specs.Lines.{line_text};
 ghost use Rattle.fw_trace.specs.Passed.{PassesBy, WasPassed};
 
 use super::{Teller, pass_on};
 use crate::lack::Lack;
 use crate::passed::Passed;
-use fw_command::Command;
-use fw_history::History;
 use fw_log::{LogReader, Room};
+use fw_log_latest::LatestReset;
 use fw_outside::{Failed, Sink};
-use fw_tracer::Tracer;
+use fw_outside_history::History;
+use fw_script_command::Command;
+use fw_trace_lines::Tracer;
 use std::alloc::{AllocError, Global};
 use std::snapshot::Snapshot;
 
@@ -63,6 +64,7 @@ impl<K: Sink> Teller<K> {
         ensures lack { IfOk result (λ s. s.lack ≡ None) }
     {
         let tracer = Tracer::new(alloc);
+        let latest = LatestReset::new(alloc)?;
         let reader = LogReader::new(alloc)?;
         let room = Room::new(alloc)?;
         let origin = Snapshot::of(&tracer);
@@ -71,6 +73,7 @@ impl<K: Sink> Teller<K> {
         Ok(Teller {
             passed: Passed::new(inner),
             tracer,
+            latest,
             reader,
             room,
             count: 0,

@@ -1,5 +1,4 @@
-use Rattle.std.proofs.Common.{◌≡◌, ◌+◌, ◌-◌, take, drop, arith, ap, ◌∙◌}
-use Rattle.fw_words.specs.Quadlet.{field, quadlet_at}
+use Rattle.fw_async.proofs.Common.{◌≡◌, ◌+◌, ◌-◌, take, drop, arith, ap, ◌∙◌, field, quadlet_at}
 use Rattle.fw_async.proofs.ReadingLaws.{are_bytes_part}
 use Rattle.fw_async.proofs.data.block_at.Goals as goal
 

@@ -1,5 +1,4 @@
-use Rattle.std.proofs.Common.{◌≡◌, ◌+◌, ◌-◌, arith, sym, ◌∙◌, ap, length}
-use Rattle.fw_async.specs.Reading.{fault_in_padding}
+use Rattle.fw_async.proofs.Common.{◌≡◌, ◌+◌, ◌-◌, arith, sym, ◌∙◌, ap, length, fault_in_padding}
 use Rattle.fw_async.proofs.ReadingLaws.{padding_none, padding_here, padding_next}
 use Rattle.fw_async.proofs.faults.fault_in_padding.Goals as goal
 

@@ -1,5 +1,4 @@
-use Rattle.std.proofs.Common.{◌≡◌, ◌-◌, length}
-use Rattle.fw_async.specs.Reading.{fault_in_padding}
+use Rattle.fw_async.proofs.Common.{◌≡◌, ◌-◌, length, fault_in_padding}
 use Rattle.fw_async.proofs.faults.fault_in_padding.Given as goal
 
 abbrev pub invariant-loop-place : goal.invariant-loop-place

@@ -1,4 +1,4 @@
-use Rattle.std.proofs.Common.{sym, ◌∙◌}
+use Rattle.fw_async.proofs.Common.{sym, ◌∙◌}
 use Rattle.fw_async.proofs.ReadingLaws.{reserved_none}
 use Rattle.fw_async.proofs.faults.reserved.Goals as goal
 

@@ -1,6 +1,4 @@
-use Rattle.std.proofs.Common.{rules, ℕ, ◌<◌, [], ◌∷◌, slice_index, length, arith, refl, ap, ◌∙◌}
-use Rattle.fw_words.specs.Quadlet.{field, quadlet_at}
-use Rattle.fw_async.specs.Async.{size}
+use Rattle.fw_async.proofs.Common.{rules, ℕ, ◌<◌, [], ◌∷◌, slice_index, length, arith, refl, ap, ◌∙◌, field, quadlet_at, size}
 use Rattle.fw_async.proofs.KindLaws.{response_at, size_at, all_there, reply_most}
 use Rattle.fw_async.proofs.lock.lock_reply_at.Goals as goal
 
@@ -20,7 +18,9 @@ returns c =
     let fit = λ (i : ℕ). let x : slice_index c.args.bytes.now i < 256 = omega (arith, c.type_inv.bytes i) in x in
     record {
       fits = search rules;
-      quadlets = response_at 11 c.args.bytes.now c.head_at.result c.rcode_at.result (size (length c.data_at.result) c.function_at.result ∷ []) fit c.requires.kind c.head_at.ensures.first c.head_at.ensures.source c.rcode_at.ensures (c.requires.sound.response refl)
-          ∙ ap (λ t. quadlet_at c.args.bytes.now 0 ∷ quadlet_at c.args.bytes.now 4 ∷ quadlet_at c.args.bytes.now 8 ∷ t) (size_at c.args.bytes.now (length c.data_at.result) c.function_at.result fit c.data_at.ensures.size c.function_at.ensures);
+      quadlets = response_at 11 c.args.bytes.now c.head_at.result c.rcode_at.result
+          (size (length c.data_at.result) c.function_at.result ∷ []) fit c.requires.kind c.head_at.ensures.first c.head_at.ensures.source c.rcode_at.ensures (c.requires.sound.response refl)
+          ∙ ap (λ t. quadlet_at c.args.bytes.now 0 ∷ quadlet_at c.args.bytes.now 4 ∷ quadlet_at c.args.bytes.now 8 ∷ t)
+          (size_at c.args.bytes.now (length c.data_at.result) c.function_at.result fit c.data_at.ensures.size c.function_at.ensures);
       rest = c.data_at.ensures.value;
     }

@@ -1,4 +1,4 @@
-use Rattle.std.proofs.Common.{◌/◌, length, arith, ap, sym, ◌∙◌}
+use Rattle.fw_async.proofs.Common.{◌/◌, length, arith, ap, sym, ◌∙◌}
 use Rattle.fw_async.specs.Plain.{is_plain_form}
 use Rattle.fw_async.proofs.PlainLaws.{plain_packet}
 use Rattle.fw_async.proofs.plain.is_plain_packet.Goals as goal

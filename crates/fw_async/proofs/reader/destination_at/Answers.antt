@@ -1,5 +1,4 @@
-use Rattle.std.proofs.Common.{ℕ, arith, ap, ◌∙◌}
-use Rattle.fw_words.specs.Quadlet.{field}
+use Rattle.fw_async.proofs.Common.{ℕ, arith, ap, ◌∙◌, field}
 use Rattle.fw_async.proofs.HeadLaws.{destination_of}
 use Rattle.fw_async.proofs.QuadletLaws.{least}
 use Rattle.fw_async.proofs.reader.destination_at.Goals as goal

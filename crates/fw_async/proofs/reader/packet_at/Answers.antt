@@ -1,5 +1,5 @@
-use Rattle.std.proofs.Common.{ℕ, ◌≤◌, length, arith, sym, subst}
-use Rattle.fw_async.specs.Reading.{tcode_of, IsComplete, ReadsAs}
+use Rattle.fw_async.proofs.Common.{ℕ, ◌≤◌, length, arith, sym, subst, tcode_of}
+use Rattle.fw_async.specs.Reading.{IsComplete, ReadsAs}
 use Rattle.fw_async.proofs.ReadingLaws.{no_fault}
 use Rattle.fw_async.proofs.NeedLaws.{need_least}
 use Rattle.fw_async.proofs.WholeLaws.{is_whole, spells_whole, known_of}

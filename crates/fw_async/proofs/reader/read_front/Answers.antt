@@ -1,4 +1,4 @@
-use Rattle.std.proofs.Common.{arith, refl, sym}
+use Rattle.fw_async.proofs.Common.{arith, refl, sym}
 use Rattle.fw_async.proofs.FrontLaws.{front_first, front_more, front_whole, front_pending, front_fault, front_all, front_short}
 use Rattle.fw_async.proofs.reader.read_front.Goals as goal
 
@@ -6,17 +6,20 @@ pub loop-end-init : goal.loop-end-init
 loop-end-init c = record { pending = front_first c.args.bytes.now; least = refl; within = omega arith }
 
 pub least_length-requires : goal.least_length-requires
-least_length-requires c = front_short c.args.bytes.now c.loop-end.end c.at_most-next.result c.loop-end.need (omega (arith, c.at_most-next.ensures)) (omega (arith, c.at_most-next.ensures)) c.loop-end.invariant.least c.loop-end.invariant.pending
+least_length-requires c = front_short c.args.bytes.now c.loop-end.end c.at_most-next.result c.loop-end.need (omega (arith, c.at_most-next.ensures))
+    (omega (arith, c.at_most-next.ensures)) c.loop-end.invariant.least c.loop-end.invariant.pending
 
 pub returns-in-Err : goal.returns-in-Err
 returns-in-Err c =
     let more = front_more c.args.bytes.now c.loop-end.end c.loop-end.need c.loop-end.invariant.within c.loop-end.invariant.least c.loop-end.invariant.pending in
-    front_fault c.args.bytes.now c.loop-end.end c.at_most-next.result c.loop-end.need c.in-Err.fault (omega (arith, more, c.at_most-next.ensures)) (omega (arith, c.at_most-next.ensures)) (omega (arith, c.at_most-next.ensures)) c.loop-end.invariant.least c.loop-end.invariant.pending (sym c.in-Err.ensures.fault)
+    front_fault c.args.bytes.now c.loop-end.end c.at_most-next.result c.loop-end.need c.in-Err.fault (omega (arith, more, c.at_most-next.ensures)) (omega (arith, c.at_most-next.ensures))
+    (omega (arith, c.at_most-next.ensures)) c.loop-end.invariant.least c.loop-end.invariant.pending (sym c.in-Err.ensures.fault)
 
 pub packet_at-requires-clause-complete : goal.packet_at-requires-clause-complete
 packet_at-requires-clause-complete c =
     let more = front_more c.args.bytes.now c.loop-end.end c.loop-end.need c.loop-end.invariant.within c.loop-end.invariant.least c.loop-end.invariant.pending in
-    front_whole c.args.bytes.now c.loop-end.end c.at_most-next.result c.loop-end.need c.in-Ok.least (omega (arith, more, c.at_most-next.ensures)) (omega (arith, c.at_most-next.ensures)) (omega (arith, c.at_most-next.ensures)) c.loop-end.invariant.least c.in-Ok.ensures.need (omega (arith, c.at_most-next.ensures))
+    front_whole c.args.bytes.now c.loop-end.end c.at_most-next.result c.loop-end.need c.in-Ok.least (omega (arith, more, c.at_most-next.ensures)) (omega (arith, c.at_most-next.ensures))
+    (omega (arith, c.at_most-next.ensures)) c.loop-end.invariant.least c.in-Ok.ensures.need (omega (arith, c.at_most-next.ensures))
 
 pub loop-end-smaller : goal.loop-end-smaller
 loop-end-smaller c =
@@ -25,7 +28,8 @@ loop-end-smaller c =
 
 pub loop-end-preserved : goal.loop-end-preserved
 loop-end-preserved c = record {
-  pending = front_pending c.args.bytes.now c.at_most-next.result c.in-Ok.least (omega (arith, c.at_most-next.ensures)) c.in-Ok.ensures.need (omega (arith, c.at_most-next.ensures)) (sym c.in-Ok.ensures.fault);
+  pending = front_pending c.args.bytes.now c.at_most-next.result c.in-Ok.least (omega (arith, c.at_most-next.ensures)) c.in-Ok.ensures.need (omega (arith, c.at_most-next.ensures))
+      (sym c.in-Ok.ensures.fault);
   least = c.in-Ok.ensures.need;
   within = omega (arith, c.at_most-next.ensures);
 }

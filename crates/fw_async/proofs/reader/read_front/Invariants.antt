@@ -1,5 +1,4 @@
-use Rattle.std.proofs.Common.{◌≡◌, ◌≤◌, ◌-◌, length, take}
-use Rattle.fw_async.specs.Reading.{IsPending, need}
+use Rattle.fw_async.proofs.Common.{◌≡◌, ◌≤◌, ◌-◌, length, take, IsPending, need}
 use Rattle.fw_async.proofs.reader.read_front.Given as goal
 
 abbrev pub invariant-loop-end : goal.invariant-loop-end

@@ -1,4 +1,4 @@
-use Rattle.std.proofs.Common.{sym, ◌∙◌}
+use Rattle.fw_async.proofs.Common.{sym, ◌∙◌}
 use Rattle.fw_async.proofs.ExactLaws.{whole_from_spells, clear_from_spells}
 use Rattle.fw_async.proofs.SameLaws.{same_packet}
 use Rattle.fw_async.proofs.reader.whole_packet.Goals as goal

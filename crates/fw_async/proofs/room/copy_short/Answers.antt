@@ -1,4 +1,4 @@
-use Rattle.std.proofs.Common.{◌≡◌, length, ap, ◌∙◌}
+use Rattle.fw_async.proofs.Common.{◌≡◌, length, ap, ◌∙◌}
 use Rattle.fw_async.proofs.RoomLaws.{front_whole}
 use Rattle.fw_async.proofs.room.copy_short.Goals as goal
 

@@ -1,4 +1,4 @@
-use Rattle.std.proofs.Common.{arith}
+use Rattle.fw_async.proofs.Common.{arith}
 use Rattle.fw_async.proofs.SenderLaws.{no_member}
 use Rattle.fw_async.proofs.senders.end_of.Goals as goal
 

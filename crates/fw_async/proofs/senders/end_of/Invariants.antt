@@ -1,4 +1,4 @@
-use Rattle.std.proofs.Common.{◌<◌, ℕ, get_or}
+use Rattle.fw_async.proofs.Common.{◌<◌, ℕ, get_or}
 use Rattle.fw_async.proofs.senders.end_of.Given as goal
 
 abbrev pub invariant-loop-n : goal.invariant-loop-n

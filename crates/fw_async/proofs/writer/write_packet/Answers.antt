@@ -1,4 +1,4 @@
-use Rattle.std.proofs.Common.{◌++◌, ap, ◌∙◌}
+use Rattle.fw_async.proofs.Common.{◌++◌, ap, ◌∙◌}
 use Rattle.fw_async.proofs.ExactLaws.{spelled_alone}
 use Rattle.fw_async.proofs.writer.write_packet.Goals as goal
 

@@ -1,5 +1,5 @@
-use Rattle.std.proofs.Common.{length, take, replicate, arith, ap, refl, sym, eqb-true, ◌++◌, ◌∙◌}
-use Rattle.fw_async.specs.Async.{padding, spelling}
+use Rattle.fw_async.proofs.Common.{length, take, replicate, arith, ap, refl, sym, ◌++◌, ◌∙◌, padding, spelling}
+use Rattle.std.proofs.Common.{eqb-true}
 use Rattle.fw_async.proofs.OverLaws.{together, size_together, front_alone, one_after_another}
 use Rattle.fw_async.proofs.writer.write_packet_at.Goals as goal
 
@@ -54,11 +54,17 @@ returns-clause-end c = omega (
 
 pub returns-then-is_empty-clause-bytes : goal.returns-then-is_empty-clause-bytes
 returns-then-is_empty-clause-bytes c =
-    c.write_over.ensures ∙ ap (λ t. take c.args.at c.args.out.now ++ t) (front_alone c.args.p.now c.as_slice-front.result.now c.data_of-data.result.now (c.as_slice-front.ensures.value ∙ c.front_of-front.ensures) c.data_of-data.ensures.same (eqb-true (length c.data_of-data.result.now) 0 (sym c.is_empty.ensures ∙ c.if-is_empty.true)))
+    c.write_over.ensures ∙ ap (λ t. take c.args.at c.args.out.now ++ t)
+    (front_alone c.args.p.now c.as_slice-front.result.now c.data_of-data.result.now (c.as_slice-front.ensures.value ∙ c.front_of-front.ensures) c.data_of-data.ensures.same
+    (eqb-true (length c.data_of-data.result.now) 0 (sym c.is_empty.ensures ∙ c.if-is_empty.true)))
 
 pub returns-then-is_empty-clause-end : goal.returns-then-is_empty-clause-end
 returns-then-is_empty-clause-end c =
-    omega (arith, ap length (front_alone c.args.p.now c.as_slice-front.result.now c.data_of-data.result.now (c.as_slice-front.ensures.value ∙ c.front_of-front.ensures) c.data_of-data.ensures.same (eqb-true (length c.data_of-data.result.now) 0 (sym c.is_empty.ensures ∙ c.if-is_empty.true))))
+    omega (
+      arith,
+      ap length (front_alone c.args.p.now c.as_slice-front.result.now c.data_of-data.result.now (c.as_slice-front.ensures.value ∙ c.front_of-front.ensures) c.data_of-data.ensures.same
+          (eqb-true (length c.data_of-data.result.now) 0 (sym c.is_empty.ensures ∙ c.if-is_empty.true))),
+    )
 
 pub returns-clause-bytes : goal.returns-clause-bytes
 returns-clause-bytes c =

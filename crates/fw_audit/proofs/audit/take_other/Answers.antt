@@ -1,6 +1,6 @@
 use Rattle.std.proofs.Common.{subst, sym}
-use Rattle.fw_faults.specs.Looked.{looked}
-use Rattle.fw_faults.specs.Faults.{IsVerdict}
+use Rattle.fw_model_audit.specs.Looked.{looked}
+use Rattle.fw_model_audit.specs.Faults.{IsVerdict}
 use Rattle.fw_ledger.specs.Refused.{ShowsAnswer}
 use Rattle.fw_audit.proofs.Verdicts.{answer_verdict, no_answer_verdict, goes_after}
 use Rattle.fw_audit.proofs.audit.take_other.Goals as goal

@@ -1,5 +1,5 @@
 use Rattle.std.proofs.Common.{refl, sym, subst, ◌∙◌}
-use Rattle.fw_account.specs.Account.{Reads}
+use Rattle.fw_model_account.specs.Account.{Reads}
 use Rattle.fw_ledger.specs.Stands.{StandsFor}
 use Rattle.fw_ledger.specs.declared.tables.Tables.{Tables}
 use Rattle.fw_audit.proofs.SoundLaws.{read_clear}

@@ -1,6 +1,6 @@
 use Rattle.std.proofs.Common.{◌∙◌, ap, sym, subst}
 use Rattle.std.specs.Option.{option_map}
-use Rattle.fw_account.specs.Words.{word_of}
+use Rattle.fw_model_account.specs.Words.{word_of}
 use Rattle.fw_ledger.specs.Stands.{StandsFor, AskedFor}
 use Rattle.fw_ledger.specs.declared.tables.Asked.{Asked}
 use Rattle.fw_ledger.specs.declared.tables.Tables.{Tables}

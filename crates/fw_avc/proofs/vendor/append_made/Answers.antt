@@ -12,6 +12,7 @@ loop-byte-preserved g c =
     let more : take (i + 1) asked ≡ take i asked ++ get_or asked i 0 ∷ [] = ap (λ n. take n asked) next ∙ take-suc asked i 0 c.loop-byte-test.true in
     let room : length c.loop-byte.operands ≡ length c.args.operands.now + i = c.loop-byte.invariant.room in
     record {
-      made = adds_one _ (take i asked) (take (i + 1) asked) c.args.operands.now c.loop-byte.operands c.push.new.self (get_or asked i 0) c.vendor_byte.result more c.push.ensures c.loop-byte.invariant.made c.vendor_byte.ensures;
+      made = adds_one _ (take i asked) (take (i + 1) asked) c.args.operands.now c.loop-byte.operands c.push.new.self
+          (get_or asked i 0) c.vendor_byte.result more c.push.ensures c.loop-byte.invariant.made c.vendor_byte.ensures;
       room = rw c.push.ensures (grind (arith, common_steps, room));
     }

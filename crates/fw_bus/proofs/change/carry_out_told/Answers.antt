@@ -1,9 +1,9 @@
 use Rattle.std.proofs.Common.{refl, subst, arith}
 use Rattle.std.specs.Prelude.{Err}
-use Rattle.fw_run.specs.Actions.{HalfStep}
-use Rattle.fw_run.specs.Carrying.{Carries, times}
-use Rattle.fw_machine.specs.Orders.{MayCarry}
-use Rattle.fw_carry.proofs.CarryLaws.{carried}
+use Rattle.fw_model_run.specs.Actions.{HalfStep}
+use Rattle.fw_model_run.specs.Carrying.{Carries, times}
+use Rattle.fw_bus_state.specs.Orders.{MayCarry}
+use Rattle.fw_bus_engine.proofs.CarryLaws.{carried}
 use Rattle.fw_bus.proofs.Changes.{desk_err, performed_once}
 use Rattle.fw_bus.proofs.change.carry_out_told.Goals as goal
 

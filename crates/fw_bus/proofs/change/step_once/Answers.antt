@@ -1,7 +1,7 @@
 use Rattle.std.proofs.Common.{◌≡◌, ◌∙◌, Bool, true, false, not, refl, sym, subst, arith, IsTrue, IsFalse}
 use Rattle.std.specs.Prelude.{Err}
 use Rattle.fw_cmp.specs.Losses.{MayTurn}
-use Rattle.fw_machine.proofs.Living.{living_there}
+use Rattle.fw_bus_state.proofs.Living.{living_there}
 use Rattle.fw_bus.proofs.Changes.{does_err}
 use Rattle.fw_bus.proofs.change.step_once.Goals as goal
 

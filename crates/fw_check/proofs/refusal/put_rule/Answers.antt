@@ -1,6 +1,6 @@
 use Rattle.std.proofs.Common.{List, ℕ, ◌++◌, codes}
 use Rattle.std.proofs.lemmas.Result.{on_ok_weaker}
-use Rattle.fw_command.specs.Keyword.{keyword_in}
+use Rattle.fw_script_command.specs.Keyword.{keyword_in}
 use Rattle.fw_check.specs.Refusals.{form_of_line}
 use Rattle.fw_check.specs.Shown.{headed, shown, word_at}
 use Rattle.fw_check.specs.Whys.{rule_name, why_text}

@@ -1,6 +1,6 @@
 use Rattle.std.proofs.Common.{ℕ, ◌-◌, drop, ap, ◌∙◌, arith}
-use Rattle.fw_command.specs.Form.{behind_first}
-use Rattle.fw_command.specs.Pieces.{pieces}
+use Rattle.fw_script_command.specs.Form.{behind_first}
+use Rattle.fw_script_command.specs.Pieces.{pieces}
 use Rattle.fw_check.proofs.ListLaws.{behind_left}
 use Rattle.fw_check.proofs.shown.word_at.Goals as goal
 

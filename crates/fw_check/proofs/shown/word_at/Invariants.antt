@@ -1,5 +1,5 @@
 use Rattle.std.proofs.Common.{◌≡◌, ◌-◌, drop}
-use Rattle.fw_command.specs.Pieces.{pieces}
+use Rattle.fw_script_command.specs.Pieces.{pieces}
 use Rattle.fw_check.proofs.shown.word_at.Given as goal
 
 abbrev pub invariant-loop-skipped : goal.invariant-loop-skipped

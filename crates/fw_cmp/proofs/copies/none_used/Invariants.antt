@@ -1,4 +1,4 @@
-use Rattle.std.proofs.Common.{◌≡◌, IsTrue, take}
+use Rattle.fw_cmp.proofs.Common.{◌≡◌, IsTrue, take}
 use Rattle.fw_cmp.proofs.copies.none_used.Given as goal
 
 abbrev pub invariant-loop-n : goal.invariant-loop-n

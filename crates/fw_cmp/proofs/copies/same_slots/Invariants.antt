@@ -1,4 +1,5 @@
-use Rattle.std.proofs.Common.{◌≡◌, ◌*◌, take}
+use Rattle.fw_cmp.proofs.Common.{◌≡◌, take}
+use Rattle.std.proofs.Common.{◌*◌}
 use Rattle.fw_cmp.proofs.copies.same_slots.Given as goal
 
 abbrev pub invariant-loop-group : goal.invariant-loop-group

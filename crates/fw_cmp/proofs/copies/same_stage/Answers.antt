@@ -1,9 +1,8 @@
-use Rattle.std.proofs.Common.{rules, ◌≡◌, IsTrue}
-use Rattle.fw_cmp.specs.declared.job.Ending.{Ending}
+use Rattle.fw_cmp.proofs.Common.{◌≡◌, IsTrue, Ending, Stage, Begin, ReadOutput, ReadChannels, SwapChannels, ReadBandwidth, SwapBandwidth, ConnectOutput, OverlayOutput, ReadInput, ConnectInput}
+use Rattle.fw_cmp.proofs.Common.{ReadInputToLeave, LeaveInput, ReadOutputToLeave, LeaveOutput, ReadBandwidthToRelease, RaiseBandwidth, ReadChannelsToRelease, RestoreChannel, Made, Ended}
+use Rattle.std.proofs.Common.{rules}
 use Rattle.fw_cmp.specs.declared.job.Then.{Then}
 use Rattle.fw_cmp.specs.declared.job.Then.TheVariants.{EndsAs, Again}
-use Rattle.fw_cmp.specs.declared.stage.Stage.{Stage}
-use Rattle.fw_cmp.specs.declared.stage.Stage.TheVariants.{Begin, ReadOutput, ReadChannels, SwapChannels, ReadBandwidth, SwapBandwidth, ConnectOutput, OverlayOutput, ReadInput, ConnectInput, ReadInputToLeave, LeaveInput, ReadOutputToLeave, LeaveOutput, ReadBandwidthToRelease, RaiseBandwidth, ReadChannelsToRelease, RestoreChannel, Made, Ended}
 use Rattle.fw_cmp.specs.contracts.job.EndingPartialEq.TheImpl as Endings
 use Rattle.fw_cmp.specs.contracts.job.ThenPartialEq.TheImpl as Thens
 use Rattle.fw_cmp.specs.contracts.stage.StagePartialEq.TheImpl as Stages

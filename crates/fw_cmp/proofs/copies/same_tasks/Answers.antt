@@ -1,6 +1,6 @@
-use Rattle.std.proofs.Common.{rules, ◌≡◌, Decides}
+use Rattle.fw_cmp.proofs.Common.{◌≡◌, Task}
+use Rattle.std.proofs.Common.{rules, Decides}
 use Rattle.std.proofs.lemmas.Slice.Eq.{slice_eq-Decides}
-use Rattle.fw_cmp.specs.declared.current.Task.{Task}
 use Rattle.fw_cmp.specs.contracts.current.TaskPartialEq.TheImpl.{eq-value}
 use Rattle.fw_cmp.proofs.copies.same_tasks.Goals as goal
 

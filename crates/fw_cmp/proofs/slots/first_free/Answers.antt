@@ -1,7 +1,5 @@
-use Rattle.std.proofs.Common.{arith, sym, ◌≡◌, ◌∙◌, get_or}
-use Rattle.fw_base.proofs.Finds.{find_none, find_more, find_here}
-use Rattle.fw_cmp.specs.Controllers.{is_free}
-use Rattle.fw_cmp.specs.declared.connection.Slot.TheVariants.{Free}
+use Rattle.fw_cmp.proofs.Common.{arith, sym, ◌≡◌, ◌∙◌, get_or, is_free, Free}
+use Rattle.fw_terms.proofs.Finds.{find_none, find_more, find_here}
 use Rattle.fw_cmp.proofs.slots.first_free.Goals as goal
 
 pub loop-i-init : goal.loop-i-init

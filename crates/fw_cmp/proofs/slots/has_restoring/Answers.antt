@@ -1,4 +1,5 @@
-use Rattle.std.proofs.Common.{ap, is_some, not, subst, ◌∙◌}
+use Rattle.fw_cmp.proofs.Common.{ap, not, subst, ◌∙◌}
+use Rattle.std.proofs.Common.{is_some}
 use Rattle.std.specs.Prelude.{Bool}
 use Rattle.fw_cmp.specs.Known.{NoneToRestore}
 use Rattle.fw_cmp.proofs.Restoring.{none_found}

@@ -1,5 +1,5 @@
-use Rattle.std.proofs.Common.{◌≡◌, ◌++◌, map, take, drop}
-use Rattle.fw_cmp.specs.Resets.{slot_reset}
+use Rattle.fw_cmp.proofs.Common.{◌≡◌, ◌++◌, take, slot_reset}
+use Rattle.std.proofs.Common.{map, drop}
 use Rattle.fw_cmp.proofs.slots.reset.Given as goal
 
 abbrev pub invariant-loop-slot : goal.invariant-loop-slot

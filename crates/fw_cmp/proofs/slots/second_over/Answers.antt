@@ -1,7 +1,6 @@
-use Rattle.std.proofs.Common.{arith}
+use Rattle.fw_cmp.proofs.Common.{arith, slot_over}
 use Rattle.std.proofs.lemmas.Grind.{common_steps}
 use Rattle.std.proofs.lemmas.List.Edits.{map_over_more}
-use Rattle.fw_cmp.specs.Resets.{slot_over}
 use Rattle.fw_cmp.proofs.slots.second_over.Goals as goal
 
 pub loop-slot-preserved : goal.loop-slot-preserved

@@ -1,5 +1,5 @@
-use Rattle.std.proofs.Common.{◌≡◌, ◌++◌, map, take, drop}
-use Rattle.fw_cmp.specs.Resets.{slot_over}
+use Rattle.fw_cmp.proofs.Common.{◌≡◌, ◌++◌, take, slot_over}
+use Rattle.std.proofs.Common.{map, drop}
 use Rattle.fw_cmp.proofs.slots.second_over.Given as goal
 
 abbrev pub invariant-loop-slot : goal.invariant-loop-slot

@@ -1,4 +1,5 @@
-use Rattle.std.proofs.Common.{rules, subst}
+use Rattle.fw_cmp.proofs.Common.{subst}
+use Rattle.std.proofs.Common.{rules}
 use Rattle.std.specs.Prelude.{Bool}
 use Rattle.fw_cmp.specs.Known.{NoneToRestore}
 use Rattle.fw_cmp.proofs.Restoring.{found_none, none_found}

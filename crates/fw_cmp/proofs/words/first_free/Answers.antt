@@ -1,6 +1,5 @@
-use Rattle.std.proofs.Common.{arith, sym, ◌≡◌}
-use Rattle.std.proofs.lemmas.Bool.Decides.{nat_tests}
-use Rattle.fw_base.proofs.Finds.{find_none, find_more, find_here}
+use Rattle.fw_cmp.proofs.Common.{arith, sym, ◌≡◌, nat_tests}
+use Rattle.fw_terms.proofs.Finds.{find_none, find_more, find_here}
 use Rattle.fw_cmp.specs.Plugs.{is_bit}
 use Rattle.fw_cmp.proofs.words.first_free.Goals as goal
 

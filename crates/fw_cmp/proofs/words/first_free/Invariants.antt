@@ -1,5 +1,4 @@
-use Rattle.std.proofs.Common.{◌≡◌, None}
-use Rattle.fw_base.specs.Tables.{find_to}
+use Rattle.fw_cmp.proofs.Common.{◌≡◌, None, find_to}
 use Rattle.fw_cmp.specs.Plugs.{is_bit}
 use Rattle.fw_cmp.proofs.words.first_free.Given as goal
 

@@ -1,4 +1,5 @@
-use Rattle.std.proofs.Common.{◌≡◌, ◌+◌, ◌-◌, ◌/◌, ◌%◌, ◌^◌, ◌<◌, arith, ap, ◌∙◌}
+use Rattle.fw_cmp.proofs.Common.{◌≡◌, ◌+◌, ◌<◌, arith, ap, ◌∙◌}
+use Rattle.std.proofs.Common.{◌-◌, ◌/◌, ◌%◌, ◌^◌}
 use Rattle.fw_words.specs.Quadlet.{field}
 use Rattle.fw_cmp.proofs.Bits.{room_for_bit}
 use Rattle.fw_cmp.proofs.words.with_bit.Goals as goal

@@ -1,6 +1,4 @@
-use Rattle.std.proofs.Common.{arith}
-use Rattle.std.proofs.lemmas.List.{length-map}
-use Rattle.fw_node.specs.State.{NodeState}
+use Rattle.fw_devices.proofs.Common.{arith, length-map, NodeState}
 use Rattle.fw_tree.specs.Cables.{here}
 use Rattle.fw_tree.proofs.NumberingLaws.{count_most}
 use Rattle.fw_devices.proofs.ResetLaws.{declared}

@@ -1,14 +1,8 @@
-use Rattle.std.proofs.Common.{false, ◌≡◌, ◌<◌, ◌+◌, ◌++◌, ◌∷◌, [], ◌∙◌, inl, inr, ℕ, List, Option, Some, length, slice_get, arith, ap, sym, subst}
-use Rattle.std.proofs.lemmas.Bool.{cases_lt}
-use Rattle.std.proofs.lemmas.List.{length_push, get_or_append_left, get_or_push, get_or_read}
+use Rattle.fw_devices.proofs.Common.{false, ◌≡◌, ◌<◌, ◌+◌, ◌++◌, ◌∷◌, [], ◌∙◌, inl, inr, ℕ, List, Option, Some, length, slice_get, arith, ap, sym, subst, cases_lt, length_push, DeviceKind, Relay}
+use Rattle.fw_devices.proofs.Common.{NodeRow, NodeState, first_state, number_at, kind_at, kinds_of, row_of}
+use Rattle.std.proofs.lemmas.List.{get_or_append_left, get_or_push, get_or_read}
 use Rattle.std.proofs.lemmas.Option.{slice_get-get_or}
-use Rattle.fw_base.specs.declared.device.DeviceKind.{DeviceKind}
-use Rattle.fw_base.specs.declared.device.DeviceKind.TheVariants.{Relay}
-use Rattle.fw_entry.specs.declared.nodes.NodeRow.{NodeRow}
-use Rattle.fw_node.specs.State.{NodeState, first_state}
-use Rattle.fw_tree.specs.Numbers.{number_at, device_at}
-use Rattle.fw_devices.specs.Network.{kind_at, kinds_of}
-use Rattle.fw_devices.specs.Entries.{row_of}
+use Rattle.fw_tree.specs.Numbers.{device_at}
 use Rattle.fw_devices.proofs.NetworkLaws.{kind_of_node}
 use Rattle.fw_devices.proofs.bus.rows_of.Goals as goal
 
@@ -16,7 +10,8 @@ abbrev kind_of : NodeState → DeviceKind
 kind_of n = n.kind
 
 -- the rows of the first nodes, and that of one more
-one_more : (number : List (Option ℕ)) (kinds : List DeviceKind) (rows : List NodeRow) (n device : ℕ) → ((d e n : ℕ) → number_at number d ≡ Some n → number_at number e ≡ Some n → d ≡ e) → number_at number device ≡ Some n → length rows ≡ n → ((d k : ℕ) → number_at number d ≡ Some k → k < n → slice_get rows k ≡ Some (row_of d (kind_at kinds d)))
+one_more : (number : List (Option ℕ)) (kinds : List DeviceKind) (rows : List NodeRow) (n device : ℕ) → ((d e n : ℕ) → number_at number d ≡ Some n → number_at number e ≡ Some n → d ≡ e)
+    → number_at number device ≡ Some n → length rows ≡ n → ((d k : ℕ) → number_at number d ≡ Some k → k < n → slice_get rows k ≡ Some (row_of d (kind_at kinds d)))
     → (d k : ℕ) → number_at number d ≡ Some k → k < n + 1 → slice_get (rows ++ row_of device (kind_at kinds device) ∷ []) k ≡ Some (row_of d (kind_at kinds d))
 one_more number kinds rows n device one at size each d k is low =
     let row = row_of device (kind_at kinds device) in
@@ -37,7 +32,8 @@ loop-n-preserved c =
     let device = device_at c.devices_of-devices.result c.loop-n.n in
     let at = c.devices_of-devices.ensures.devices c.loop-n.n c.loop-n-test.true in
     let low = c.requires.declared device c.loop-n.n at in
-    let kind : c.kind.result ≡ kind_at (kinds_of nodes) device = c.kind.ensures ∙ ap kind_of (get_or_read nodes device c.index-nodes-device.result low c.index-nodes-device.is (first_state Relay 0 0 false)) ∙ sym (kind_of_node nodes device) in
+    let kind : c.kind.result ≡ kind_at (kinds_of nodes) device =
+    c.kind.ensures ∙ ap kind_of (get_or_read nodes device c.index-nodes-device.result low c.index-nodes-device.is (first_state Relay 0 0 false)) ∙ sym (kind_of_node nodes device) in
     let row : c.row_of.result ≡ row_of device (kind_at (kinds_of nodes) device) = c.row_of.ensures ∙ ap (row_of device) kind in
     let rows : c.push.new.self ≡ c.loop-n.rows ++ row_of device (kind_at (kinds_of nodes) device) ∷ [] = c.push.ensures ∙ ap (λ r. c.loop-n.rows ++ r ∷ []) row in
     let P : List NodeRow → Type 0 = λ xs. (d k : ℕ) → number_at number d ≡ Some k → k < c.loop-n.n + 1 → slice_get xs k ≡ Some (row_of d (kind_at (kinds_of nodes) d)) in

@@ -1,7 +1,4 @@
-use Rattle.std.proofs.Common.{◌≡◌, ◌<◌, ℕ, Some, length, slice_get}
-use Rattle.fw_tree.specs.Numbers.{number_at}
-use Rattle.fw_devices.specs.Network.{kinds_of, kind_at}
-use Rattle.fw_devices.specs.Entries.{row_of}
+use Rattle.fw_devices.proofs.Common.{◌≡◌, ◌<◌, ℕ, Some, length, slice_get, number_at, kinds_of, kind_at, row_of}
 use Rattle.fw_devices.proofs.bus.rows_of.Given as goal
 
 abbrev pub invariant-loop-n : goal.invariant-loop-n

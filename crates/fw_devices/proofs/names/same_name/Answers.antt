@@ -1,4 +1,4 @@
-use Rattle.std.proofs.Common.{◌∙◌}
+use Rattle.fw_devices.proofs.Common.{◌∙◌}
 use Rattle.fw_devices.proofs.NetworkLaws.{same_bytes_is}
 use Rattle.fw_devices.proofs.names.same_name.Goals as goal
 

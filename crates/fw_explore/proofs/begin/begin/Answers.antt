@@ -1,6 +1,5 @@
-use Rattle.std.proofs.Common.{ℕ, ◌≡◌, List, [], ◌∷◌, ap, subst, ◌∙◌}
-use Rattle.fw_levels.specs.Tables.{Entry}
-use Rattle.fw_explored.specs.Steps.{Had, IsFirstKey}
+use Rattle.fw_explore.proofs.Common.{ℕ, ◌≡◌, List, [], ◌∷◌, ap, subst, ◌∙◌, Entry, Had}
+use Rattle.fw_explore_meaning.specs.Steps.{IsFirstKey}
 use Rattle.fw_explore.specs.KeptBuses.{Keeping}
 use Rattle.fw_explore.proofs.begin.begin.Goals as goal
 

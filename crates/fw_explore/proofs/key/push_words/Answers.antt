@@ -1,7 +1,8 @@
-use Rattle.std.proofs.Common.{◌≡◌, ◌≤◌, ◌-◌, ◌++◌, ◌∷◌, [], length, take, drop, get_or, arith, ap, sym, ◌∙◌, append-nil, append_assoc}
+use Rattle.fw_explore.proofs.Common.{◌≡◌, ◌≤◌, ◌-◌, ◌++◌, ◌∷◌, [], length, take, drop, get_or, arith, ap, sym, ◌∙◌}
+use Rattle.std.proofs.Common.{append-nil, append_assoc}
 use Rattle.std.proofs.lemmas.Grind.{common_steps}
 use Rattle.std.specs.Int.{w32, from_le_bytes}
-use Rattle.fw_parts.proofs.WordLaws.{words_short, words_step}
+use Rattle.fw_kept_parts.proofs.WordLaws.{words_short, words_step}
 use Rattle.fw_explore.proofs.key.push_words.Goals as goal
 
 pub loop-rest-preserved : goal.loop-rest-preserved

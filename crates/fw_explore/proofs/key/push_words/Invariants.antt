@@ -1,5 +1,4 @@
-use Rattle.std.proofs.Common.{◌≡◌, ◌++◌, length}
-use Rattle.fw_parts.specs.Words.{words_of}
+use Rattle.fw_explore.proofs.Common.{◌≡◌, ◌++◌, length, words_of}
 use Rattle.fw_explore.proofs.key.push_words.Given as goal
 
 abbrev pub invariant-loop-rest : goal.invariant-loop-rest

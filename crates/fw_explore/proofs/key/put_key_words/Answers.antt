@@ -1,6 +1,7 @@
-use Rattle.std.proofs.Common.{◌≡◌, ◌≤◌, ◌-◌, ◌++◌, ◌∷◌, [], length, take, drop, get_or, arith, append_assoc}
+use Rattle.fw_explore.proofs.Common.{◌≡◌, ◌≤◌, ◌-◌, ◌++◌, ◌∷◌, [], length, take, drop, get_or, arith}
+use Rattle.std.proofs.Common.{append_assoc}
 use Rattle.std.proofs.lemmas.Grind.{common_steps}
-use Rattle.fw_parts.specs.Words.{bytes_of}
+use Rattle.fw_kept_parts.specs.Words.{bytes_of}
 use Rattle.fw_explore.proofs.KeyForms.{put_four}
 use Rattle.fw_explore.proofs.key.put_key_words.Goals as goal
 

@@ -1,5 +1,5 @@
-use Rattle.std.proofs.Common.{◌≡◌, ◌++◌, length}
-use Rattle.fw_parts.specs.Words.{bytes_of}
+use Rattle.fw_explore.proofs.Common.{◌≡◌, ◌++◌, length}
+use Rattle.fw_kept_parts.specs.Words.{bytes_of}
 use Rattle.fw_explore.proofs.key.put_key_words.Given as goal
 
 abbrev pub invariant-loop-rest : goal.invariant-loop-rest

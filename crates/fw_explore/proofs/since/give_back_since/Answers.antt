@@ -1,6 +1,5 @@
-use Rattle.std.proofs.Common.{subst}
+use Rattle.fw_explore.proofs.Common.{subst, Since}
 use Rattle.fw_explore.specs.KeptBuses.{IsSince}
-use Rattle.fw_explore.specs.declared.since.Since.{Since}
 use Rattle.fw_explore.proofs.since.give_back_since.Goals as goal
 
 pub give_back_from-requires-clause-now : goal.give_back_from-requires-clause-now

@@ -1,6 +1,5 @@
-use Rattle.std.proofs.Common.{subst}
+use Rattle.fw_explore.proofs.Common.{subst, Since}
 use Rattle.fw_explore.specs.KeptBuses.{IsSince}
-use Rattle.fw_explore.specs.declared.since.Since.{Since}
 use Rattle.fw_explore.proofs.since.keep_since.Goals as goal
 
 pub keep_half-requires-clause-now : goal.keep_half-requires-clause-now

@@ -1,6 +1,5 @@
-use Rattle.std.proofs.Common.{sym, ap, subst, ◌∙◌, arith}
-use Rattle.fw_movers.specs.declared.mover.Mover.{Mover}
-use Rattle.fw_explored.proofs.ThereLaws.{NoneWaits, none_first, none_more, all_came, earlier_waits}
+use Rattle.fw_explore.proofs.Common.{sym, ap, subst, ◌∙◌, arith, Mover}
+use Rattle.fw_explore_meaning.proofs.ThereLaws.{NoneWaits, none_first, none_more, all_came, earlier_waits}
 use Rattle.fw_explore.proofs.Numbers.{mover_read, same_mover}
 use Rattle.fw_explore.proofs.there.is_next.Goals as goal
 

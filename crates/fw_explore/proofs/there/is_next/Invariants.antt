@@ -1,5 +1,5 @@
 -- draft
-use Rattle.fw_explored.proofs.ThereLaws.{NoneWaits}
+use Rattle.fw_explore_meaning.proofs.ThereLaws.{NoneWaits}
 use Rattle.fw_explore.proofs.there.is_next.Given as goal
 
 abbrev pub invariant-loop-other : goal.invariant-loop-other

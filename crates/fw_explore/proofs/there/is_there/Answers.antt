@@ -1,6 +1,6 @@
-use Rattle.std.proofs.Common.{sym, ap, ◌∙◌, inl}
-use Rattle.fw_movers.specs.declared.mover.Mover.{Mover}
-use Rattle.fw_explored.proofs.HistoryLaws.{apart}
+use Rattle.fw_explore.proofs.Common.{sym, ap, ◌∙◌, Mover}
+use Rattle.std.proofs.Common.{inl}
+use Rattle.fw_explore_meaning.proofs.HistoryLaws.{apart}
 use Rattle.fw_explore.proofs.Numbers.{same_mover, there_by}
 use Rattle.fw_explore.proofs.there.is_there.Goals as goal
 

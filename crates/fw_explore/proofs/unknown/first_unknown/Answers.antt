@@ -1,6 +1,4 @@
-use Rattle.std.proofs.Common.{◌<◌, List, length, get_or, sym, ap, subst, ◌∙◌, arith}
-use Rattle.fw_movers.specs.declared.mover.Line.{Line}
-use Rattle.fw_movers.specs.declared.mover.Mover.{Mover}
+use Rattle.fw_explore.proofs.Common.{◌<◌, List, length, get_or, sym, ap, subst, ◌∙◌, arith, Line, Mover}
 use Rattle.fw_explore.proofs.UnknownLaws.{MoversKnown, line_unknown, lines_more, mover_unknown, movers_more}
 use Rattle.fw_explore.proofs.unknown.first_unknown.Goals as goal
 

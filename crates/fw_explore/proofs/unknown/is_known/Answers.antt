@@ -1,4 +1,5 @@
-use Rattle.std.proofs.Common.{List, ℕ, is_some, ap, ◌∙◌, rules, tests}
+use Rattle.fw_explore.proofs.Common.{List, ℕ, ap, ◌∙◌}
+use Rattle.std.proofs.Common.{is_some, rules, tests}
 use Rattle.std.specs.List.{list_all}
 use Rattle.std.proofs.lemmas.Iterator.{YieldsList-from_slice}
 use Rattle.std.proofs.lemmas.Iterator.Search.{all_from_yields_List}

@@ -1,4 +1,4 @@
-use Rattle.std.proofs.Common.{◌≡◌, ◌≤◌, take, length}
+use Rattle.fw_explore.proofs.Common.{◌≡◌, ◌≤◌, take, length}
 use Rattle.fw_explore.proofs.word.device_names.Given as goal
 
 abbrev pub invariant-loop-device : goal.invariant-loop-device

@@ -1,7 +1,5 @@
-use Rattle.std.proofs.Common.{ℕ, ◌≡◌, ◌<◌, List, [], ◌∷◌, length, refl, sym, ap, subst, ◌∙◌, arith}
-use Rattle.fw_machine.specs.declared.machine.Machine.{Machine}
-use Rattle.fw_run.specs.Desks.{DeskRelations}
-use Rattle.fw_explored.proofs.StartLaws.{all_first}
+use Rattle.fw_explore.proofs.Common.{ℕ, ◌≡◌, ◌<◌, List, [], ◌∷◌, length, refl, sym, ap, subst, ◌∙◌, arith, Machine, DeskRelations}
+use Rattle.fw_explore_meaning.proofs.StartLaws.{all_first}
 use Rattle.fw_explore.proofs.WordLaws.{text_is}
 use Rattle.fw_explore.proofs.word.explore_from.Given as given
 use Rattle.fw_explore.proofs.word.explore_from.Goals as goal

@@ -1,6 +1,4 @@
-use Rattle.std.proofs.Common.{ℕ, ◌≡◌, List, refl, sym, ap, subst, ◌∙◌}
-use Rattle.fw_bus.specs.Buses.{StandsFor}
-use Rattle.fw_run.specs.Desks.{DeskRelations}
+use Rattle.fw_explore.proofs.Common.{ℕ, ◌≡◌, List, refl, sym, ap, subst, ◌∙◌, StandsFor, DeskRelations}
 use Rattle.fw_explore.proofs.WordLaws.{stopped, unknown_named, too_many, all_explored}
 use Rattle.fw_explore.proofs.word.text_after.Given as given
 use Rattle.fw_explore.proofs.word.text_after.Goals as goal

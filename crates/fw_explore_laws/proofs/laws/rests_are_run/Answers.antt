@@ -1,5 +1,5 @@
 -- The clause is a lemma.
-use Rattle.fw_run.specs.Desks.{DeskRelations}
+use Rattle.fw_explore_laws.proofs.Common.{DeskRelations}
 use Rattle.fw_explore_laws.proofs.Runs.{rests_are_run}
 use Rattle.fw_explore_laws.proofs.laws.rests_are_run.Given as given
 use Rattle.fw_explore_laws.proofs.laws.rests_are_run.Goals as goal

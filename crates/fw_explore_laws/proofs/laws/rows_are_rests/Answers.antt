@@ -1,5 +1,5 @@
 -- The clause is a lemma.
-use Rattle.fw_run.specs.Desks.{DeskRelations}
+use Rattle.fw_explore_laws.proofs.Common.{DeskRelations}
 use Rattle.fw_explore_laws.proofs.Rows.{rows_are_rests}
 use Rattle.fw_explore_laws.proofs.laws.rows_are_rests.Given as given
 use Rattle.fw_explore_laws.proofs.laws.rows_are_rests.Goals as goal

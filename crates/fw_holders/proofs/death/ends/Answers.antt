@@ -1,8 +1,6 @@
-use Rattle.std.proofs.Common.{◌≡◌, ◌+◌, ◌∙◌, ap, List}
-use Rattle.fw_base.specs.Tables.{sum_plugs}
-use Rattle.fw_ledger.specs.declared.tables.Seats.{Seats}
+use Rattle.fw_holders.proofs.Common.{◌≡◌, ◌+◌, ◌∙◌, ap, List, Seats, ends_in}
+use Rattle.fw_terms.specs.Tables.{sum_plugs}
 use Rattle.fw_holders.specs.Deeds.{ends_at}
-use Rattle.fw_holders.specs.Seated.{ends_in}
 use Rattle.fw_holders.proofs.EndsLaws.{all_output_ends, all_input_ends}
 use Rattle.fw_holders.proofs.death.ends.Goals as goal
 

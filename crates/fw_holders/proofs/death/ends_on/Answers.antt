@@ -1,6 +1,4 @@
-use Rattle.std.proofs.Common.{◌+◌, ℕ, ◌∙◌, ap, sym, arith}
-use Rattle.fw_base.specs.Tables.{sum_to, at_plug}
-use Rattle.fw_holders.specs.Seated.{ends_in}
+use Rattle.fw_holders.proofs.Common.{◌+◌, ℕ, ◌∙◌, ap, sym, arith, sum_to, at_plug, ends_in}
 use Rattle.fw_holders.proofs.EndsLaws.{no_sum, next_sum}
 use Rattle.fw_holders.proofs.death.ends_on.Goals as goal
 

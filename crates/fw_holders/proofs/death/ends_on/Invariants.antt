@@ -1,6 +1,5 @@
-use Rattle.std.proofs.Common.{◌≡◌, ◌*◌, ◌≤◌}
-use Rattle.fw_base.specs.Tables.{sum_to, at_plug}
-use Rattle.fw_holders.specs.Seated.{ends_in}
+use Rattle.fw_holders.proofs.Common.{◌≡◌, ◌≤◌, sum_to, at_plug, ends_in}
+use Rattle.std.proofs.Common.{◌*◌}
 use Rattle.fw_holders.proofs.death.ends_on.Given as goal
 
 abbrev pub invariant-loop-plug : goal.invariant-loop-plug

@@ -1,6 +1,6 @@
-use Rattle.std.proofs.Common.{arith, sym, ◌≡◌, ◌∙◌}
-use Rattle.fw_base.proofs.Finds.{find_none, find_more, find_here}
-use Rattle.fw_account.specs.Account.{is_pending}
+use Rattle.fw_holders.proofs.Common.{arith, sym, ◌≡◌, ◌∙◌}
+use Rattle.fw_terms.proofs.Finds.{find_none, find_more, find_here}
+use Rattle.fw_model_account.specs.Account.{is_pending}
 use Rattle.fw_ledger.specs.Stands.{allocation_of, charge_at}
 use Rattle.fw_holders.proofs.death.first_pending.Goals as goal
 

@@ -1,4 +1,4 @@
-use Rattle.std.proofs.Common.{codes, decimal}
+use Rattle.fw_holders.proofs.Common.{codes, decimal}
 use Rattle.fw_holders.proofs.TextLaws.{then_put}
 use Rattle.fw_holders.proofs.death.put_orphan.Goals as goal
 

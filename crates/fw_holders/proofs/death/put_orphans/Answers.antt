@@ -1,4 +1,4 @@
-use Rattle.std.proofs.Common.{◌≡◌, ◌++◌, OnOk, Option, ℕ, codes, decimal, sym, subst}
+use Rattle.fw_holders.proofs.Common.{◌≡◌, ◌++◌, OnOk, Option, ℕ, codes, decimal, sym, subst}
 use Rattle.fw_holders.specs.Deeds.{orphans_text}
 use Rattle.fw_holders.proofs.TextLaws.{then_put}
 use Rattle.fw_holders.proofs.death.put_orphans.Goals as goal

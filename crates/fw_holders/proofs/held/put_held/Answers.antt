@@ -1,6 +1,4 @@
-use Rattle.std.proofs.Common.{◌++◌, ◌∙◌, ap, sym, List, ℕ}
-use Rattle.std.proofs.lemmas.List.{append-nil}
-use Rattle.fw_who.specs.Names.{nodes_of}
+use Rattle.fw_holders.proofs.Common.{◌++◌, ◌∙◌, ap, sym, List, ℕ, append-nil, nodes_of}
 use Rattle.fw_holders.specs.Held.{with_holding, held_below}
 use Rattle.fw_holders.proofs.HoldingLaws.{nodes_shown}
 use Rattle.fw_holders.proofs.HeldLaws.{none_held, next_held}

@@ -1,6 +1,4 @@
-use Rattle.std.proofs.Common.{◌≡◌, ◌++◌}
-use Rattle.fw_account.specs.Account.{Account}
-use Rattle.fw_ledger.specs.Stands.{StandsFor}
+use Rattle.fw_holders.proofs.Common.{◌≡◌, ◌++◌, Account, StandsFor}
 use Rattle.fw_holders.specs.Held.{held_below}
 use Rattle.fw_holders.proofs.held.put_held.Given as goal
 

@@ -1,16 +1,9 @@
-use Rattle.std.proofs.Common.{◌≡◌, ◌++◌, OnOk, Option, Some, None, List, ℕ, Bool, sym, ◌∙◌, ap, subst, option_map}
-use Rattle.std.proofs.lemmas.List.{append-nil}
-use Rattle.fw_entry.specs.Network.{device_of_id}
-use Rattle.fw_entry.specs.declared.entry.ResetEntry.{ResetEntry}
-use Rattle.fw_faults.specs.Looked.{Replies}
-use Rattle.fw_ledger.specs.Stands.{StandsFor}
-use Rattle.fw_ledger.specs.declared.tables.Tables.{Tables}
+use Rattle.fw_holders.proofs.Common.{◌≡◌, ◌++◌, OnOk, Option, Some, None, List, ℕ, Bool, sym, ◌∙◌, ap, subst, append-nil, device_of_id, ResetEntry, Replies, StandsFor, Tables, packet_told, nodes_of}
+use Rattle.fw_holders.proofs.Common.{line_of}
+use Rattle.std.proofs.Common.{option_map}
 use Rattle.fw_holders.specs.declared.deed.Deed.{Deed}
-use Rattle.fw_holders.specs.Deeds.{packet_told}
 use Rattle.fw_holders.specs.Found.{answer_deed}
 use Rattle.fw_holders.specs.Moves.{done_text}
-use Rattle.fw_who.specs.Names.{nodes_of}
-use Rattle.fw_holders.specs.Told.{line_of}
 use Rattle.fw_holders.proofs.ReplyLaws.{response_tells}
 use Rattle.fw_holders.proofs.lines.put_answer.Goals as goal
 

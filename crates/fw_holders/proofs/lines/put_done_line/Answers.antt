@@ -1,8 +1,5 @@
-use Rattle.std.proofs.Common.{◌≡◌, ◌++◌, ◌∙◌, ap, List, ℕ, Bool, codes, decimal, length}
-use Rattle.fw_entry.specs.declared.nodes.NodeRow.{NodeRow}
-use Rattle.fw_who.specs.Names.{nodes_of, right}
+use Rattle.fw_holders.proofs.Common.{◌≡◌, ◌++◌, ◌∙◌, ap, List, ℕ, Bool, codes, decimal, length, NodeRow, nodes_of, right, rest_of_line, line}
 use Rattle.fw_holders.specs.Moves.{done_text}
-use Rattle.fw_holders.specs.Told.{rest_of_line, line}
 use Rattle.fw_holders.proofs.HoldingLaws.{nodes_shown}
 use Rattle.fw_holders.proofs.TextLaws.{then_put}
 use Rattle.fw_holders.proofs.lines.put_done_line.Goals as goal

@@ -1,7 +1,5 @@
-use Rattle.std.proofs.Common.{◌≡◌, ◌++◌, List, ℕ, codes, decimal, length}
-use Rattle.fw_who.specs.Names.{right}
+use Rattle.fw_holders.proofs.Common.{◌≡◌, ◌++◌, List, ℕ, codes, decimal, length, right, rest_of_line, line}
 use Rattle.fw_holders.specs.Deeds.{reset_text}
-use Rattle.fw_holders.specs.Told.{rest_of_line, line}
 use Rattle.fw_holders.proofs.TextLaws.{then_put}
 use Rattle.fw_holders.proofs.lines.put_reset.Goals as goal
 

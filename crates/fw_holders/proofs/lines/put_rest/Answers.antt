@@ -1,8 +1,7 @@
-use Rattle.std.proofs.Common.{◌≡◌, ◌++◌, ◌∙◌, ap, List, ℕ, codes, decimal}
-use Rattle.fw_account.specs.Account.{remainder}
-use Rattle.fw_who.specs.Names.{left, right}
+use Rattle.fw_holders.proofs.Common.{◌≡◌, ◌++◌, ◌∙◌, ap, List, ℕ, codes, decimal, right, rest_of_line}
+use Rattle.fw_model_account.specs.Account.{remainder}
+use Rattle.fw_holders_text.specs.Names.{left}
 use Rattle.fw_holders.specs.Held.{held_text}
-use Rattle.fw_holders.specs.Told.{rest_of_line}
 use Rattle.fw_holders.proofs.TextLaws.{both_put, then_put}
 use Rattle.fw_holders.proofs.lines.put_rest.Goals as goal
 

@@ -1,7 +1,7 @@
-use Rattle.std.proofs.Common.{arith, sym, ◌≡◌, ◌==◌, not}
+use Rattle.fw_holders.proofs.Common.{arith, sym, ◌≡◌, ◌==◌, field}
+use Rattle.std.proofs.Common.{not}
 use Rattle.std.proofs.lemmas.Bool.Decides.{nat_tests}
-use Rattle.fw_base.proofs.Finds.{find_none, find_more, find_here}
-use Rattle.fw_words.specs.Quadlet.{field}
+use Rattle.fw_terms.proofs.Finds.{find_none, find_more, find_here}
 use Rattle.fw_holders.proofs.moves.changed_bit.Goals as goal
 
 pub loop-i-init : goal.loop-i-init

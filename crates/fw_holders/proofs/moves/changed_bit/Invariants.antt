@@ -1,6 +1,6 @@
-use Rattle.std.proofs.Common.{◌≡◌, ◌==◌, not, None}
-use Rattle.fw_base.specs.Tables.{find_to}
-use Rattle.fw_words.specs.Quadlet.{field}
+use Rattle.fw_holders.proofs.Common.{◌≡◌, ◌==◌, None, field}
+use Rattle.std.proofs.Common.{not}
+use Rattle.fw_terms.specs.Tables.{find_to}
 use Rattle.fw_holders.proofs.moves.changed_bit.Given as goal
 
 abbrev pub invariant-loop-i : goal.invariant-loop-i

@@ -1,5 +1,4 @@
-use Rattle.std.proofs.Common.{◌≡◌, ◌+◌, ◌≤◌, ◌<◌, ℕ, slice_index, arith}
-use Rattle.fw_base.specs.Tables.{sum_to}
+use Rattle.fw_holders.proofs.Common.{◌≡◌, ◌+◌, ◌≤◌, ◌<◌, ℕ, slice_index, arith, sum_to}
 use Rattle.fw_holders.proofs.EndsLaws.{no_sum, next_sum}
 use Rattle.fw_holders.proofs.PlugLaws.{sum_grows}
 use Rattle.fw_holders.proofs.owners.orphaned.Goals as goal

@@ -1,7 +1,5 @@
-use Rattle.std.proofs.Common.{◌≡◌, ◌+◌}
-use Rattle.fw_base.specs.Tables.{sum_to}
-use Rattle.fw_account.specs.Account.{Connections, counter}
-use Rattle.fw_ledger.specs.Stands.{SeatsFor}
+use Rattle.fw_holders.proofs.Common.{◌≡◌, ◌+◌, sum_to, counter, SeatsFor}
+use Rattle.fw_model_account.specs.Account.{Connections}
 use Rattle.fw_holders.proofs.owners.orphaned.Given as goal
 
 abbrev pub invariant-loop-device : goal.invariant-loop-device

@@ -1,7 +1,6 @@
-use Rattle.std.proofs.Common.{◌++◌, ◌∙◌, ap, sym, List, ℕ, slice_index}
-use Rattle.std.proofs.lemmas.List.{append-nil}
-use Rattle.fw_who.specs.Names.{who}
-use Rattle.fw_holders.specs.Table.{with_count, counts_below}
+use Rattle.fw_holders.proofs.Common.{◌++◌, ◌∙◌, ap, sym, List, ℕ, slice_index, append-nil, counts_below}
+use Rattle.fw_holders_text.specs.Names.{who}
+use Rattle.fw_holders.specs.Table.{with_count}
 use Rattle.fw_holders.proofs.PlugLaws.{no_counts, next_count}
 use Rattle.fw_holders.proofs.owners.put_counts.Goals as goal
 

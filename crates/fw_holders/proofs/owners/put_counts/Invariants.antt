@@ -1,5 +1,4 @@
-use Rattle.std.proofs.Common.{◌≡◌, ◌++◌, slice_index, length}
-use Rattle.fw_holders.specs.Table.{counts_below}
+use Rattle.fw_holders.proofs.Common.{◌≡◌, ◌++◌, slice_index, length, counts_below}
 use Rattle.fw_holders.proofs.owners.put_counts.Given as goal
 
 abbrev pub invariant-loop-device : goal.invariant-loop-device

@@ -1,5 +1,5 @@
-use Rattle.std.proofs.Common.{◌≡◌, ◌++◌, OnOk, List, ℕ, length, slice_index, codes, subst}
-use Rattle.fw_holders.specs.Table.{counts_below, with_count}
+use Rattle.fw_holders.proofs.Common.{◌≡◌, ◌++◌, OnOk, List, ℕ, length, slice_index, codes, subst, counts_below}
+use Rattle.fw_holders.specs.Table.{with_count}
 use Rattle.fw_holders.proofs.PlugLaws.{owners_same}
 use Rattle.fw_holders.proofs.owners.put_owners.Goals as goal
 

@@ -1,7 +1,4 @@
-use Rattle.std.proofs.Common.{◌++◌, ◌∙◌, ap, sym, List, ℕ}
-use Rattle.std.proofs.lemmas.List.{append-nil}
-use Rattle.fw_base.specs.Tables.{at_plug}
-use Rattle.fw_holders.specs.Table.{input_line, lines_below}
+use Rattle.fw_holders.proofs.Common.{◌++◌, ◌∙◌, ap, sym, List, ℕ, append-nil, at_plug, input_line, lines_below}
 use Rattle.fw_holders.proofs.TextLaws.{both_put}
 use Rattle.fw_holders.proofs.PlugLaws.{no_plugs, next_plug}
 use Rattle.fw_holders.proofs.plugs.put_inputs.Goals as goal

@@ -1,5 +1,5 @@
-use Rattle.std.proofs.Common.{◌≡◌, ◌++◌, OnOk, List, ℕ, codes, decimal, subst}
-use Rattle.fw_who.specs.Names.{plug_text}
+use Rattle.fw_holders.proofs.Common.{◌≡◌, ◌++◌, OnOk, List, ℕ, codes, decimal, subst}
+use Rattle.fw_holders_text.specs.Names.{plug_text}
 use Rattle.fw_holders.specs.Table.{owners_text}
 use Rattle.fw_holders.proofs.TextLaws.{both_put, then_put}
 use Rattle.fw_holders.proofs.PlugLaws.{plug_line_is}

@@ -1,16 +1,10 @@
-use Rattle.std.proofs.Common.{◌≡◌, ◌++◌, OnOk, List, ℕ, true, false, nat_lt, slice_index, sym, ap, ◌∙◌, subst}
-use Rattle.std.proofs.lemmas.List.{append-nil}
-use Rattle.fw_words.specs.Quadlet.{field}
+use Rattle.fw_holders.proofs.Common.{◌≡◌, ◌++◌, OnOk, List, ℕ, true, false, nat_lt, slice_index, sym, ap, ◌∙◌, subst, append-nil, field, NodeRow, has_connection, counter, is_output, SeatsFor, Seats}
+use Rattle.fw_holders.proofs.Common.{nodes_of}
 use Rattle.fw_plug.specs.Words.{is_connected}
-use Rattle.fw_entry.specs.declared.nodes.NodeRow.{NodeRow}
-use Rattle.fw_account.specs.Account.{has_connection, counter}
-use Rattle.fw_account.specs.Network.{is_output}
-use Rattle.fw_ledger.specs.Stands.{SeatsFor, word_at, seats_at}
-use Rattle.fw_ledger.specs.declared.tables.Seats.{Seats}
+use Rattle.fw_ledger.specs.Stands.{word_at, seats_at}
 use Rattle.fw_ledger.proofs.PlugSwaps.{connected_is}
 use Rattle.fw_ledger.proofs.OutputSwaps.{output_word_shows}
-use Rattle.fw_who.specs.declared.names.Side.TheVariants.{Output}
-use Rattle.fw_who.specs.Names.{nodes_of}
+use Rattle.fw_holders_text.specs.declared.names.Side.TheVariants.{Output}
 use Rattle.fw_holders.specs.Table.{plug_line}
 use Rattle.fw_holders.proofs.HoldingLaws.{nodes_shown}
 use Rattle.fw_holders.proofs.PlugLaws.{no_plug_line, silent_output, output_keeps}

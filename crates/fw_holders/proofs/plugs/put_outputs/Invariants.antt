@@ -1,7 +1,4 @@
-use Rattle.std.proofs.Common.{◌≡◌, ◌++◌}
-use Rattle.fw_account.specs.Account.{Account}
-use Rattle.fw_ledger.specs.Stands.{StandsFor}
-use Rattle.fw_holders.specs.Table.{output_line, lines_below}
+use Rattle.fw_holders.proofs.Common.{◌≡◌, ◌++◌, Account, StandsFor, output_line, lines_below}
 use Rattle.fw_holders.proofs.plugs.put_outputs.Given as goal
 
 abbrev pub invariant-loop-plug : goal.invariant-loop-plug

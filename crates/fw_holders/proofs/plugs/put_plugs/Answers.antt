@@ -1,6 +1,4 @@
-use Rattle.std.proofs.Common.{◌++◌, ◌∙◌, ap, sym, List, ℕ}
-use Rattle.std.proofs.lemmas.List.{append-nil}
-use Rattle.fw_holders.specs.Table.{output_line, input_line, lines_below, plug_lines}
+use Rattle.fw_holders.proofs.Common.{◌++◌, ◌∙◌, ap, sym, List, ℕ, append-nil, output_line, input_line, lines_below, plug_lines}
 use Rattle.fw_holders.proofs.TextLaws.{both_put}
 use Rattle.fw_holders.proofs.PlugLaws.{no_devices, next_device}
 use Rattle.fw_holders.proofs.plugs.put_plugs.Goals as goal

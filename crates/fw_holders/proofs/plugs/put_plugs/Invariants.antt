@@ -1,7 +1,4 @@
-use Rattle.std.proofs.Common.{◌≡◌, ◌++◌}
-use Rattle.fw_account.specs.Account.{Account}
-use Rattle.fw_ledger.specs.Stands.{StandsFor}
-use Rattle.fw_holders.specs.Table.{plug_lines}
+use Rattle.fw_holders.proofs.Common.{◌≡◌, ◌++◌, Account, StandsFor, plug_lines}
 use Rattle.fw_holders.proofs.plugs.put_plugs.Given as goal
 
 abbrev pub invariant-loop-device : goal.invariant-loop-device

@@ -1,7 +1,6 @@
-use Rattle.std.proofs.Common.{◌++◌, ◌∙◌, ap, sym, List, ℕ, append_assoc}
-use Rattle.std.proofs.lemmas.List.{append-nil}
-use Rattle.fw_who.specs.Names.{nodes_of}
-use Rattle.fw_holders.specs.Table.{channel_line, channel_lines}
+use Rattle.fw_holders.proofs.Common.{◌++◌, ◌∙◌, ap, sym, List, ℕ, append-nil, nodes_of, channel_lines}
+use Rattle.std.proofs.Common.{append_assoc}
+use Rattle.fw_holders.specs.Table.{channel_line}
 use Rattle.fw_holders.specs.Held.{holding}
 use Rattle.fw_holders.proofs.HoldingLaws.{nodes_shown}
 use Rattle.fw_holders.proofs.HeldLaws.{no_lines, next_line}

@@ -1,7 +1,4 @@
-use Rattle.std.proofs.Common.{◌≡◌, ◌++◌}
-use Rattle.fw_account.specs.Account.{Account}
-use Rattle.fw_ledger.specs.Stands.{StandsFor}
-use Rattle.fw_holders.specs.Table.{channel_lines}
+use Rattle.fw_holders.proofs.Common.{◌≡◌, ◌++◌, Account, StandsFor, channel_lines}
 use Rattle.fw_holders.proofs.table.put_channels.Given as goal
 
 abbrev pub invariant-loop-channel : goal.invariant-loop-channel

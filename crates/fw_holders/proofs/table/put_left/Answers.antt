@@ -1,4 +1,4 @@
-use Rattle.std.proofs.Common.{◌++◌, codes, decimal}
+use Rattle.fw_holders.proofs.Common.{◌++◌, codes, decimal}
 use Rattle.fw_holders.specs.Table.{left_line}
 use Rattle.fw_holders.proofs.TextLaws.{both_put, then_put}
 use Rattle.fw_holders.proofs.table.put_left.Goals as goal

@@ -1,6 +1,6 @@
-use Rattle.std.proofs.Common.{◌≡◌, ◌++◌, ◌∙◌, ap, List, ℕ}
-use Rattle.fw_account.specs.Account.{remainder}
-use Rattle.fw_holders.specs.Table.{channel_lines, plug_lines, left_line, judged_line, table_text}
+use Rattle.fw_holders.proofs.Common.{◌≡◌, ◌++◌, ◌∙◌, ap, List, ℕ, channel_lines, plug_lines}
+use Rattle.fw_model_account.specs.Account.{remainder}
+use Rattle.fw_holders.specs.Table.{left_line, judged_line, table_text}
 use Rattle.fw_holders.proofs.TextLaws.{both_put, then_put}
 use Rattle.fw_holders.proofs.table.put_table.Goals as goal
 

@@ -1,6 +1,4 @@
-use Rattle.std.proofs.Common.{◌≡◌, ◌==◌, not, None}
-use Rattle.fw_base.specs.Tables.{find_to}
-use Rattle.fw_words.specs.Quadlet.{field}
+use Rattle.fw_ledger.proofs.Common.{◌≡◌, ◌==◌, not, None, find_to, field}
 use Rattle.fw_ledger.proofs.channel.changed_bit.Given as goal
 
 abbrev pub invariant-loop-i : goal.invariant-loop-i

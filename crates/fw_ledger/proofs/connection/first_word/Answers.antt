@@ -1,7 +1,6 @@
-use Rattle.std.proofs.Common.{◌≡◌, false, refl, ap, ◌∙◌}
-use Rattle.fw_base.specs.declared.plug.ConnectionKind.{ConnectionKind}
-use Rattle.fw_base.specs.declared.plug.ConnectionKind.TheVariants.{PointToPoint, Broadcast}
-use Rattle.fw_plug.specs.Words.{Settings, out_word}
+use Rattle.fw_ledger.proofs.Common.{◌≡◌, false, refl, ap, ◌∙◌, ConnectionKind, out_word}
+use Rattle.fw_terms.specs.declared.plug.ConnectionKind.TheVariants.{PointToPoint, Broadcast}
+use Rattle.fw_plug.specs.Words.{Settings}
 use Rattle.fw_plug.specs.Changes.{is_full, one_more}
 use Rattle.fw_plug.proofs.Changes.{first_has_room, counted_word, broadcast_word}
 use Rattle.fw_ledger.specs.Swaps.{connected_once}

@@ -1,4 +1,4 @@
-use Rattle.std.proofs.Common.{◌≡◌, ◌<◌, ℕ}
+use Rattle.fw_ledger.proofs.Common.{◌≡◌, ◌<◌, ℕ}
 use Rattle.fw_ledger.specs.Stands.{asked_at}
 use Rattle.fw_ledger.specs.declared.tables.Asked.TheVariants.{Nothing}
 use Rattle.fw_ledger.proofs.counts.forget.Given as goal

@@ -1,6 +1,4 @@
-use Rattle.std.proofs.Common.{◌≡◌, ◌<◌, ℕ}
-use Rattle.fw_ledger.specs.Stands.{charge_at}
-use Rattle.fw_ledger.specs.declared.tables.Charge.TheVariants.{Free}
+use Rattle.fw_ledger.proofs.Common.{◌≡◌, ◌<◌, ℕ, charge_at, Free}
 use Rattle.fw_ledger.proofs.counts.free.Given as goal
 
 abbrev pub invariant-loop-charge : goal.invariant-loop-charge

@@ -1,5 +1,4 @@
-use Rattle.std.proofs.Common.{length, sym, ◌∙◌, ap, length-set}
-use Rattle.fw_entry.specs.declared.nodes.NodeRow.{NodeRow}
+use Rattle.fw_ledger.proofs.Common.{length, sym, ◌∙◌, ap, length-set, NodeRow}
 use Rattle.fw_ledger.proofs.Starts.{no_count, no_plug}
 use Rattle.fw_ledger.proofs.PlugCounts.{count_more}
 use Rattle.fw_ledger.proofs.counts.ins_of.Goals as goal

@@ -1,7 +1,6 @@
-use Rattle.std.proofs.Common.{◌≡◌, nat_lt, take, slice_index}
+use Rattle.fw_ledger.proofs.Common.{◌≡◌, nat_lt, take, slice_index, PlugAt}
 use Rattle.std.specs.List.{list_any}
-use Rattle.fw_base.specs.declared.plug.PlugAt.{PlugAt}
-use Rattle.fw_account.specs.Network.{is_output_of}
+use Rattle.fw_model_account.specs.Network.{is_output_of}
 use Rattle.fw_ledger.proofs.counts.outs_of.Given as goal
 
 abbrev pub invariant-loop-row : goal.invariant-loop-row

@@ -1,4 +1,4 @@
-use Rattle.std.proofs.Common.{◌≡◌, take}
+use Rattle.fw_ledger.proofs.Common.{◌≡◌, take}
 use Rattle.fw_ledger.proofs.counts.same_nodes.Given as goal
 
 abbrev pub invariant-loop-row : goal.invariant-loop-row

@@ -1,5 +1,5 @@
-use Rattle.std.proofs.Common.{◌≡◌, ◌++◌, map, take, drop}
-use Rattle.fw_ledger.specs.Deaths.{orphaned_charge}
+use Rattle.fw_ledger.proofs.Common.{◌≡◌, map, take, drop, orphaned_charge}
+use Rattle.std.proofs.Common.{◌++◌}
 use Rattle.fw_ledger.proofs.event.orphan_charges.Given as goal
 
 abbrev pub invariant-loop-charge : goal.invariant-loop-charge

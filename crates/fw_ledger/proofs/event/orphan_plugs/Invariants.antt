@@ -1,5 +1,5 @@
-use Rattle.std.proofs.Common.{◌≡◌, ◌++◌, map, take, drop}
-use Rattle.fw_ledger.specs.Deaths.{orphaned_seats}
+use Rattle.fw_ledger.proofs.Common.{◌≡◌, map, take, drop, orphaned_seats}
+use Rattle.std.proofs.Common.{◌++◌}
 use Rattle.fw_ledger.proofs.event.orphan_plugs.Given as goal
 
 abbrev pub invariant-loop-seats : goal.invariant-loop-seats

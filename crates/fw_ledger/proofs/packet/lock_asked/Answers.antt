@@ -1,5 +1,4 @@
-use Rattle.std.proofs.Common.{ℕ, Option, Some, refl, ap, sym}
-use Rattle.fw_account.specs.Account.{Locks, Request}
+use Rattle.fw_ledger.proofs.Common.{ℕ, Option, Some, refl, ap, sym, Locks, Request}
 use Rattle.fw_ledger.proofs.LockReplies.{quadlet_swap_is, no_quadlet_swap}
 use Rattle.fw_ledger.proofs.packet.lock_asked.Goals as goal
 

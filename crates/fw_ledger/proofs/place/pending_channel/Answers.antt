@@ -1,7 +1,5 @@
-use Rattle.std.proofs.Common.{arith, sym, ◌≡◌, ◌∙◌}
-use Rattle.fw_base.proofs.Finds.{find_none, find_more, find_here}
-use Rattle.fw_account.specs.Account.{is_pending}
-use Rattle.fw_ledger.specs.Stands.{allocation_of, charge_at}
+use Rattle.fw_ledger.proofs.Common.{arith, sym, ◌≡◌, ◌∙◌, is_pending, allocation_of, charge_at}
+use Rattle.fw_terms.proofs.Finds.{find_none, find_more, find_here}
 use Rattle.fw_ledger.proofs.place.pending_channel.Goals as goal
 
 pub loop-ch-init : goal.loop-ch-init
@@ -11,7 +9,8 @@ pub loop-ch-preserved : goal.loop-ch-preserved
 loop-ch-preserved c = find_more c.loop-ch.ch (λ ch. is_pending c.args.c (allocation_of (charge_at c.args.charges.now ch))) c.loop-ch.invariant (sym c.is_pending.ensures ∙ c.if-is_pending.false)
 
 pub returns-then-is_pending-clause-first : goal.returns-then-is_pending-clause-first
-returns-then-is_pending-clause-first c = sym (find_here 64 c.loop-ch.ch (λ ch. is_pending c.args.c (allocation_of (charge_at c.args.charges.now ch))) c.loop-ch.invariant (sym c.is_pending.ensures ∙ c.if-is_pending.true) c.loop-ch-test.true)
+returns-then-is_pending-clause-first c = sym (find_here 64 c.loop-ch.ch (λ ch. is_pending c.args.c (allocation_of (charge_at c.args.charges.now ch))) c.loop-ch.invariant
+    (sym c.is_pending.ensures ∙ c.if-is_pending.true) c.loop-ch-test.true)
 
 pub returns-clause-first : goal.returns-clause-first
 returns-clause-first c = let e : c.loop-ch.ch ≡ 64 = omega arith in sym (rw e at c.loop-ch.invariant)

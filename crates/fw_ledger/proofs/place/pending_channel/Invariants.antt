@@ -1,7 +1,4 @@
-use Rattle.std.proofs.Common.{◌≡◌, None}
-use Rattle.fw_base.specs.Tables.{find_to}
-use Rattle.fw_account.specs.Account.{is_pending}
-use Rattle.fw_ledger.specs.Stands.{allocation_of, charge_at}
+use Rattle.fw_ledger.proofs.Common.{◌≡◌, None, find_to, is_pending, allocation_of, charge_at}
 use Rattle.fw_ledger.proofs.place.pending_channel.Given as goal
 
 abbrev pub invariant-loop-ch : goal.invariant-loop-ch

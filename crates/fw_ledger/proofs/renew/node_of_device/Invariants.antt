@@ -1,5 +1,5 @@
-use Rattle.std.proofs.Common.{◌≡◌, ◌+◌, drop}
-use Rattle.fw_entry.specs.Network.{node_of_device}
+use Rattle.fw_ledger.proofs.Common.{◌≡◌, ◌+◌, drop}
+use Rattle.fw_log_entry.specs.Network.{node_of_device}
 use Rattle.fw_ledger.proofs.renew.node_of_device.Given as goal
 
 abbrev pub invariant-loop-n : goal.invariant-loop-n

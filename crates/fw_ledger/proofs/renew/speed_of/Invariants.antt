@@ -1,5 +1,5 @@
-use Rattle.std.proofs.Common.{◌≡◌, drop}
-use Rattle.fw_entry.specs.Network.{speed_of}
+use Rattle.fw_ledger.proofs.Common.{◌≡◌, drop}
+use Rattle.fw_log_entry.specs.Network.{speed_of}
 use Rattle.fw_ledger.proofs.renew.speed_of.Given as goal
 
 abbrev pub invariant-loop-packet : goal.invariant-loop-packet

@@ -1,6 +1,6 @@
-use Rattle.std.proofs.Common.{◌≡◌, ◌-◌, ◌∙◌, ℕ, Bool, true, false, cond, refl, sym, ap}
+use Rattle.fw_ledger.proofs.Common.{◌≡◌, ◌-◌, ◌∙◌, ℕ, Bool, true, false, cond, refl, sym, ap}
 use mir.Val.{bool_byte}
-use Rattle.fw_account.proofs.Open.{high_starts}
+use Rattle.fw_model_account.proofs.Open.{high_starts}
 use Rattle.fw_ledger.proofs.tables.first_high.Goals as goal
 
 -- the lowest bit is the only one that may be 0

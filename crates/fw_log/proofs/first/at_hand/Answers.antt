@@ -1,6 +1,4 @@
-use Rattle.std.proofs.Common.{◌≡◌, ◌==◌, ℕ, true, arith, sym, ◌∙◌, length}
-use Rattle.std.proofs.lemmas.Bool.Decides.{nat_tests}
-use Rattle.fw_log.specs.Stands.{position}
+use Rattle.fw_log.proofs.Common.{◌≡◌, ◌==◌, ℕ, true, arith, sym, ◌∙◌, length, nat_tests, position}
 use Rattle.fw_log.proofs.FindLaws.{joins_none, joins_both}
 use Rattle.fw_log.proofs.first.at_hand.Goals as goal
 

@@ -1,10 +1,5 @@
-use Rattle.std.proofs.Common.{◌≡◌, ℕ, ◌+◌, drop, arith, ap, subst, sym, ◌∙◌}
-use Rattle.fw_entry.specs.Log.{head_size}
-use Rattle.fw_log.specs.Stands.{position}
-use Rattle.fw_log.specs.Reading.{WrongBody, skip, fault_at}
-use Rattle.fw_log.specs.declared.BodyFault.TheVariants.{Fields}
+use Rattle.fw_log.proofs.Common.{◌≡◌, ℕ, ◌+◌, drop, arith, ap, subst, sym, ◌∙◌, head_size, position, WrongBody, skip, fault_at, Fields, LogFault}
 use Rattle.fw_log.specs.declared.LogWhy.TheVariants.{BadBody}
-use Rattle.fw_log.specs.declared.LogFault.{LogFault}
 use Rattle.fw_log.proofs.EntryLaws.{entry_is, kind_of_complete, size_of_complete, long_of_complete, complete_ok, complete_own, complete_err, refused_body, refused_epoch}
 use Rattle.fw_log.proofs.first.complete_entry.Goals as goal
 use Rattle.fw_log.proofs.first.complete_entry.Goals.{After-rest-entry, After-entry_of}
@@ -37,7 +32,8 @@ returns-then-is_own_epoch c =
     let b = (goal.at.returns-then-is_own_epoch c).After-entry_of in
     complete_ok c.args.version (position c.args.stand) c.args.bytes.now c.rest-entry.result.now c.rest.result.now (record { cycle = c.cycle_of-cycle.result; what = c.in-Ok.what })
     (λ i. omega (arith, c.type_inv.bytes i)) (entry a) (body b) c.requires.head c.cycle_of-cycle.ensures
-    (complete_own c.args.version (position c.args.stand) c.args.bytes.now c.rest-entry.result.now c.rest.result.now c.in-Ok.what (entry a) c.requires.head c.in-Ok.ensures (sym c.is_own_epoch.ensures ∙ c.if-is_own_epoch.true))
+    (complete_own c.args.version (position c.args.stand) c.args.bytes.now c.rest-entry.result.now c.rest.result.now c.in-Ok.what (entry a) c.requires.head c.in-Ok.ensures
+    (sym c.is_own_epoch.ensures ∙ c.if-is_own_epoch.true))
     c.in-Ok.ensures
 
 pub returns-else-is_own_epoch : goal.returns-else-is_own_epoch
@@ -48,8 +44,10 @@ returns-else-is_own_epoch c =
     let Q : LogFault → Type 0 = WrongBody (position c.args.stand) c.args.bytes.now in
     subst Q (sym c.bad_body.ensures)
     (subst P (sym c.start.ensures)
-    (complete_err c.args.version (position c.args.stand) c.skip-at.result c.head_size-head.result c.args.bytes.now c.rest-entry.result.now Fields c.skip-at.ensures c.head_size-head.ensures (entry a) c.requires.head
-    (refused_epoch c.args.version (position c.args.stand).epoch c.rest-entry.result.now c.rest.result.now c.in-Ok.what (body b) c.in-Ok.ensures (sym c.is_own_epoch.ensures ∙ c.if-is_own_epoch.false))))
+    (complete_err c.args.version (position c.args.stand) c.skip-at.result c.head_size-head.result c.args.bytes.now c.rest-entry.result.now Fields c.skip-at.ensures c.head_size-head.ensures
+    (entry a) c.requires.head
+    (refused_epoch c.args.version (position c.args.stand).epoch c.rest-entry.result.now c.rest.result.now c.in-Ok.what (body b) c.in-Ok.ensures
+    (sym c.is_own_epoch.ensures ∙ c.if-is_own_epoch.false))))
 
 pub returns-in-Err : goal.returns-in-Err
 returns-in-Err c =
@@ -59,5 +57,6 @@ returns-in-Err c =
     let Q : LogFault → Type 0 = WrongBody (position c.args.stand) c.args.bytes.now in
     subst Q (sym c.bad_body-in-Err.ensures)
     (subst P (sym c.start.ensures)
-    (complete_err c.args.version (position c.args.stand) c.skip-at.result c.head_size-head.result c.args.bytes.now c.rest-entry.result.now c.in-Err.why c.skip-at.ensures c.head_size-head.ensures (entry a) c.requires.head
+    (complete_err c.args.version (position c.args.stand) c.skip-at.result c.head_size-head.result c.args.bytes.now c.rest-entry.result.now c.in-Err.why c.skip-at.ensures c.head_size-head.ensures
+    (entry a) c.requires.head
     (refused_body c.args.version (position c.args.stand).epoch c.rest-entry.result.now c.rest.result.now c.in-Err.why (body b) c.in-Err.ensures)))

@@ -1,5 +1,4 @@
-use Rattle.std.proofs.Common.{ℕ, List, take, arith, ◌∙◌}
-use Rattle.fw_log.specs.Stands.{Position, position}
+use Rattle.fw_log.proofs.Common.{ℕ, List, take, arith, ◌∙◌, Position, position}
 use Rattle.fw_log.proofs.FindLaws.{first_complete, first_wrong, head_shown_first, ends_at, body_behind}
 use Rattle.fw_log.proofs.first.first_entry.Goals as goal
 
@@ -12,7 +11,8 @@ pub returns-in-Err : goal.returns-in-Err
 returns-in-Err c = head_shown_first (position c.args.stand) c.args.bytes.now c.in-Err.fault c.in-Err.ensures
 
 pub returns-in-Err-complete_entry : goal.returns-in-Err-complete_entry
-returns-in-Err-complete_entry c = first_wrong (position c.args.stand) c.args.bytes.now c.in-Ok-Some.end c.in-Err-complete_entry.fault (ends_at (position c.args.stand) c.args.bytes.now c.in-Ok-Some.field-0 c.in-Ok-Some.end c.in-Ok-Some.field-0-is c.in-Ok-Some.ensures) c.in-Err-complete_entry.ensures
+returns-in-Err-complete_entry c = first_wrong (position c.args.stand) c.args.bytes.now c.in-Ok-Some.end c.in-Err-complete_entry.fault
+    (ends_at (position c.args.stand) c.args.bytes.now c.in-Ok-Some.field-0 c.in-Ok-Some.end c.in-Ok-Some.field-0-is c.in-Ok-Some.ensures) c.in-Err-complete_entry.ensures
 
 pub returns-in-Ok : goal.returns-in-Ok
 returns-in-Ok c =

@@ -1,5 +1,4 @@
-use Rattle.std.proofs.Common.{◌∙◌, ap, length}
-use Rattle.fw_log.specs.Stands.{position}
+use Rattle.fw_log.proofs.Common.{◌∙◌, ap, length, position}
 use Rattle.fw_log.proofs.PassLaws.{passes_first}
 use Rattle.fw_log.proofs.first.plain_entry.Goals as goal
 

@@ -1,9 +1,5 @@
-use Rattle.std.proofs.Common.{◌≡◌, ◌-◌, take, drop, length, arith, List, ℕ, ap, subst, ◌∙◌}
-use Rattle.std.proofs.lemmas.List.{take_all, length-drop}
-use Rattle.fw_entry.specs.Log.{head_size}
-use Rattle.fw_entry.specs.declared.version.Version.{Version}
-use Rattle.fw_log.specs.Stands.{position}
-use Rattle.fw_log.specs.Reading.{IsComplete, skip}
+use Rattle.fw_log.proofs.Common.{◌≡◌, ◌-◌, take, drop, length, arith, List, ℕ, ap, subst, ◌∙◌, take_all, head_size, Version, position, IsComplete, skip}
+use Rattle.std.proofs.lemmas.List.{length-drop}
 use Rattle.fw_log.specs.Passing.{IsPlainEpoch}
 use Rattle.fw_log.proofs.EntryLaws.{entry_is, size_of_complete, long_of_complete}
 use Rattle.fw_log.proofs.FindLaws.{first_complete}
@@ -15,12 +11,13 @@ abbrev whole : After-rest-entry → List ℕ
 whole c = take c.in_ok-end.end c.args.bytes.now
 
 complete : (c : After-rest-entry) → IsComplete c.version_at-version.result (position c.args.stand) (whole c)
-complete c = first_complete c.version_at-version.result (position c.args.stand) c.args.bytes.now c.in_ok-end.end (λ i. omega (arith, c.type_inv.bytes i)) c.version_at-version.ensures c.in_ok-end.ensures
+complete c = first_complete c.version_at-version.result (position c.args.stand) c.args.bytes.now c.in_ok-end.end
+    (λ i. omega (arith, c.type_inv.bytes i)) c.version_at-version.ensures c.in_ok-end.ensures
 
 entry : (c : After-rest-entry) → c.rest-entry.result.now ≡ drop (skip (position c.args.stand).start) (whole c)
 entry c = entry_is (position c.args.stand).start c.skip.result (whole c) c.rest-entry.result.now c.skip.ensures c.rest-entry.ensures
 
--- the body is all that stands behind the head
+-- the body is all that stands after the head
 body : (v : Version) (e : List ℕ) (n : ℕ) → n ≡ head_size v → take (length e - n) (drop n e) ≡ drop (head_size v) e
 body v e n is = take_all (length e - n) (drop n e) (omega (arith, length-drop n e)) ∙ ap (λ (k : ℕ). drop k e) is
 

@@ -1,5 +1,4 @@
-use Rattle.std.proofs.Common.{inr, arith}
-use Rattle.fw_log.specs.Stands.{position}
+use Rattle.fw_log.proofs.Common.{inr, arith, position}
 use Rattle.fw_log.proofs.FeedLaws.{need_most}
 use Rattle.fw_log.proofs.first.whole_size.Goals as goal
 

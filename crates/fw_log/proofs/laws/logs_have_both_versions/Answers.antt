@@ -1,6 +1,5 @@
-use Rattle.std.proofs.Common.{refl, sym, ◌∙◌, ap, List, ◌++◌}
-use Rattle.fw_entry.specs.Log.{header_bytes, entries_bytes}
-use Rattle.fw_entry.specs.declared.entry.Timed.{Timed}
+use Rattle.fw_log.proofs.Common.{refl, sym, ◌∙◌, ap, List, ◌++◌, header_bytes, Timed}
+use Rattle.fw_log_entry.specs.Log.{entries_bytes}
 use Rattle.fw_log.proofs.HistoryLaws.{one_log}
 use Rattle.fw_log.proofs.laws.logs_have_both_versions.Goals as goal
 

@@ -1,4 +1,4 @@
-use Rattle.std.proofs.Common.{arith, sym, ◌∙◌}
+use Rattle.fw_log.proofs.Common.{arith, sym, ◌∙◌}
 use Rattle.fw_log.proofs.PassLaws.{body_reset, body_packet, body_iso}
 use Rattle.fw_log.proofs.plain.plain_body.Goals as goal
 

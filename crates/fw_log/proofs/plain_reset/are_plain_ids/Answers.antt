@@ -1,5 +1,5 @@
-use Rattle.std.proofs.Common.{◌-◌, length, take, drop, sym, ◌∙◌}
-use Rattle.std.proofs.lemmas.List.{nil_from_length, take_rest}
+use Rattle.fw_log.proofs.Common.{◌-◌, length, take, drop, sym, ◌∙◌, take_rest}
+use Rattle.std.proofs.lemmas.List.{nil_from_length}
 use Rattle.fw_log.proofs.TestLaws.{equal}
 use Rattle.fw_log.proofs.PlainResetLaws.{ids_step, ids_whole}
 use Rattle.fw_log.proofs.plain_reset.are_plain_ids.Goals as goal

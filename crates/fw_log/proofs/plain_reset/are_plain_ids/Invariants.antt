@@ -1,4 +1,4 @@
-use Rattle.std.proofs.Common.{length}
+use Rattle.fw_log.proofs.Common.{length}
 use Rattle.fw_log.proofs.PlainResetLaws.{IdsMet}
 use Rattle.fw_log.proofs.plain_reset.are_plain_ids.Given as goal
 

@@ -1,5 +1,4 @@
-use Rattle.std.proofs.Common.{◌+◌, ◌*◌, take, arith, ap, sym, ◌∙◌}
-use Rattle.std.proofs.lemmas.List.{take_rest}
+use Rattle.fw_log.proofs.Common.{◌+◌, ◌*◌, take, arith, ap, sym, ◌∙◌, take_rest}
 use Rattle.fw_log.specs.Plain.{are_of_nodes}
 use Rattle.fw_log.proofs.PlainResetLaws.{reset_whole}
 use Rattle.fw_log.proofs.plain_reset.is_plain_reset.Goals as goal

@@ -1,4 +1,4 @@
-use Rattle.std.proofs.Common.{arith, sym, ◌∙◌}
+use Rattle.fw_log.proofs.Common.{arith, sym, ◌∙◌}
 use Rattle.fw_log.proofs.PlainIdLaws.{goes_more, goes_on}
 use Rattle.fw_log.proofs.plain_reset.turn_after.Goals as goal
 

@@ -1,4 +1,4 @@
-use Rattle.std.proofs.Common.{arith, refl}
+use Rattle.fw_log.proofs.Common.{arith, refl}
 use Rattle.fw_log.proofs.FieldLaws.{two_quads}
 use Rattle.fw_log.proofs.read_body.shown_of.Goals as goal
 

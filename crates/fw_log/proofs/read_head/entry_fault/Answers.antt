@@ -1,5 +1,4 @@
-use Rattle.std.proofs.Common.{get_or, ap, sym, ◌∙◌}
-use Rattle.fw_log.specs.Reading.{is_length}
+use Rattle.fw_log.proofs.Common.{get_or, ap, sym, ◌∙◌, is_length}
 use Rattle.fw_log.proofs.HeadLaws.{behind_length}
 use Rattle.fw_log.proofs.read_head.entry_fault.Goals as goal
 

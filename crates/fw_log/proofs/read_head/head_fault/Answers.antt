@@ -1,7 +1,4 @@
-use Rattle.std.proofs.Common.{◌≡◌, ℕ, length, drop, false, arith, refl, ap, sym, ◌∙◌, length-drop}
-use Rattle.fw_log.specs.Stands.{Position, position}
-use Rattle.fw_log.specs.Reading.{entry_fault, head_fault, header_fault, version_at}
-use Rattle.fw_entry.specs.declared.version.Version.{Version}
+use Rattle.fw_log.proofs.Common.{◌≡◌, ℕ, length, drop, false, arith, refl, ap, sym, ◌∙◌, length-drop, Position, position, entry_fault, head_fault, header_fault, version_at, Version}
 use Rattle.fw_log.specs.declared.stand.Stand.{Stand}
 use Rattle.fw_log.proofs.HeadLaws.{after_header, header_refused, behind_header}
 use Rattle.fw_log.proofs.read_head.head_fault.Goals as goal

@@ -1,6 +1,7 @@
-use Rattle.std.proofs.Common.{arith, rules}
+use Rattle.fw_log.proofs.Common.{arith}
+use Rattle.std.proofs.Common.{rules}
 use Rattle.std.proofs.lemmas.Bool.{false≢true}
-use Rattle.fw_entry.specs.Log.{devices}
+use Rattle.fw_log_entry.specs.Log.{devices}
 use Rattle.fw_log.proofs.ApartLaws.{holds_none, met_again, met_first}
 use Rattle.fw_log.proofs.read_reset.are_apart.Goals as goal
 

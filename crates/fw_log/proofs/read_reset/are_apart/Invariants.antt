@@ -1,4 +1,4 @@
-use Rattle.fw_entry.specs.Log.{devices}
+use Rattle.fw_log_entry.specs.Log.{devices}
 use Rattle.fw_log.proofs.ApartLaws.{Holds}
 use Rattle.fw_log.proofs.read_reset.are_apart.Given as goal
 

@@ -1,5 +1,4 @@
-use Rattle.std.proofs.Common.{◌≡◌, None, drop}
-use Rattle.fw_entry.specs.Log.{are_ids}
+use Rattle.fw_log.proofs.Common.{◌≡◌, None, drop, are_ids}
 use Rattle.fw_log.proofs.read_reset.are_ids.Given as goal
 
 abbrev pub invariant-loop-packet : goal.invariant-loop-packet

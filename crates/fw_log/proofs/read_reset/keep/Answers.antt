@@ -1,4 +1,4 @@
-use Rattle.std.proofs.Common.{length, ap, ◌∙◌, arith}
+use Rattle.fw_log.proofs.Common.{length, ap, ◌∙◌, arith}
 use Rattle.fw_log.proofs.IdsLaws.{kept_all, kept_full}
 use Rattle.fw_log.proofs.read_reset.keep.Goals as goal
 

@@ -1,4 +1,4 @@
-use Rattle.std.proofs.Common.{[], ◌∷◌, length, length-append, arith, ap}
+use Rattle.fw_log.proofs.Common.{[], ◌∷◌, length, length-append, arith, ap}
 use Rattle.fw_log.proofs.ResetLaws.{nodes_more, fits_more}
 use Rattle.fw_log.proofs.read_reset.nodes_of.Goals as goal
 

@@ -1,6 +1,5 @@
-use Rattle.std.proofs.Common.{◌≡◌, ◌*◌, length, map, take}
-use Rattle.std.specs.List.{All}
-use Rattle.fw_entry.specs.Log.{quads, node_quad}
+use Rattle.fw_log.proofs.Common.{◌≡◌, ◌*◌, length, take, All, quads, node_quad}
+use Rattle.std.proofs.Common.{map}
 use Rattle.fw_log.specs.Resets.{RowShape}
 use Rattle.fw_log.proofs.read_reset.nodes_of.Given as goal
 

@@ -1,4 +1,4 @@
-use Rattle.std.proofs.Common.{◌-◌, length}
+use Rattle.fw_log.proofs.Common.{◌-◌, length}
 use Rattle.fw_log.proofs.IdsLaws.{IdsRead}
 use Rattle.fw_log.proofs.read_reset.read_ids.Given as goal
 

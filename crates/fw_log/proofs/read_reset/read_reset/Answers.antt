@@ -1,4 +1,4 @@
-use Rattle.std.proofs.Common.{◌+◌, ◌-◌, ◌*◌, length, take, drop, sym, ◌∙◌}
+use Rattle.fw_log.proofs.Common.{◌+◌, ◌-◌, ◌*◌, length, take, drop, sym, ◌∙◌}
 use Rattle.std.proofs.lemmas.Bool.{false≢true}
 use Rattle.fw_log.proofs.ResetLaws.{no_nodes, ids_err, not_reset, rest_is}
 use Rattle.fw_log.proofs.read_reset.read_reset.Goals as goal

@@ -1,10 +1,4 @@
-use Rattle.std.proofs.Common.{◌≡◌, ◌==◌, ◌≤◌, ◌+◌, ℕ, List, refl, sym, ap, subst, ◌∙◌, slice_set, arith}
-use Rattle.fw_phy.specs.declared.packet.PhyPacket.{PhyPacket}
-use Rattle.fw_entry.specs.Network.{speed_of}
-use Rattle.fw_tree.specs.Numbers.{counted}
-use Rattle.fw_map.specs.Fields.{field_of, fields, IsLast}
-use Rattle.fw_map.specs.Faults.{branches}
-use Rattle.fw_map.specs.Growing.{Grown, is_open}
+use Rattle.fw_map.proofs.Common.{◌≡◌, ◌==◌, ◌≤◌, ◌+◌, ℕ, List, refl, sym, ap, subst, ◌∙◌, slice_set, arith, PhyPacket, speed_of, counted, field_of, fields, IsLast, branches, Grown, is_open}
 use Rattle.fw_map.proofs.OrderLaws.{grown}
 use Rattle.fw_map.proofs.NodeLaws.{agrees_like, due_of, joining_next}
 use Rattle.fw_map.proofs.build.add_node.Goals as goal

@@ -1,11 +1,8 @@
-use Rattle.std.proofs.Common.{◌≡◌, ◌<◌, ◌≤◌, ◌+◌, ◌-◌, ℕ, length, Option, Some, None, Result, Ok, Err, true, false, refl, sym, ap, subst, ◌∙◌, arith}
+use Rattle.fw_map.proofs.Common.{◌≡◌, ◌<◌, ◌≤◌, ◌+◌, ◌-◌, ℕ, length, Option, Some, None, true, false, refl, sym, ap, subst, ◌∙◌, arith, number_at, is_there, Tree, HasPackets, Agrees, Joining}
+use Rattle.std.proofs.Common.{Result, Ok, Err}
 use Rattle.std.specs.Option.{is_some, IfSome, IfNone}
-use Rattle.fw_tree.specs.Numbers.{number_at, is_there}
-use Rattle.fw_map.specs.declared.tree.Tree.{Tree}
 use Rattle.fw_map.specs.declared.MapFault.{MapFault}
 use Rattle.fw_map.specs.declared.MapWhy.TheVariants.{Left, Root}
-use Rattle.fw_map.specs.Trees.{HasPackets}
-use Rattle.fw_map.specs.Growing.{Agrees, Joining}
 use Rattle.fw_map.proofs.BuiltLaws.{tree_of}
 use Rattle.fw_map.proofs.OrderLaws.{grown, root_last}
 use Rattle.fw_map.proofs.NodeLaws.{joining_first, agrees_first}
@@ -66,7 +63,8 @@ returns-then-is_some-clause-only c = λ s h.
     let P : ℕ → Type 0 = λ k. Agrees s t k 27 in
     let o = c.open_below.result in
     let w = some_is o (sym c.is_some.ensures ∙ c.if-is_some.true) in
-    absurd (not_left e s t (n - 1) w.0 h (few s.count (length e.nodes) h.count c.requires.few) (h.count ∙ sym (whole n (length e.nodes) size c.requires.some)) (subst P all (c.loop-node.invariant.agrees s h))
+    absurd (not_left e s t (n - 1) w.0 h (few s.count (length e.nodes) h.count c.requires.few) (h.count ∙ sym (whole n (length e.nodes) size c.requires.some))
+    (subst P all (c.loop-node.invariant.agrees s h))
     (if_some o w.0 (λ x. x < n - 1) w.1 c.open_below.ensures.low)
     (if_some o w.0 (λ x. number_at t.parent x ≡ None) w.1 c.open_below.ensures.open))
 
@@ -81,7 +79,8 @@ returns-then-is_some-clause-fault c =
     let j = subst P all c.loop-node.invariant.joining in
     let o = c.open_below.result in
     let w = some_is o (sym c.is_some.ensures ∙ c.if-is_some.true) in
-    let left = left_over e t (n - 1) w.0 c.requires.packets j (if_some o w.0 (λ x. x < n - 1) w.1 c.open_below.ensures.low) (if_some o w.0 (λ x. number_at t.parent x ≡ None) w.1 c.open_below.ensures.open) in
+    let left = left_over e t (n - 1) w.0 c.requires.packets j (if_some o w.0 (λ x. x < n - 1) w.1 c.open_below.ensures.low)
+    (if_some o w.0 (λ x. number_at t.parent x ≡ None) w.1 c.open_below.ensures.open) in
     answered e (record { node = n - 1; why = Left }) (last_is e (n - 1) Left (whole n (length e.nodes) size c.requires.some) j.joined (left_is e (n - 1) left))
 
 pub returns-then-e-last-clause-only : goal.returns-then-e-last-clause-only
@@ -103,10 +102,11 @@ returns-then-e-last-clause-fault c =
     let t = c.loop-node.tree in
     let P : ℕ → Type 0 = λ k. Joining e k t in
     let j = subst P all c.loop-node.invariant.joining in
-    let one = none_over e t (n - 1) j (if_none c.open_below.result ((x : ℕ) → x < n - 1 → is_there (number_at t.parent x) ≡ true) (sym c.is_some.ensures ∙ c.if-is_some.false) c.open_below.ensures.none) in
+    let one = none_over e t (n - 1) j (if_none c.open_below.result ((x : ℕ) → x < n - 1 → is_there (number_at t.parent x) ≡ true)
+    (sym c.is_some.ensures ∙ c.if-is_some.false) c.open_below.ensures.none) in
     answered e (record { node = n - 1; why = Root }) (last_is e (n - 1) Root (whole n (length e.nodes) size c.requires.some) j.joined (root_is e (n - 1) one c.if-e-last.true))
 
--- what holds where no test failed
+-- what holds if no test failed
 built : (c : Else-e-last) → HasPackets c.args.e.now c.loop-node.tree
 built c =
     let e = c.args.e.now in
@@ -142,7 +142,8 @@ returns-clause-fault c = λ f.
     let t = c.loop-node.tree in
     let P : ℕ → Type 0 = λ k. Joining e k t in
     let j = subst P all c.loop-node.invariant.joining in
-    let one = none_over e t (n - 1) j (if_none c.open_below.result ((x : ℕ) → x < n - 1 → is_there (number_at t.parent x) ≡ true) (sym c.is_some.ensures ∙ c.if-is_some.false) c.open_below.ensures.none) in
+    let one = none_over e t (n - 1) j (if_none c.open_below.result ((x : ℕ) → x < n - 1 → is_there (number_at t.parent x) ≡ true)
+    (sym c.is_some.ensures ∙ c.if-is_some.false) c.open_below.ensures.none) in
     (λ h. absurd (let z : ⊥ = cc in z), λ h. absurd (no_fault e (n - 1) f (whole n (length e.nodes) size c.requires.some) j.joined one c.if-e-last.false h))
 
 -- ---- the value

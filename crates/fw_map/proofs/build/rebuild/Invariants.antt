@@ -1,6 +1,4 @@
-use Rattle.fw_map.specs.declared.tree.Tree.{Tree}
-use Rattle.fw_map.specs.Trees.{HasPackets}
-use Rattle.fw_map.specs.Growing.{Agrees, Joining}
+use Rattle.fw_map.proofs.Common.{Tree, HasPackets, Agrees, Joining}
 use Rattle.fw_map.proofs.build.rebuild.Given as goal
 
 abbrev pub invariant-loop-node : goal.invariant-loop-node

@@ -1,9 +1,7 @@
-use Rattle.std.proofs.Common.{◌≤◌, List, slice_index, ◌≡◌, ◌<◌, ◌+◌, ◌-◌, ℕ, refl, sym, ap, subst, ◌∙◌, arith}
-use Rattle.fw_phy.specs.declared.packet.PhyPacket.{PhyPacket}
-use Rattle.fw_map.specs.declared.tree.Tree.{Tree}
-use Rattle.fw_map.specs.Fields.{field_of, fields}
-use Rattle.fw_map.specs.Growing.{Agrees, Grown, Counts}
-use Rattle.fw_map.proofs.JoinLaws.{joined_of, rest_of, first_taken, none_grown, none_counts, none_agrees, missing, missing_none, some_closed, some_taken, some_counts, some_grown, some_agrees, all_grown, all_agrees, enough, all_counts, IsJoined}
+use Rattle.fw_map.proofs.Common.{◌≤◌, List, slice_index, ◌≡◌, ◌<◌, ◌+◌, ◌-◌, ℕ, refl, sym, ap, subst, ◌∙◌, arith, PhyPacket, Tree, field_of, fields, Agrees, Grown}
+use Rattle.fw_map.specs.Growing.{Counts}
+use Rattle.fw_map.proofs.JoinLaws.{joined_of, rest_of, first_taken, none_grown, none_counts, none_agrees, missing, missing_none, some_closed}
+use Rattle.fw_map.proofs.JoinLaws.{some_taken, some_counts, some_grown, some_agrees, all_grown, all_agrees, enough, all_counts, IsJoined}
 use Rattle.fw_map.proofs.build.take_children.Goals as goal
 use Rattle.fw_map.proofs.build.take_children.Goals.{In-None, After-loop-port}
 
@@ -11,7 +9,8 @@ use Rattle.fw_map.proofs.build.take_children.Goals.{In-None, After-loop-port}
 row_at : (row : List ℕ) (ids : List PhyPacket) (i p k : ℕ) → 0 < p → p ≤ 27 → k ≡ p - 1 → ((q : ℕ) → q < 27 → slice_index row q ≡ field_of ids i q) → slice_index row k ≡ field_of ids i (p - 1)
 row_at row ids i p k some low at is = ap (slice_index row) at ∙ is (p - 1) (omega arith)
 
-child_of : (row : List ℕ) (ids : List PhyPacket) (i p k : ℕ) → 0 < p → p ≤ 27 → k ≡ p - 1 → ((q : ℕ) → q < 27 → slice_index row q ≡ field_of ids i q) → slice_index row k ≡ 3 → field_of ids i (p - 1) ≡ 3
+child_of : (row : List ℕ) (ids : List PhyPacket) (i p k : ℕ) → 0 < p → p ≤ 27 → k ≡ p - 1 → ((q : ℕ) → q < 27 → slice_index row q ≡ field_of ids i q) → slice_index row k ≡ 3
+    → field_of ids i (p - 1) ≡ 3
 child_of row ids i p k some low at is h = sym (row_at row ids i p k some low at is) ∙ h
 
 pub loop-port-init : goal.loop-port-init
@@ -35,12 +34,14 @@ loop-port-preserved-in-Some c =
     let v = c.loop-port.invariant in
     let k = c.in-Some.child in
     let some = c.loop-port-test.true in
-    let child : field_of ids i (p - 1) ≡ 3 = child_of c.fields_of-fields.result ids i p c.from.result some c.loop-port.auto.port c.from.ensures c.fields_of-fields.ensures c.if-fields-from-eq-CHILD.true in
+    let child : field_of ids i (p - 1) ≡ 3 =
+    child_of c.fields_of-fields.result ids i p c.from.result some c.loop-port.auto.port c.from.ensures c.fields_of-fields.ensures c.if-fields-from-eq-CHILD.true in
     let lower : k < c.loop-port.below = c.in-Some.ensures.low in
     let free = c.in-Some.ensures.open in
     let highest = c.in-Some.ensures.highest in
     let low = v.low in
-    let j : IsJoined t u k i (p - 1) = joined_of t u k i (p - 1) v.rest.sizes (omega (arith, c.requires.node)) free v.grown.ports (ap (λ (x : Tree). x.parent) c.join.ensures) (ap (λ (x : Tree). x.parent_port) c.join.ensures) in
+    let j : IsJoined t u k i (p - 1) = joined_of t u k i (p - 1) v.rest.sizes (omega (arith, c.requires.node)) free v.grown.ports (ap (λ (x : Tree). x.parent) c.join.ensures)
+    (ap (λ (x : Tree). x.parent_port) c.join.ensures) in
     record {
       low = omega arith;
       grown = some_grown ids i c.requires.fits t p c.loop-port.below some child low v.closed v.taken v.grown k u lower free highest j;
@@ -57,12 +58,14 @@ child_at c = child_of c.fields_of-fields.result c.args.ids.now c.args.node c.loo
 pub returns-in-None-clause-missing : goal.returns-in-None-clause-missing
 returns-in-None-clause-missing c =
     let v = c.loop-port.invariant in
-    missing c.args.ids.now c.args.node c.requires.fits c.loop-port.tree c.loop-port.port c.loop-port.below c.loop-port-test.true (child_at c) v.low v.closed v.taken v.grown c.in-None.ensures.none v.counts
+    missing c.args.ids.now c.args.node c.requires.fits c.loop-port.tree c.loop-port.port c.loop-port.below c.loop-port-test.true
+    (child_at c) v.low v.closed v.taken v.grown c.in-None.ensures.none v.counts
 
 pub returns-in-None-clause-agrees : goal.returns-in-None-clause-agrees
 returns-in-None-clause-agrees c =
     let v = c.loop-port.invariant in
-    λ s n l g a. absurd (missing_none c.args.ids.now c.args.node c.requires.fits c.loop-port.tree c.loop-port.port c.loop-port.below c.loop-port-test.true (child_at c) v.low v.closed v.taken v.grown s n l g (v.agrees s n l g a) c.in-None.ensures.none)
+    λ s n l g a. absurd (missing_none c.args.ids.now c.args.node c.requires.fits c.loop-port.tree c.loop-port.port c.loop-port.below c.loop-port-test.true
+    (child_at c) v.low v.closed v.taken v.grown s n l g (v.agrees s n l g a) c.in-None.ensures.none)
 
 pub loop-port-preserved : goal.loop-port-preserved
 loop-port-preserved c =
@@ -72,7 +75,8 @@ loop-port-preserved c =
     let p = c.loop-port.port in
     let v = c.loop-port.invariant in
     let some = c.loop-port-test.true in
-    let no : field_of ids i (p - 1) ≡ 3 → ⊥ = λ h. c.if-fields-from-eq-CHILD.false (row_at c.fields_of-fields.result ids i p c.from.result some c.loop-port.auto.port c.from.ensures c.fields_of-fields.ensures ∙ h) in
+    let no : field_of ids i (p - 1) ≡ 3 → ⊥ = λ h. c.if-fields-from-eq-CHILD.false
+    (row_at c.fields_of-fields.result ids i p c.from.result some c.loop-port.auto.port c.from.ensures c.fields_of-fields.ensures ∙ h) in
     record {
       low = v.low;
       grown = none_grown ids i c.requires.fits t p some no v.grown;
@@ -87,10 +91,12 @@ all_done : (c : After-loop-port) → c.loop-port.port ≡ 0
 all_done c = omega (arith, c.loop-port-test.false)
 
 pub returns-clause-enough : goal.returns-clause-enough
-returns-clause-enough c = let P : ℕ → Type 0 = λ p. Counts c.args.ids.now c.args.node p c.loop-port.tree in enough c.args.ids.now c.args.node c.requires.fits c.loop-port.tree (subst P (all_done c) c.loop-port.invariant.counts)
+returns-clause-enough c = let P : ℕ → Type 0 = λ p. Counts c.args.ids.now c.args.node p c.loop-port.tree in
+    enough c.args.ids.now c.args.node c.requires.fits c.loop-port.tree (subst P (all_done c) c.loop-port.invariant.counts)
 
 pub returns-clause-grown : goal.returns-clause-grown
-returns-clause-grown c = let P : ℕ → Type 0 = λ p. Grown c.args.ids.now c.args.node p c.loop-port.tree in all_grown c.args.ids.now c.args.node c.requires.fits c.loop-port.tree (subst P (all_done c) c.loop-port.invariant.grown)
+returns-clause-grown c = let P : ℕ → Type 0 = λ p. Grown c.args.ids.now c.args.node p c.loop-port.tree in
+    all_grown c.args.ids.now c.args.node c.requires.fits c.loop-port.tree (subst P (all_done c) c.loop-port.invariant.grown)
 
 pub returns-clause-counts : goal.returns-clause-counts
 returns-clause-counts c =

@@ -1,8 +1,5 @@
-use Rattle.std.proofs.Common.{◌≡◌, ◌≤◌, ◌<◌, ℕ, true}
-use Rattle.fw_tree.specs.Numbers.{number_at, is_there}
-use Rattle.fw_map.specs.declared.tree.Tree.{Tree}
-use Rattle.fw_map.specs.Trees.{Hangs}
-use Rattle.fw_map.specs.Growing.{Agrees, Counts, Grown, KeepsRest}
+use Rattle.fw_map.proofs.Common.{◌≡◌, ◌≤◌, ◌<◌, ℕ, true, number_at, is_there, Tree, Hangs, Agrees, Grown}
+use Rattle.fw_map.specs.Growing.{Counts, KeepsRest}
 use Rattle.fw_map.proofs.build.take_children.Given as goal
 
 abbrev pub invariant-loop-port : goal.invariant-loop-port

@@ -1,6 +1,4 @@
-use Rattle.std.proofs.Common.{◌≡◌, ◌==◌}
-use Rattle.fw_tree.specs.Numbers.{counted}
-use Rattle.fw_map.specs.Fields.{field_of, IsLast}
+use Rattle.fw_map.proofs.Common.{◌≡◌, ◌==◌, counted, field_of, IsLast}
 use Rattle.fw_map.proofs.fields.parent_ports.Given as goal
 
 abbrev pub invariant-loop-port : goal.invariant-loop-port

@@ -1,5 +1,4 @@
-use Rattle.std.proofs.Common.{◌≡◌, ◌+◌, ◌<◌, ◌≤◌, ℕ, List, Option, slice_index, slice_set, unwrap_or, sym, ap, subst, ◌∙◌, arith}
-use Rattle.fw_map.specs.Fields.{field_in}
+use Rattle.fw_map.proofs.Common.{◌≡◌, ◌+◌, ◌<◌, ◌≤◌, ℕ, List, Option, slice_index, slice_set, unwrap_or, sym, ap, subst, ◌∙◌, arith, field_in}
 use Rattle.fw_map.proofs.RowLaws.{put_some, put_rest, put_none, none_of}
 use Rattle.fw_map.proofs.fields.put_fields.Goals as goal
 use Rattle.fw_map.proofs.fields.put_fields.Goals.{in-Some, in_default}

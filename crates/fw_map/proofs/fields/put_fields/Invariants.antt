@@ -1,5 +1,4 @@
-use Rattle.std.proofs.Common.{◌≡◌, ◌<◌, ◌≤◌, ℕ, length, slice_index, unwrap_or}
-use Rattle.fw_map.specs.Fields.{field_in}
+use Rattle.fw_map.proofs.Common.{◌≡◌, ◌<◌, ◌≤◌, ℕ, length, slice_index, unwrap_or, field_in}
 use Rattle.fw_map.proofs.fields.put_fields.Given as goal
 
 abbrev pub invariant-loop-port : goal.invariant-loop-port

@@ -1,5 +1,4 @@
-use Rattle.std.proofs.Common.{◌≡◌, drop}
-use Rattle.fw_entry.specs.Network.{speed_of}
+use Rattle.fw_map.proofs.Common.{◌≡◌, drop, speed_of}
 use Rattle.fw_map.proofs.fields.speed_of.Given as goal
 
 abbrev pub invariant-loop-packet : goal.invariant-loop-packet

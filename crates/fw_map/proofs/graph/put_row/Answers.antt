@@ -1,4 +1,4 @@
-use Rattle.std.proofs.Common.{◌++◌, List, ℕ, string_bytes, ap, ◌∙◌, append_assoc}
+use Rattle.fw_map.proofs.Common.{◌++◌, List, ℕ, string_bytes, ap, ◌∙◌, append_assoc}
 use Rattle.std.proofs.lemmas.Result.{on_ok_weaker}
 use Rattle.fw_map.specs.Graphs.{kind_word, number_text, device_text}
 use Rattle.fw_map.proofs.graph.put_row.Goals as goal

@@ -1,4 +1,4 @@
-use Rattle.std.proofs.Common.{◌≡◌, ◌++◌, ◌∷◌, [], string_bytes, codes}
+use Rattle.fw_map.proofs.Common.{◌≡◌, ◌++◌, ◌∷◌, [], string_bytes, codes}
 use Rattle.fw_map.specs.Graphs.{box_lines, edge_lines}
 use Rattle.fw_map.proofs.graph.tree_graph.Given as goal
 

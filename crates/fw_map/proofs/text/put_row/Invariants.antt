@@ -1,4 +1,4 @@
-use Rattle.std.proofs.Common.{◌≡◌, ◌++◌, List, ℕ, string_bytes}
+use Rattle.fw_map.proofs.Common.{◌≡◌, ◌++◌, List, ℕ, string_bytes}
 use Rattle.fw_map.specs.Texts.{IsRow}
 use Rattle.fw_map.proofs.text.put_row.Given as goal
 

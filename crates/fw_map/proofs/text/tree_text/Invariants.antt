@@ -1,4 +1,4 @@
-use Rattle.std.proofs.Common.{◌≡◌, ◌++◌, ◌∷◌, [], List, ℕ, string_bytes, codes}
+use Rattle.fw_map.proofs.Common.{◌≡◌, ◌++◌, ◌∷◌, [], List, ℕ, string_bytes, codes}
 use Rattle.fw_map.specs.Texts.{node_lines, AreRows}
 use Rattle.fw_map.proofs.text.tree_text.Given as goal
 

@@ -1,4 +1,4 @@
-use Rattle.std.proofs.Common.{◌≡◌, ◌<◌, length, Some, ap, sym, ◌∙◌, arith}
+use Rattle.fw_page.proofs.Common.{◌≡◌, ◌<◌, length, Some, ap, sym, ◌∙◌, arith}
 use Rattle.std.specs.List.{slice_get}
 use Rattle.fw_page.proofs.EarLaws.{row_at, sent_by, sent_by_none}
 use Rattle.fw_page.proofs.cycles.sender.Goals as goal

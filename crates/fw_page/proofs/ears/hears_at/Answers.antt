@@ -1,4 +1,4 @@
-use Rattle.std.proofs.Common.{length, ap, sym, ◌∙◌, arith}
+use Rattle.fw_page.proofs.Common.{length, ap, sym, ◌∙◌, arith}
 use Rattle.std.specs.List.{slice_get}
 use Rattle.fw_page.proofs.EarLaws.{row_at, no_node_hears, none_hears, node_hears}
 use Rattle.fw_page.proofs.ears.hears_at.Goals as goal

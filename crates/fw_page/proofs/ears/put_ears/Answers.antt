@@ -1,9 +1,8 @@
-use Rattle.std.proofs.Common.{◌≡◌, length, ap, sym, ◌∙◌, arith}
-use Rattle.fw_strip.proofs.LaneLaws.{begun, stepped}
-use Rattle.fw_marks.specs.Places.{place_of}
+use Rattle.fw_page.proofs.Common.{◌≡◌, length, ap, sym, ◌∙◌, arith, put_as}
+use Rattle.fw_page_strip.proofs.LaneLaws.{begun, stepped}
+use Rattle.fw_page_marks.specs.Places.{place_of}
 use Rattle.fw_page.specs.Streams.{heard, ear_if, ears_below, reach_if, reach_below}
 use Rattle.fw_page.proofs.LoopLaws.{no_ears, more_ears, no_reach, more_reach}
-use Rattle.fw_content.proofs.TextLaws.{put_as}
 use Rattle.fw_page.proofs.ears.put_ears.Goals as goal
 
 pub loop-node-init : goal.loop-node-init

@@ -1,7 +1,6 @@
-use Rattle.std.proofs.Common.{◌≡◌, ◌++◌, Option}
+use Rattle.fw_page.proofs.Common.{◌≡◌, ◌++◌, Option, Account}
 use Rattle.std.specs.Option.{option_copied}
-use Rattle.fw_account.specs.Account.{Account}
-use Rattle.fw_strip.specs.Drawing.{LedgerFor}
+use Rattle.fw_page_strip.specs.Drawing.{LedgerFor}
 use Rattle.fw_page.specs.Streams.{ears_below, reach_below}
 use Rattle.fw_page.proofs.ears.put_ears.Given as goal
 

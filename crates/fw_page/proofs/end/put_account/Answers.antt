@@ -1,6 +1,4 @@
-use Rattle.std.proofs.Common.{sym, ◌∙◌}
-use Rattle.std.proofs.lemmas.Result.{on_ok_weaker}
-use Rattle.fw_content.proofs.TextLaws.{put_as}
+use Rattle.fw_page.proofs.Common.{sym, ◌∙◌, on_ok_weaker, put_as}
 use Rattle.fw_page.proofs.AccountLaws.{stopped_said, followed_said, none_said}
 use Rattle.fw_page.proofs.end.put_account.Goals as goal
 

@@ -1,6 +1,5 @@
-use Rattle.std.proofs.Common.{◌++◌, ap, ◌∙◌}
-use Rattle.std.proofs.lemmas.Result.{on_ok_weaker}
-use Rattle.fw_scene.specs.Lines.{nodes_text}
+use Rattle.fw_page.proofs.Common.{◌++◌, ap, ◌∙◌, on_ok_weaker}
+use Rattle.fw_page_scene.specs.Lines.{nodes_text}
 use Rattle.fw_page.proofs.RowLaws.{stayed}
 use Rattle.fw_page.proofs.rows.draw_nodes.Goals as goal
 

@@ -23,4 +23,5 @@ returns-clause-reserved c =
     let enough : 8 ≤ length c.args.b.now = c.in-Some.ensures.variant.0 refl in
     let small : c.in-Some.q.0 < 2 ^ 32 = omega arith in
     let values = c.in-Some.ensures.values in
-    reserved_of c.packet_of.result c.args.b.now c.in-Some.q.0 small (record { enough = enough; inverse = sym values.1 ∙ (c.if-inverse-q.false ∙ ap (λ n. 2 ^ 32 - 1 - n) values.0) }) values.0 c.packet_of.ensures.fault c.packet_of.ensures.found
+    reserved_of c.packet_of.result c.args.b.now c.in-Some.q.0 small
+    (record { enough = enough; inverse = sym values.1 ∙ (c.if-inverse-q.false ∙ ap (λ n. 2 ^ 32 - 1 - n) values.0) }) values.0 c.packet_of.ensures.fault c.packet_of.ensures.found

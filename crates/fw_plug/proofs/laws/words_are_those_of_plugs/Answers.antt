@@ -1,4 +1,5 @@
-use Rattle.fw_plug.proofs.Changes.{broadcast_of_word, counter_of_word, channel_of_word, overhead_of_word, units_of_word, counted_word, uncounted_word, broadcast_word, unbroadcast_word, channel_word, overhead_word}
+use Rattle.fw_plug.proofs.Changes.{broadcast_of_word, counter_of_word, channel_of_word, overhead_of_word, units_of_word, counted_word}
+use Rattle.fw_plug.proofs.Changes.{uncounted_word, broadcast_word, unbroadcast_word, channel_word, overhead_word}
 use Rattle.fw_plug.proofs.laws.words_are_those_of_plugs.Goals as goal
 
 pub returns : goal.returns

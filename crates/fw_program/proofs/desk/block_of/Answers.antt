@@ -4,7 +4,7 @@ use Rattle.std.proofs.lemmas.List.{get_or-set_same, get_or-set_other, length-set
 use Rattle.fw_program.specs.Blocks.{byte_of}
 use Rattle.fw_program.proofs.desk.block_of.Goals as goal
 
--- a byte is written behind those that were
+-- a byte is written after those that were
 more : (bytes : List ℕ) (f : ℕ → ℕ) (i x : ℕ) → i < length bytes → x ≡ f i → ((k : ℕ) → k < i → slice_index bytes k ≡ f k)
     → (k : ℕ) → k < i + 1 → slice_index (slice_set bytes i x) k ≡ f k
 more bytes f i x low is below k lt = go (cases_eq k i)
@@ -15,7 +15,7 @@ more bytes f i x low is below k lt = go (cases_eq k i)
         subst P (sym e) (get_or-set_same bytes i x _ low ∙ is)
     go (inr ne) = get_or-set_other bytes i k x _ ne ∙ below k (omega (arith, lt, ne))
 
--- the byte behind one
+-- the byte after one
 step : (first j next : ℕ) → next ≡ (first + 7 * j) % 256 → (next + 7) % 256 ≡ (first + 7 * (j + 1)) % 256
 step first j next e = omega (arith, e)
 

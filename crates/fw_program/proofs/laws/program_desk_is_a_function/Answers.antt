@@ -1,5 +1,5 @@
 -- Each clause is a lemma.
-use Rattle.fw_simulate.proofs.OneRun.{has_one_run}
+use Rattle.fw_script_words.proofs.OneRun.{has_one_run}
 use Rattle.fw_program.specs.Blocks.{program_desk}
 use Rattle.fw_program.proofs.Desks.{is_a_function}
 use Rattle.fw_program.proofs.laws.program_desk_is_a_function.Goals as goal

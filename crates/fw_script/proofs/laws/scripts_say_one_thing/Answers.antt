@@ -1,7 +1,7 @@
-use Rattle.fw_command.proofs.FormLaws.{one_form}
+use Rattle.fw_script_command.proofs.FormLaws.{one_form}
 use Rattle.fw_script.proofs.GivesLaws.{gives_once}
 use Rattle.fw_script.proofs.ScriptLaws.{says_once, script_limit, begins_first, first_begins}
-use Rattle.fw_command.proofs.PiecesLaws.{pieces_part}
+use Rattle.fw_script_command.proofs.PiecesLaws.{pieces_part}
 use Rattle.fw_script.proofs.laws.scripts_say_one_thing.Goals as goal
 
 pub returns-clause-line : goal.returns-clause-line

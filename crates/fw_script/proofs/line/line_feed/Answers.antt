@@ -1,4 +1,4 @@
-use Rattle.fw_command.proofs.PiecesLaws.{first_found, none_found}
+use Rattle.fw_script_command.proofs.PiecesLaws.{first_found, none_found}
 use Rattle.fw_script.proofs.line.line_feed.Goals as goal
 
 pub returns-clause-found : goal.returns-clause-found

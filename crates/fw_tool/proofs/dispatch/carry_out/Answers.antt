@@ -1,10 +1,10 @@
 use Rattle.std.proofs.Common.{ℕ, refl, sym, subst}
-use Rattle.fw_gen.specs.Gen.{script_of}
-use Rattle.fw_run.specs.Desks.{DeskRelations}
-use Rattle.fw_reading.specs.Endings.{Reads}
-use Rattle.fw_decode.specs.Words.{form_by, rules_by, Accepts}
-use Rattle.fw_decode.specs.declared.LogWord.{LogWord}
-use Rattle.fw_simulate.specs.Scripts.{IsValid}
+use Rattle.fw_script_gen.specs.Gen.{script_of}
+use Rattle.fw_model_run.specs.Desks.{DeskRelations}
+use Rattle.fw_log_loop.specs.Endings.{Reads}
+use Rattle.fw_log_words.specs.Words.{form_by, rules_by, Accepts}
+use Rattle.fw_log_words.specs.declared.LogWord.{LogWord}
+use Rattle.fw_script_words.specs.Scripts.{IsValid}
 use Rattle.fw_tool.specs.About.{about_text, IsSaid}
 use Rattle.fw_tool.specs.Faults.{FirstFault}
 use Rattle.fw_tool.specs.declared.about.About.{About}
@@ -13,7 +13,9 @@ use Rattle.fw_tool.specs.Scripts.{RunsAs}
 use Rattle.fw_tool.specs.declared.scripts.ScriptWord.{ScriptWord}
 use Rattle.fw_tool.specs.declared.words.Word.TheVariants.{Script, Gen, Log, Explore, About as Say}
 use Rattle.fw_tool.proofs.Completions.{run_completes, seed_completes, log_completes, first_of_run, first_of_seed, first_of_log, seed_same, done_or_unmet, done_unwritten}
-use Rattle.fw_tool.proofs.Doings.{script_not_gen, script_not_log, script_not_about, gen_not_script, gen_not_log, gen_not_about, log_not_script, log_not_gen, log_not_about, about_not_script, about_not_gen, about_not_log, one_script, one_seed, one_log, one_about, script_not_explore, gen_not_explore, log_not_explore, about_not_explore, explore_not_script, explore_not_gen, explore_not_log, explore_not_about}
+use Rattle.fw_tool.proofs.Doings.{script_not_gen, script_not_log, script_not_about, gen_not_script, gen_not_log, gen_not_about, log_not_script, log_not_gen}
+use Rattle.fw_tool.proofs.Doings.{log_not_about, about_not_script, about_not_gen, about_not_log, one_script, one_seed, one_log, one_about}
+use Rattle.fw_tool.proofs.Doings.{script_not_explore, gen_not_explore, log_not_explore, about_not_explore, explore_not_script, explore_not_gen, explore_not_log, explore_not_about}
 use Rattle.fw_tool.proofs.dispatch.carry_out.Given as given
 use Rattle.fw_tool.proofs.dispatch.carry_out.Goals as goal
 
@@ -49,7 +51,8 @@ pub returns-in-Script-clause-scripts : goal.returns-in-Script-clause-scripts
 returns-in-Script-clause-scripts g c word form =
     let D : DeskRelations = record { blocks = given.F-post g c.args.desk.now.blocks; vendor = given.H-post g c.args.desk.now.vendor } in
     let same = one_script c.word_of.result c.in-Some.word c.in-Script.word word c.in-Some.is c.in-Script.is ((c.word_of.ensures (Script word)).1 form) in
-    let P : ScriptWord → Type 0 = λ w. RunsAs D w (g.S.Source.left c.args.source.now) (g.S.Source.left c.run_as.new.source) (g.K.Sink.held c.args.sink.now) (g.K.Sink.held c.run_as.new.sink) c.run_as.result in
+    let P : ScriptWord → Type 0 = λ w. RunsAs D w (g.S.Source.left c.args.source.now) (g.S.Source.left c.run_as.new.source) (g.K.Sink.held c.args.sink.now)
+    (g.K.Sink.held c.run_as.new.sink) c.run_as.result in
     (c.run_as.result, c.ending_of_run.ensures, subst P same c.run_as.ensures.runs)
 
 pub returns-in-Script-clause-sums : goal.returns-in-Script-clause-sums
@@ -73,7 +76,8 @@ pub returns-in-Script-clause-complete_log : goal.returns-in-Script-clause-comple
 returns-in-Script-clause-complete_log g c word form = absurd (script_not_log c.word_of.result c.in-Some.word c.in-Script.word word c.in-Some.is c.in-Script.is ((c.word_of.ensures (Log word)).1 form))
 
 pub returns-in-Script-clause-explorations : goal.returns-in-Script-clause-explorations
-returns-in-Script-clause-explorations g c more form = absurd (script_not_explore c.word_of.result c.in-Some.word c.in-Script.word c.in-Some.is c.in-Script.is ((c.word_of.ensures Explore).1 ((more, form), tt)))
+returns-in-Script-clause-explorations g c more form = absurd
+    (script_not_explore c.word_of.result c.in-Some.word c.in-Script.word c.in-Some.is c.in-Script.is ((c.word_of.ensures Explore).1 ((more, form), tt)))
 
 pub returns-in-Script-clause-about : goal.returns-in-Script-clause-about
 returns-in-Script-clause-about g c about form = absurd (script_not_about c.word_of.result c.in-Some.word c.in-Script.word about c.in-Some.is c.in-Script.is ((c.word_of.ensures (Say about)).1 form))
@@ -86,8 +90,15 @@ returns-in-Gen-clause-scripts g c word form = absurd (gen_not_script c.word_of.r
 pub returns-in-Gen-clause-sums : goal.returns-in-Gen-clause-sums
 returns-in-Gen-clause-sums g c seed form =
     let D : DeskRelations = record { blocks = given.F-post g c.args.desk.now.blocks; vendor = given.H-post g c.args.desk.now.vendor } in
-    let same = one_seed c.word_of.result c.in-Some.word c.in-Gen.seed seed c.in-Some.is c.in-Gen.is ((c.word_of.ensures (Gen seed)).1 form) in
-    (refl, (c.run_seed.result, c.ending_of_run-in-Gen.ensures, seed_same D (g.K.Sink.held c.args.sink.now) (g.K.Sink.held c.run_seed.new.sink) c.run_seed.result c.in-Gen.seed seed same c.run_seed.ensures.sums))
+    let same = one_seed c.word_of.result c.in-Some.word c.in-Gen.seed seed c.in-Some.is c.in-Gen.is ((c.word_of.ensures (Gen seed)).1 form) in (
+      refl,
+      (
+        c.run_seed.result,
+        c.ending_of_run-in-Gen.ensures,
+        seed_same D (g.K.Sink.held c.args.sink.now)
+            (g.K.Sink.held c.run_seed.new.sink) c.run_seed.result c.in-Gen.seed seed same c.run_seed.ensures.sums,
+      ),
+    )
 
 pub returns-in-Gen-clause-logs : goal.returns-in-Gen-clause-logs
 returns-in-Gen-clause-logs g c word form = absurd (gen_not_log c.word_of.result c.in-Some.word c.in-Gen.seed word c.in-Some.is c.in-Gen.is ((c.word_of.ensures (Log word)).1 form))
@@ -97,7 +108,8 @@ returns-in-Gen-clause-first g c =
     let D : DeskRelations = record { blocks = given.F-post g c.args.desk.now.blocks; vendor = given.H-post g c.args.desk.now.vendor } in
     let F : Ending → Type 0 = FirstFault (g.S.Source.faults c.args.source.now) (g.S.Source.faults c.args.source.now) (g.K.Sink.faults c.args.sink.now) (g.K.Sink.faults c.run_seed.new.sink) in
     subst F (sym c.ending_of_run-in-Gen.ensures)
-    (first_of_seed D c.in-Gen.seed (g.K.Sink.held c.args.sink.now) (g.K.Sink.held c.run_seed.new.sink) (g.S.Source.faults c.args.source.now) (g.K.Sink.faults c.args.sink.now) (g.K.Sink.faults c.run_seed.new.sink) c.run_seed.result c.run_seed.ensures.sums c.run_seed.ensures.write_count)
+    (first_of_seed D c.in-Gen.seed (g.K.Sink.held c.args.sink.now) (g.K.Sink.held c.run_seed.new.sink) (g.S.Source.faults c.args.source.now) (g.K.Sink.faults c.args.sink.now)
+    (g.K.Sink.faults c.run_seed.new.sink) c.run_seed.result c.run_seed.ensures.sums c.run_seed.ensures.write_count)
 
 pub returns-in-Gen-clause-complete : goal.returns-in-Gen-clause-complete
 returns-in-Gen-clause-complete g c word form = absurd (gen_not_script c.word_of.result c.in-Some.word c.in-Gen.seed word c.in-Some.is c.in-Gen.is ((c.word_of.ensures (Script word)).1 form))
@@ -108,7 +120,8 @@ returns-in-Gen-clause-complete_sums g c seed form valid =
     let V : ℕ → Type 0 = λ n. IsValid (script_of n) in
     let same = one_seed c.word_of.result c.in-Some.word c.in-Gen.seed seed c.in-Some.is c.in-Gen.is ((c.word_of.ensures (Gen seed)).1 form) in
     done_unwritten c.ending_of_run-in-Gen.ensures
-    (seed_completes D c.in-Gen.seed (g.K.Sink.held c.args.sink.now) (g.K.Sink.held c.run_seed.new.sink) c.run_seed.result c.run_seed.ensures.sums (c.run_seed.ensures.complete (subst V (sym same) valid)))
+    (seed_completes D c.in-Gen.seed (g.K.Sink.held c.args.sink.now) (g.K.Sink.held c.run_seed.new.sink) c.run_seed.result c.run_seed.ensures.sums
+    (c.run_seed.ensures.complete (subst V (sym same) valid)))
 
 pub returns-in-Gen-clause-complete_log : goal.returns-in-Gen-clause-complete_log
 returns-in-Gen-clause-complete_log g c word form = absurd (gen_not_log c.word_of.result c.in-Some.word c.in-Gen.seed word c.in-Some.is c.in-Gen.is ((c.word_of.ensures (Log word)).1 form))
@@ -130,7 +143,8 @@ returns-in-Log-clause-sums g c seed form = absurd (log_not_gen c.word_of.result 
 pub returns-in-Log-clause-logs : goal.returns-in-Log-clause-logs
 returns-in-Log-clause-logs g c word form =
     let same = one_log c.word_of.result c.in-Some.word c.in-Log.word word c.in-Some.is c.in-Log.is ((c.word_of.ensures (Log word)).1 form) in
-    let P : LogWord → Type 0 = λ w. Reads (form_by w) (rules_by w) (g.S.Source.left c.args.source.now) (g.S.Source.left c.read_as.new.source) (g.K.Sink.held c.args.sink.now) (g.K.Sink.held c.read_as.new.sink) c.read_as.result in
+    let P : LogWord → Type 0 = λ w. Reads (form_by w) (rules_by w) (g.S.Source.left c.args.source.now) (g.S.Source.left c.read_as.new.source) (g.K.Sink.held c.args.sink.now)
+    (g.K.Sink.held c.read_as.new.sink) c.read_as.result in
     (c.read_as.result, c.ending_of_log.ensures, subst P same c.read_as.ensures.reads)
 
 pub returns-in-Log-clause-first : goal.returns-in-Log-clause-first
@@ -168,7 +182,8 @@ pub returns-in-About-clause-logs : goal.returns-in-About-clause-logs
 returns-in-About-clause-logs g c word form = absurd (about_not_log c.word_of.result c.in-Some.word c.in-About.about word c.in-Some.is c.in-About.is ((c.word_of.ensures (Log word)).1 form))
 
 pub returns-in-About-clause-explorations : goal.returns-in-About-clause-explorations
-returns-in-About-clause-explorations g c more form = absurd (about_not_explore c.word_of.result c.in-Some.word c.in-About.about c.in-Some.is c.in-About.is ((c.word_of.ensures Explore).1 ((more, form), tt)))
+returns-in-About-clause-explorations g c more form = absurd (about_not_explore c.word_of.result c.in-Some.word c.in-About.about c.in-Some.is c.in-About.is
+    ((c.word_of.ensures Explore).1 ((more, form), tt)))
 
 pub returns-in-About-clause-about : goal.returns-in-About-clause-about
 returns-in-About-clause-about g c about form =

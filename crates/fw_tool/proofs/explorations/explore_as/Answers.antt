@@ -1,6 +1,6 @@
 use Rattle.std.proofs.Common.{List, ℕ, inl, inr, refl, subst}
-use Rattle.fw_movers.specs.Words.{IsExploredBy, IsNoExploration}
-use Rattle.fw_explored.proofs.WordsLaws.{explored_by}
+use Rattle.fw_explore_movers.specs.Words.{IsExploredBy, IsNoExploration}
+use Rattle.fw_explore_meaning.proofs.WordsLaws.{explored_by}
 use Rattle.fw_tool.proofs.WordLaws.{rest_is}
 use Rattle.fw_tool.proofs.explorations.explore_as.Goals as goal
 

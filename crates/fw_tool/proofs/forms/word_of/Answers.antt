@@ -11,7 +11,8 @@ one_word-requires c same =
 pub two_words-requires : goal.two_words-requires
 two_words-requires c same =
     let (more, form) =
-    begins c.args.words.now c.word-item-then-words-lt3.result (codes "explore") c.as_str-in-len2.result.now (omega (arith, c.in-len2.len_at_least)) c.word-item-then-words-lt3.is c.as_str-in-len2.ensures.value
+    begins c.args.words.now c.word-item-then-words-lt3.result (codes "explore") c.as_str-in-len2.result.now
+    (omega (arith, c.in-len2.len_at_least)) c.word-item-then-words-lt3.is c.as_str-in-len2.ensures.value
     same in
     c.explores.ensures.no c.if-explores.false more form
 

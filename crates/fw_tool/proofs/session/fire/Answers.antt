@@ -1,9 +1,9 @@
 use Rattle.std.proofs.Common.{◌≡◌, ℕ, List, Option, ap, refl, sym, subst, ◌∙◌}
-use Rattle.fw_run.specs.Desks.{DeskRelations}
-use Rattle.fw_reading.specs.Endings.{Reads}
-use Rattle.fw_decode.specs.Words.{form_by, rules_by}
+use Rattle.fw_model_run.specs.Desks.{DeskRelations}
+use Rattle.fw_log_loop.specs.Endings.{Reads}
+use Rattle.fw_log_words.specs.Words.{form_by, rules_by}
 use Rattle.fw_tool.specs.Scripts.{RunsAs}
-use Rattle.fw_simulate.specs.Sums.{Sums}
+use Rattle.fw_script_words.specs.Sums.{Sums}
 use Rattle.fw_tool.specs.declared.ending.Ending.{Ending}
 use Rattle.fw_tool.specs.declared.ending.Ending.TheVariants.{Usage}
 use Rattle.fw_tool.specs.About.{about_text, IsSaid}
@@ -41,7 +41,8 @@ returns g c =
       old = c.args.sink.now;
       new = c.pass_all-flushed.new.self;
     } in
-    let closing : (came : Ending) → c.carry_out-ending.result ≡ came → IsClosed (PassesAtOnce sink) read read2 written written2 (g.K.Flush.kept c.pass_all-flushed.new.self) came c.closed.result = λ came is.
+    let closing : (came : Ending) → c.carry_out-ending.result ≡ came
+    → IsClosed (PassesAtOnce sink) read read2 written written2 (g.K.Flush.kept c.pass_all-flushed.new.self) came c.closed.result = λ came is.
     let F : Ending → Type 0 = FirstFault read read2 written before in
     record {
       before = before;

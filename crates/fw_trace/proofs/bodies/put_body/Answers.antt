@@ -1,9 +1,9 @@
-use Rattle.std.proofs.Common.{List, ℕ, sym, subst, ◌∙◌}
+use Rattle.fw_trace.proofs.Common.{List, ℕ, sym, subst, ◌∙◌, PutsEntry}
+use Rattle.std.specs.Prelude.{IfSome}
 use Rattle.fw_async.specs.Reader.{Spells}
-use Rattle.fw_entry.specs.declared.entry.Entry.{Entry}
+use Rattle.fw_log_entry.specs.declared.entry.Entry.{Entry}
 use Rattle.fw_log.specs.Passing.{HasBody}
 use Rattle.fw_log.specs.declared.plain.PlainBody.{PlainBody}
-use Rattle.fw_trace.specs.Telling.{PutsEntry}
 use Rattle.fw_trace.proofs.bodies.put_body.Goals as goal
 
 pub put_packet-requires : goal.put_packet-requires
@@ -19,6 +19,12 @@ put_iso-requires c =
     let made = subst P c.in-Iso.is c.requires.1 in
     record { packet = made.0; fits = made.2; same = made.3 ∙ sym c.as_slice-in-Iso.ensures }
 
+pub put_again-requires : goal.put_again-requires
+put_again-requires c =
+    let P : PlainBody → Type 0 = λ b. HasBody b c.requires.0 in
+    let made = subst P c.in-Reset.is c.requires.1 in
+    (made.0, made.2, made.3 ∙ sym c.as_slice-in-Reset.ensures)
+
 pub returns-in-Packet-clause-puts : goal.returns-in-Packet-clause-puts
 returns-in-Packet-clause-puts c e m =
     let P : PlainBody → Type 0 = λ b. HasBody b e in
@@ -33,3 +39,10 @@ returns-in-Iso-clause-puts c e m =
     let made = subst P c.in-Iso.is m in
     let R : Entry → Type 0 = λ w. PutsEntry (record { cycle = c.args.cycle; what = w }) c.args.tracer.now c.put_iso.new.tracer c.put_iso.result in
     subst R (sym made.1) (c.put_iso.ensures made.0 made.2 (made.3 ∙ sym c.as_slice-in-Iso.ensures))
+
+pub returns-in-Reset-clause-puts : goal.returns-in-Reset-clause-puts
+returns-in-Reset-clause-puts c e m =
+    let P : PlainBody → Type 0 = λ b. HasBody b e in
+    let made = subst P c.in-Reset.is m in
+    let R : Entry → Type 0 = λ w. IfSome c.put_again.result (PutsEntry (record { cycle = c.args.cycle; what = w }) c.args.tracer.now c.put_again.new.tracer) in
+    subst R (sym made.1) (c.put_again.ensures.puts made.0 made.2 (made.3 ∙ sym c.as_slice-in-Reset.ensures))

@@ -1,6 +1,4 @@
-use Rattle.std.proofs.Common.{◌≡◌, ◌+◌, ℕ, List, length}
-use Rattle.fw_entry.specs.declared.entry.Timed.{Timed}
-use Rattle.fw_log.specs.History.{HasRead}
+use Rattle.fw_trace.proofs.Common.{◌≡◌, ◌+◌, ℕ, List, length, Timed, HasRead}
 use Rattle.fw_log.specs.Reader.{total}
 use Rattle.fw_trace.specs.Telling.{TakesSome}
 use Rattle.fw_trace.proofs.entries.take_entries.Given as goal

@@ -1,7 +1,5 @@
-use Rattle.std.proofs.Common.{◌≡◌, subst, sym}
-use Rattle.fw_log.specs.History.{HasRead}
+use Rattle.fw_trace.proofs.Common.{◌≡◌, subst, sym, HasRead, Traced}
 use Rattle.fw_log.specs.Reader.{State}
-use Rattle.fw_tracer.specs.Commands.{Traced}
 use Rattle.fw_trace.specs.Telling.{TakesOne}
 use Rattle.fw_trace.proofs.TellingLaws.{known_one, unknown_same}
 use Rattle.fw_trace.proofs.entries.take_entry.Goals as goal

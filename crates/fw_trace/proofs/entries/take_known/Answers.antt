@@ -1,4 +1,4 @@
-use Rattle.std.proofs.Common.{take}
+use Rattle.fw_trace.proofs.Common.{take}
 use Rattle.fw_trace.proofs.TellingLaws.{known_taken}
 use Rattle.fw_trace.proofs.entries.take_known.Goals as goal
 

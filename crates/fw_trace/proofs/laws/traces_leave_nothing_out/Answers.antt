@@ -1,4 +1,4 @@
-use Rattle.fw_run.specs.Desks.{DeskRelations}
+use Rattle.fw_trace.proofs.Common.{DeskRelations}
 use Rattle.fw_trace.proofs.CountLaws.{ends_as_its_run, leaves_nothing_out}
 use Rattle.fw_trace.proofs.laws.traces_leave_nothing_out.Given as given
 use Rattle.fw_trace.proofs.laws.traces_leave_nothing_out.Goals as goal

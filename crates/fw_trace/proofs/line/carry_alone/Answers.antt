@@ -1,4 +1,4 @@
-use Rattle.std.proofs.Common.{ap, None}
+use Rattle.fw_trace.proofs.Common.{ap, None}
 use Rattle.fw_trace.proofs.NextLaws.{begun_alone}
 use Rattle.fw_trace.proofs.line.carry_alone.Goals as goal
 

@@ -1,5 +1,5 @@
-use Rattle.std.proofs.Common.{ap, ◌∙◌, ◌+◌, ◌++◌, ℕ, List, Some, take}
-use Rattle.fw_tracer.specs.Lines.{line_text}
+use Rattle.fw_trace.proofs.Common.{ap, ◌∙◌, ◌+◌, ◌++◌, ℕ, List, Some, take}
+use Rattle.fw_trace_lines.specs.Lines.{line_text}
 use Rattle.fw_trace.proofs.NextLaws.{begun_line, lack_traced}
 use Rattle.fw_trace.proofs.line.carry_line.Goals as goal
 

@@ -1,11 +1,7 @@
-use Rattle.std.proofs.Common.{◌⊎◌, ◌++◌, ◌≡◌, List, ℕ, sym, subst, take}
-use Rattle.fw_outside.specs.Outside.{Grows}
-use Rattle.fw_script.specs.Reading.{Reading}
-use Rattle.fw_script.specs.declared.stage.Stage.TheVariants.{Done}
-use Rattle.fw_simulate.proofs.Calls.{may_read}
-use Rattle.fw_simulate.proofs.Passings.{pass_shorter}
-use Rattle.fw_tracer.specs.Lines.{line_text}
-use Rattle.fw_trace.specs.Parts.{trace_text}
+use Rattle.fw_trace.proofs.Common.{◌⊎◌, ◌++◌, ◌≡◌, List, ℕ, sym, subst, take, Grows, Reading, Done, trace_text}
+use Rattle.fw_script_words.proofs.Calls.{may_read}
+use Rattle.fw_script_words.proofs.Passings.{pass_shorter}
+use Rattle.fw_trace_lines.specs.Lines.{line_text}
 use Rattle.fw_trace.specs.Tracing.{HoldsNoCommand}
 use Rattle.fw_trace.proofs.NextLaws.{line_open, line_stops, line_told, refused_next}
 use Rattle.fw_trace.proofs.StopLaws.{grown, grown_grows, stop_traced}

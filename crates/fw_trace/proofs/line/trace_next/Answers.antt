@@ -1,6 +1,6 @@
-use Rattle.std.proofs.Common.{sym, ◌∙◌}
-use Rattle.fw_simulate.proofs.Calls.{may_read}
-use Rattle.fw_simulate.proofs.Passings.{look_same}
+use Rattle.fw_trace.proofs.Common.{sym, ◌∙◌}
+use Rattle.fw_script_words.proofs.Calls.{may_read}
+use Rattle.fw_script_words.proofs.Passings.{look_same}
 use Rattle.fw_trace.proofs.NextLaws.{fault_traced, measured, none_next, tracing_looked}
 use Rattle.fw_trace.proofs.line.trace_next.Goals as goal
 

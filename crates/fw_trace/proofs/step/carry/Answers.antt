@@ -1,12 +1,7 @@
-use Rattle.std.proofs.Common.{◌≡◌, ◌++◌, ℕ, List, ap, subst, refl, ◌∙◌, [], Some, None}
+use Rattle.fw_trace.proofs.Common.{◌≡◌, ◌++◌, ℕ, List, ap, subst, refl, ◌∙◌, [], Some, None, Grows, Grows-Grows, caused_text, Traced, last_lines, trace_text, Base}
 use Rattle.std.specs.declared.option.Option.{Option as Maybe}
-use Rattle.fw_outside.specs.Outside.{Grows}
-use Rattle.fw_outside.proofs.Parts.{Grows-Grows}
-use Rattle.fw_tracer.specs.Caused.{caused_text}
-use Rattle.fw_tracer.specs.Commands.{Traced, ended, last_lines}
-use Rattle.fw_trace.specs.Parts.{trace_text}
+use Rattle.fw_trace_lines.specs.Commands.{ended}
 use Rattle.fw_trace.proofs.StopLaws.{grown, grown_grows, stop_traced}
-use Rattle.fw_trace.specs.Framing.{Base}
 use Rattle.fw_trace.proofs.CarriedLaws.{framed_step}
 use Rattle.fw_trace.proofs.Framings.{framed_grown}
 use Rattle.fw_trace.proofs.OnLaws.{lack_none, passed_whole, carried_on, stop_writes, end_writes}

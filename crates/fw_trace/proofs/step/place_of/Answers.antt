@@ -1,6 +1,6 @@
-use Rattle.std.proofs.Common.{◌≡◌, sym, false}
+use Rattle.fw_trace.proofs.Common.{◌≡◌, sym, false}
 use Rattle.std.specs.Option.{is_some}
-use Rattle.fw_tracer.specs.Jobs.{connection_of}
+use Rattle.fw_trace_lines.specs.Jobs.{connection_of}
 use Rattle.fw_trace.proofs.PlaceLaws.{no_place}
 use Rattle.fw_trace.proofs.step.place_of.Goals as goal
 

@@ -1,7 +1,4 @@
-use Rattle.std.proofs.Common.{◌≡◌, ◌++◌, ◌∙◌, ap, sym, List, ℕ}
-use Rattle.fw_entry.specs.Log.{header_bytes}
-use Rattle.fw_entry.specs.declared.version.Version.TheVariants.{Two}
-use Rattle.fw_trace.specs.Framing.{Base}
+use Rattle.fw_trace.proofs.Common.{◌≡◌, ◌++◌, ◌∙◌, ap, sym, List, ℕ, header_bytes, Two, Base}
 use Rattle.fw_trace.proofs.Framings.{framed_grown}
 use Rattle.fw_trace.proofs.HeaderLaws.{header_begins, header_stops}
 use Rattle.fw_trace.proofs.OnLaws.{fault_writes, lack_none, passed_whole}

@@ -1,4 +1,4 @@
-use Rattle.std.proofs.Common.{◌∙◌, refl}
+use Rattle.fw_trace.proofs.Common.{◌∙◌, refl}
 use Rattle.fw_trace.proofs.HeaderLaws.{first_stops, first_tracing}
 use Rattle.fw_trace.proofs.word.trace_all.Goals as goal
 

@@ -1,6 +1,5 @@
-use Rattle.std.proofs.Common.{◌≡◌, None}
-use Rattle.fw_simulate.specs.Going.{to_read}
-use Rattle.fw_trace.specs.Tracing.{Tracing}
+use Rattle.fw_trace.proofs.Common.{◌≡◌, None, Tracing}
+use Rattle.fw_script_words.specs.Going.{to_read}
 use Rattle.fw_trace.proofs.word.trace_all.Given as goal
 
 -- the lines so far were told, and nothing failed

@@ -1,5 +1,4 @@
-use Rattle.std.proofs.Common.{◌≡◌, ◌<◌, ℕ}
-use Rattle.fw_tree.specs.Cables.{peer}
+use Rattle.fw_tree.proofs.Common.{◌≡◌, ◌<◌, ℕ, peer}
 use Rattle.fw_tree.proofs.copies.same_cables.Given as goal
 
 abbrev pub invariant-loop-device : goal.invariant-loop-device

@@ -1,6 +1,6 @@
-use Rattle.std.proofs.Common.{rules, ◌≡◌, Decides}
+use Rattle.fw_tree.proofs.Common.{◌≡◌, PhyFacts}
+use Rattle.std.proofs.Common.{rules, Decides}
 use Rattle.std.proofs.lemmas.Slice.Eq.{slice_eq-Decides}
-use Rattle.fw_tree.specs.declared.facts.PhyFacts.{PhyFacts}
 use Rattle.fw_tree.specs.contracts.facts.PhyFactsPartialEq.TheImpl.{eq-value}
 use Rattle.fw_tree.proofs.copies.same_facts.Goals as goal
 

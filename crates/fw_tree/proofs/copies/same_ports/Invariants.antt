@@ -1,4 +1,4 @@
-use Rattle.std.proofs.Common.{◌≡◌, take}
+use Rattle.fw_tree.proofs.Common.{◌≡◌, take}
 use Rattle.fw_tree.proofs.copies.same_ports.Given as goal
 
 abbrev pub invariant-loop-port : goal.invariant-loop-port

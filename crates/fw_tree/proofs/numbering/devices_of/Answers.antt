@@ -1,7 +1,4 @@
-use Rattle.std.proofs.Common.{◌≡◌, ◌<◌, inl, inr, ℕ, List, Option, Some, None, length, arith, subst, sym}
-use Rattle.std.proofs.lemmas.Bool.{cases_lt}
-use Rattle.std.proofs.lemmas.List.{get_or_past}
-use Rattle.fw_tree.specs.Numbers.{number_at, device_at}
+use Rattle.fw_tree.proofs.Common.{◌≡◌, ◌<◌, inl, inr, ℕ, List, Option, Some, None, length, arith, subst, sym, cases_lt, get_or_past, number_at, device_at}
 use Rattle.fw_tree.proofs.numbering.devices_of.Goals as goal
 
 -- a device with a number is one of the 63
@@ -12,7 +9,8 @@ within number d n size at = elim (cases_lt d 63) [
 ]
 
 -- the table holds the device of the number
-held : (number : List (Option ℕ)) (devices : List ℕ) (n : ℕ) → length number ≡ 63 → ((d n : ℕ) → d < 63 → number_at number d ≡ Some n → device_at devices n ≡ d) → (d : ℕ) × (number_at number d ≡ Some n) → (number_at number (device_at devices n) ≡ Some n) × (device_at devices n < 63)
+held : (number : List (Option ℕ)) (devices : List ℕ) (n : ℕ) → length number ≡ 63 → ((d n : ℕ) → d < 63 → number_at number d ≡ Some n → device_at devices n ≡ d) → (d : ℕ)
+    × (number_at number d ≡ Some n) → (number_at number (device_at devices n) ≡ Some n) × (device_at devices n < 63)
 held number devices n size table w =
     let low = within number w.0 n size w.1 in
     let same = table w.0 n low w.1 in

@@ -1,5 +1,4 @@
-use Rattle.std.proofs.Common.{◌≡◌, ◌<◌, ℕ, Some, length}
-use Rattle.fw_tree.specs.Numbers.{device_at, number_at}
+use Rattle.fw_tree.proofs.Common.{◌≡◌, ◌<◌, ℕ, Some, length, device_at, number_at}
 use Rattle.fw_tree.proofs.numbering.devices_of.Given as goal
 
 abbrev pub invariant-loop-d : goal.invariant-loop-d

@@ -1,12 +1,8 @@
-use Rattle.std.proofs.Common.{◌≡◌, ◌<◌, ◌≤◌, ◌+◌, ◌-◌, Bool, Some, None, refl, ap, sym, ◌∙◌, arith, ℕ, List, Option, subst}
+use Rattle.fw_tree.proofs.Common.{◌≡◌, ◌<◌, ◌≤◌, ◌+◌, ◌-◌, Bool, Some, None, refl, ap, sym, ◌∙◌, arith, ℕ, List, Option, subst, get_or_past, peer, Ports, counted, has_number, is_there, number_at}
+use Rattle.fw_tree.proofs.Common.{rank, parent_at}
 use Rattle.std.specs.Option.{is_some}
-use Rattle.std.proofs.lemmas.List.{get_or_past}
-use Rattle.fw_tree.specs.Cables.{peer}
-use Rattle.fw_tree.specs.Branch.{Ports}
 use Rattle.fw_tree.proofs.PlacedLaws.{ports_all}
-use Rattle.fw_tree.specs.Numbers.{counted, has_number, is_there, number_at, rank}
 use Rattle.fw_tree.proofs.CountLaws.{counted_most, counted_set}
-use Rattle.fw_tree.specs.Parents.{parent_at}
 use Rattle.fw_tree.proofs.TreeLaws.{ports_first, ports_child, ports_none, branch_of, branch_none, child_lower}
 use Rattle.fw_tree.proofs.numbers.+number_branch.Goals as goal
 use Rattle.fw_tree.proofs.numbers.+number_branch.Goals.{in-Some, in-None, After-is_some}
@@ -16,7 +12,8 @@ loop-p-init t c = record { size = omega (arith, c.told-number); ports = λ root 
 
 pub number_branch-next-requires : goal.number_branch-next-requires
 number_branch-next-requires t c =
-    let lower : rank (parent_at c.args.parents.now c.in-Some.child) < rank (parent_at c.args.parents.now c.args.d) = child_lower c.args.g.now c.args.parents.now c.args.d c.loop-p.p c.in-Some.child c.requires.cables c.requires.parents c.requires.device c.in-Some.ensures.within c.in-Some.ensures.child in
+    let lower : rank (parent_at c.args.parents.now c.in-Some.child) < rank (parent_at c.args.parents.now c.args.d) =
+    child_lower c.args.g.now c.args.parents.now c.args.d c.loop-p.p c.in-Some.child c.requires.cables c.requires.parents c.requires.device c.in-Some.ensures.within c.in-Some.ensures.child in
     let falls : rank (parent_at c.args.parents.now c.in-Some.child) < t = omega (arith, c.decreases) in
     (falls, (c.requires.range, (c.requires.cables, (c.requires.placed, (c.requires.parents, (c.in-Some.ensures.within, c.loop-p.invariant.next))))))
 
@@ -26,8 +23,11 @@ loop-p-preserved t c = record {
   ports = λ root on paths.
       let P : List (Option ℕ) → Type 0 = Ports c.args.g.now c.args.parents.now root on paths c.args.d (c.loop-p.p + 1) c.args.number.now in
       elim c.match-child_at.branch [
-        | in-Some w ↦ subst P (sym w.number-is) (ports_child c.args.g.now c.args.parents.now root on paths c.args.d c.loop-p.p w.in-Some.child c.args.number.now c.loop-p.number w.number_branch-next.new.number w.in-Some.ensures.child (c.loop-p.invariant.ports root on paths) (w.number_branch-next.ensures.branch root on paths))
-        | in-None w ↦ subst P (sym w.number-is) (ports_none c.args.g.now c.args.parents.now root on paths c.args.d c.loop-p.p c.args.number.now c.loop-p.number w.in-None.ensures.none (c.loop-p.invariant.ports root on paths))
+        | in-Some w ↦ subst P (sym w.number-is)
+            (ports_child c.args.g.now c.args.parents.now root on paths c.args.d c.loop-p.p w.in-Some.child c.args.number.now c.loop-p.number w.number_branch-next.new.number w.in-Some.ensures.child
+            (c.loop-p.invariant.ports root on paths) (w.number_branch-next.ensures.branch root on paths))
+        | in-None w ↦ subst P (sym w.number-is) (ports_none c.args.g.now c.args.parents.now root on paths c.args.d c.loop-p.p c.args.number.now c.loop-p.number w.in-None.ensures.none
+            (c.loop-p.invariant.ports root on paths))
       ];
   next =
       let Q : List (Option ℕ) → Type 0 = λ number. c.match-child_at.next ≡ counted (has_number number) 63 in
@@ -43,7 +43,8 @@ all_ports t c root on paths =
     let g = c.args.g.now in
     let ports = c.cables_of-p-end.result.now in
     let last : c.loop-p.p + (27 - c.loop-p.p) ≡ 27 = omega (arith, c.cables_of-p-end.ensures.most) in
-    let none : (q : ℕ) → c.loop-p.p ≤ q → peer g c.args.d q ≡ None = λ q h. ap (λ (d : ℕ). peer g d q) (sym c.from.ensures) ∙ sym (c.cables_of-p-end.ensures.ports q) ∙ get_or_past ports q None (omega (arith, h)) in
+    let none : (q : ℕ) → c.loop-p.p ≤ q → peer g c.args.d q ≡ None =
+    λ q h. ap (λ (d : ℕ). peer g d q) (sym c.from.ensures) ∙ sym (c.cables_of-p-end.ensures.ports q) ∙ get_or_past ports q None (omega (arith, h)) in
     let P : ℕ → Type 0 = λ p. Ports g c.args.parents.now root on paths c.args.d p c.args.number.now c.loop-p.number in
     subst P last (ports_all g c.args.parents.now root on paths c.args.d c.loop-p.p (27 - c.loop-p.p) c.args.number.now c.loop-p.number none (c.loop-p.invariant.ports root on paths))
 
@@ -63,7 +64,8 @@ returns-then-is_some-clause-branch t c = λ root on paths.
 pub returns-clause-branch : goal.returns-clause-branch
 returns-clause-branch t c = λ root on paths.
     let a = (goal.at.returns-clause-branch t c).After-is_some in
-    branch_of c.args.g.now c.args.parents.now root on paths c.args.d c.loop-p.next c.args.number.now c.loop-p.number (omega (arith, c.loop-p.invariant.size, c.requires.device)) c.loop-p.invariant.next (all_ports t a root on paths)
+    branch_of c.args.g.now c.args.parents.now root on paths c.args.d c.loop-p.next c.args.number.now c.loop-p.number (omega (arith, c.loop-p.invariant.size, c.requires.device)) c.loop-p.invariant.next
+    (all_ports t a root on paths)
 
 pub returns-clause-next : goal.returns-clause-next
 returns-clause-next t c =

@@ -1,7 +1,4 @@
-use Rattle.std.proofs.Common.{◌≡◌, ℕ, Bool, List, length}
-use Rattle.fw_tree.specs.Branch.{Ports}
-use Rattle.fw_tree.specs.Numbers.{counted, has_number, rank}
-use Rattle.fw_tree.specs.Parents.{parent_at}
+use Rattle.fw_tree.proofs.Common.{◌≡◌, ℕ, Bool, List, length, Ports, counted, has_number, rank, parent_at}
 use Rattle.fw_tree.proofs.numbers.+number_branch.Given as goal
 
 abbrev pub decreases-number_branch : goal.decreases-number_branch

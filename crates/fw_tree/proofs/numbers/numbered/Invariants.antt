@@ -1,5 +1,4 @@
-use Rattle.std.proofs.Common.{◌≡◌, ◌≤◌}
-use Rattle.fw_tree.specs.Numbers.{counted, has_number}
+use Rattle.fw_tree.proofs.Common.{◌≡◌, ◌≤◌, counted, has_number}
 use Rattle.fw_tree.proofs.numbers.numbered.Given as goal
 
 abbrev pub invariant-loop-d : goal.invariant-loop-d

@@ -1,5 +1,4 @@
-use Rattle.std.proofs.Common.{None, ap, replicate, sym}
-use Rattle.fw_tree.specs.Numbers.{has_number, is_there}
+use Rattle.fw_tree.proofs.Common.{None, ap, replicate, sym, has_number, is_there}
 use Rattle.fw_tree.proofs.CountLaws.{counted_zero}
 use Rattle.fw_tree.proofs.TreeLaws.{blank_number}
 use Rattle.fw_tree.proofs.numbers.numbers_from.Goals as goal

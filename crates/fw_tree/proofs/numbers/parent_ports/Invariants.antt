@@ -1,6 +1,5 @@
-use Rattle.std.proofs.Common.{◌≡◌, ◌<◌, ℕ, length}
-use Rattle.fw_tree.specs.Numbers.{has_number, number_at, shown}
-use Rattle.fw_tree.specs.Parents.{parent_at}
+use Rattle.fw_tree.proofs.Common.{◌≡◌, ◌<◌, ℕ, length, has_number, number_at, parent_at}
+use Rattle.fw_tree.specs.Numbers.{shown}
 use Rattle.fw_tree.proofs.numbers.parent_ports.Given as goal
 
 abbrev pub invariant-loop-d : goal.invariant-loop-d

@@ -1,6 +1,4 @@
-use Rattle.std.proofs.Common.{◌≡◌, ◌∙◌, ℕ, Some, arith, ap, sym}
-use Rattle.fw_tree.specs.Cables.{here, along, peer}
-use Rattle.fw_tree.specs.Parents.{parent_at}
+use Rattle.fw_tree.proofs.Common.{◌≡◌, ◌∙◌, ℕ, Some, arith, ap, sym, here, along, peer, parent_at}
 use Rattle.fw_tree.proofs.ClimbLaws.{parent_later, leads_up, top_root}
 use Rattle.fw_tree.proofs.ForestLaws.{none_of}
 use Rattle.fw_tree.proofs.RoundLaws.{in_range}

@@ -1,7 +1,4 @@
-use Rattle.std.proofs.Common.{◌-◌, ◌<◌}
-use Rattle.fw_tree.specs.Cables.{IsOnBus}
-use Rattle.fw_tree.specs.Numbers.{rank}
-use Rattle.fw_tree.specs.Parents.{parent_at}
+use Rattle.fw_tree.proofs.Common.{◌-◌, ◌<◌, IsOnBus, rank, parent_at}
 use Rattle.fw_tree.proofs.root.find_root.Given as goal
 
 abbrev pub invariant-loop-parent : goal.invariant-loop-parent

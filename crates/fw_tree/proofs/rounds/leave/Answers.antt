@@ -1,5 +1,5 @@
-use Rattle.std.proofs.Common.{◌≡◌, ◌<◌, ◌≤◌, ◌+◌, ◌-◌, ℕ, None, inl, rules, arith}
-use Rattle.fw_tree.specs.Cables.{peer}
+use Rattle.fw_tree.proofs.Common.{◌≡◌, ◌<◌, ◌≤◌, ◌+◌, ◌-◌, ℕ, None, inl, arith, peer}
+use Rattle.std.proofs.Common.{rules}
 use Rattle.fw_tree.proofs.DueLaws.{Going, going_all, going_first, going_on, marked_more, due_next}
 use Rattle.fw_tree.proofs.ForestLaws.{none_of}
 use Rattle.fw_tree.proofs.ParentLaws.{leave_more, leave_fewer, leave_same}
@@ -30,10 +30,11 @@ loop-d-preserved c =
             same = leave_same old now.stays then.stays c.loop-d.changed left i.same e.same;
             fewer = leave_fewer g round old now.stays then.stays was par c.loop-d.d c.loop-d.changed left i.leave i.same i.fewer e.left e.gone e.same;
           })
-      | else-before-d w ↦ rw (w.now-is, w.parents-is, w.changed-is) (going_on g round old c.args.now.now.due now.stays now.due was par c.loop-d.changed c.loop-d.d low i (c.requires.due c.loop-d.d low) w.if-before-d.false)
+      | else-before-d w ↦ rw (w.now-is, w.parents-is, w.changed-is)
+          (going_on g round old c.args.now.now.due now.stays now.due was par c.loop-d.changed c.loop-d.d low i (c.requires.due c.loop-d.d low) w.if-before-d.false)
     ]
 
--- the devices behind those that are there have no cables
+-- the devices after those that are there have no cables
 all : (c : After-loop-d) → Going c.args.g.now c.args.round c.args.now.now.stays c.loop-d.now.stays c.loop-d.now.due c.args.parents.now c.loop-d.parents c.loop-d.changed 63
 all c =
     let g = c.args.g.now in

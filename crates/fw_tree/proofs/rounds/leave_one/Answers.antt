@@ -1,5 +1,4 @@
-use Rattle.std.proofs.Common.{◌<◌, None, refl, sym, ◌∙◌, get_or-set_same, arith}
-use Rattle.fw_tree.specs.Cables.{is_seen}
+use Rattle.fw_tree.proofs.Common.{◌<◌, None, refl, sym, ◌∙◌, get_or-set_same, arith, is_seen}
 use Rattle.fw_tree.specs.Parents.{Notes}
 use Rattle.fw_tree.proofs.DueLaws.{open_marked}
 use Rattle.fw_tree.proofs.RoundLaws.{in_range}

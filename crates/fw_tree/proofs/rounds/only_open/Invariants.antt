@@ -1,7 +1,5 @@
-use Rattle.std.proofs.Common.{◌≡◌, ◌≤◌, ◌<◌, None, Some, true, take, slice_index_or}
+use Rattle.fw_tree.proofs.Common.{◌≡◌, ◌≤◌, ◌<◌, None, Some, true, take, slice_index_or, is_seen, is_open}
 use Rattle.std.specs.Prelude.{count_by, IfSome, IfNone}
-use Rattle.fw_tree.specs.Cables.{is_seen}
-use Rattle.fw_tree.specs.Rounds.{is_open}
 use Rattle.fw_tree.proofs.rounds.only_open.Given as goal
 
 abbrev pub invariant-loop-p : goal.invariant-loop-p

@@ -1,7 +1,4 @@
-use Rattle.std.proofs.Common.{ap, sym, subst, Option}
-use Rattle.fw_tree.specs.declared.rounds.Parent.{Parent}
-use Rattle.fw_tree.specs.Cables.{is_seen}
-use Rattle.fw_tree.specs.Parents.{IsParent}
+use Rattle.fw_tree.proofs.Common.{ap, sym, subst, Option, Parent, is_seen, IsParent}
 use Rattle.fw_tree.proofs.DueLaws.{due_first}
 use Rattle.fw_tree.proofs.ParentLaws.{gone_first, gone_more, gone_settled, gone_parents}
 use Rattle.fw_tree.proofs.rounds.parents.Goals as goal
@@ -23,9 +20,13 @@ returns-clause-parents c = λ d h.
     let same = e.same c.loop-now-test.false in
     let settled = gone_settled c.args.g.now c.loop-now.round c.loop-now.now.stays c.leave.new.now.stays c.loop-now.parents c.requires.range c.loop-now.invariant.gone e.after same in
     let P : Option Parent → Type 0 = IsParent c.args.g.now d in
-    subst P (sym (e.others d h (ap (λ xs. is_seen xs d) same))) (gone_parents c.args.g.now c.loop-now.round c.loop-now.now.stays c.loop-now.parents c.requires.range c.loop-now.invariant.gone settled d h)
+    subst P (sym (e.others d h (ap (λ xs. is_seen xs d) same)))
+    (gone_parents c.args.g.now c.loop-now.round c.loop-now.now.stays c.loop-now.parents c.requires.range c.loop-now.invariant.gone settled d h)
 
 pub returns-clause-settled : goal.returns-clause-settled
 returns-clause-settled c =
-    let e = c.leave.ensures in
-    (c.loop-now.round, gone_settled c.args.g.now c.loop-now.round c.loop-now.now.stays c.leave.new.now.stays c.loop-now.parents c.requires.range c.loop-now.invariant.gone e.after (e.same c.loop-now-test.false))
+    let e = c.leave.ensures in (
+      c.loop-now.round,
+      gone_settled c.args.g.now c.loop-now.round c.loop-now.now.stays c.leave.new.now.stays c.loop-now.parents c.requires.range c.loop-now.invariant.gone e.after
+          (e.same c.loop-now-test.false),
+    )

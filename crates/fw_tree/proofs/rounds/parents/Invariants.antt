@@ -1,4 +1,4 @@
-use Rattle.std.proofs.Common.{ℕ, ◌<◌}
+use Rattle.fw_tree.proofs.Common.{ℕ, ◌<◌}
 use Rattle.fw_tree.specs.Parents.{IsDue, staying}
 use Rattle.fw_tree.proofs.ParentLaws.{Gone}
 use Rattle.fw_tree.proofs.rounds.parents.Given as goal

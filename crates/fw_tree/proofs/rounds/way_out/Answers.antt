@@ -1,8 +1,6 @@
-use Rattle.std.proofs.Common.{◌≡◌, Option, None, Some, true, slice_index_or, sym, ◌∙◌}
+use Rattle.fw_tree.proofs.Common.{◌≡◌, Option, None, Some, true, slice_index_or, sym, ◌∙◌, is_seen, is_open, LeavesBy}
 use Rattle.std.specs.Prelude.{count_by, IfSome}
 use Rattle.fw_tree.specs.declared.rounds.Cable.{Cable}
-use Rattle.fw_tree.specs.Cables.{is_seen}
-use Rattle.fw_tree.specs.Rounds.{is_open, LeavesBy}
 use Rattle.fw_tree.proofs.ParentLaws.{leaves_by, stays_there}
 use Rattle.fw_tree.proofs.rounds.way_out.Goals as goal
 

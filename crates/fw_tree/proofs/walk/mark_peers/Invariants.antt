@@ -1,5 +1,5 @@
-use Rattle.std.proofs.Common.{◌≡◌, ◌<◌, ℕ, IfSome, None, IsTrue, slice_index_or, true, false}
-use Rattle.fw_tree.specs.Cables.{MarksPeers, is_seen, unseen}
+use Rattle.fw_tree.proofs.Common.{◌≡◌, ◌<◌, ℕ, IfSome, None, IsTrue, slice_index_or, true, false, is_seen, unseen}
+use Rattle.fw_tree.specs.Cables.{MarksPeers}
 use Rattle.fw_tree.proofs.walk.mark_peers.Given as goal
 
 abbrev pub invariant-loop-port : goal.invariant-loop-port

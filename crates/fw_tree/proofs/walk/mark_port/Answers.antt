@@ -1,4 +1,4 @@
-use Rattle.std.proofs.Common.{◌<◌, arith}
+use Rattle.fw_tree.proofs.Common.{◌<◌, arith}
 use Rattle.fw_tree.proofs.SeenLaws.{unseen_set}
 use Rattle.fw_tree.proofs.walk.mark_port.Goals as goal
 

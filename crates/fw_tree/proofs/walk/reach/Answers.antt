@@ -1,5 +1,5 @@
-use Rattle.std.proofs.Common.{ℕ, [], slice_index_or, subst, IsTrue}
-use Rattle.fw_tree.specs.Cables.{AreMarked, is_seen}
+use Rattle.fw_tree.proofs.Common.{ℕ, [], slice_index_or, subst, IsTrue, is_seen}
+use Rattle.fw_tree.specs.Cables.{AreMarked}
 use Rattle.fw_tree.proofs.SeenLaws.{closed_alone, reached_first}
 use Rattle.fw_tree.proofs.walk.reach.Goals as goal
 

@@ -1,5 +1,5 @@
-use Rattle.std.proofs.Common.{IsTrue}
-use Rattle.fw_tree.specs.Cables.{AllReached, is_seen, unseen}
+use Rattle.fw_tree.proofs.Common.{IsTrue, is_seen, unseen}
+use Rattle.fw_tree.specs.Cables.{AllReached}
 use Rattle.fw_tree.proofs.walk.reach.Given as goal
 
 abbrev pub invariant-loop : goal.invariant-loop

@@ -1,5 +1,5 @@
-use Rattle.std.proofs.Common.{◌≡◌, ◌<◌, ℕ, IfSome, IsTrue, true, false}
-use Rattle.fw_tree.specs.Cables.{Spreads, is_seen, unseen, peer}
+use Rattle.fw_tree.proofs.Common.{◌≡◌, ◌<◌, ℕ, IfSome, IsTrue, true, false, is_seen, unseen, peer}
+use Rattle.fw_tree.specs.Cables.{Spreads}
 use Rattle.fw_tree.proofs.walk.spread.Given as goal
 
 abbrev pub invariant-loop-d : goal.invariant-loop-d

@@ -1,11 +1,11 @@
-use Rattle.std.proofs.Common.{None, Some, [], Option, IfSome, ◌<◌, slice_index_or, sym, subst}
-use Rattle.fw_tree.specs.declared.facts.End.{End}
+use Rattle.fw_tree.proofs.Common.{None, Some, [], Option, IfSome, ◌<◌, slice_index_or, sym, subst, End}
 use Rattle.fw_tree.proofs.SeenLaws.{spreads_of}
 use Rattle.fw_tree.proofs.PlacedLaws.{marks_same, marked_same}
 use Rattle.fw_tree.proofs.walk.spread_from.Goals as goal
 
 pub returns-then-seen-d-clause-marks : goal.returns-then-seen-d-clause-marks
-returns-then-seen-d-clause-marks c = spreads_of _ _ _ c.args.d c.if-seen-d.true (marks_same c.cables_of.result.now (slice_index_or c.args.g.now c.args.d []) _ _ c.cables_of.ensures.ports c.mark_peers.ensures.marks)
+returns-then-seen-d-clause-marks c = spreads_of _ _ _ c.args.d c.if-seen-d.true
+    (marks_same c.cables_of.result.now (slice_index_or c.args.g.now c.args.d []) _ _ c.cables_of.ensures.ports c.mark_peers.ensures.marks)
 
 pub returns-then-seen-d-clause-closed : goal.returns-then-seen-d-clause-closed
 returns-then-seen-d-clause-closed c = λ first. marked_same c.cables_of.result.now (slice_index_or c.args.g.now c.args.d []) _ c.cables_of.ensures.ports c.mark_peers.ensures.marked

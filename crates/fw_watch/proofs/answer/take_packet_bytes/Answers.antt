@@ -1,5 +1,5 @@
 use Rattle.std.proofs.Common.{◌∙◌, Some, None, ap}
-use Rattle.fw_remarks.specs.Remarks.{told}
+use Rattle.fw_watch_remarks.specs.Remarks.{told}
 use Rattle.fw_watch.proofs.PutLaws.{on_ok}
 use Rattle.fw_watch.proofs.StepLaws.{answer_lines, answer_known}
 use Rattle.fw_watch.proofs.answer.take_packet_bytes.Goals as goal

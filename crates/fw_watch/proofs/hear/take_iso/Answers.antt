@@ -1,5 +1,5 @@
 use Rattle.std.proofs.Common.{◌∙◌, ap, sym}
-use Rattle.fw_remarks.specs.Remarks.{told}
+use Rattle.fw_watch_remarks.specs.Remarks.{told}
 use Rattle.fw_watch.proofs.StepLaws.{usual_silent}
 use Rattle.fw_watch.proofs.hear.take_iso.Goals as goal
 

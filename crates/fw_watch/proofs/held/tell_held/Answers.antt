@@ -1,5 +1,5 @@
 use Rattle.std.proofs.Common.{◌≡◌, ◌+◌, ◌-◌, ◌∙◌, ℕ, suc, None, refl, sym, arith}
-use Rattle.fw_known.specs.Channels.{late_to}
+use Rattle.fw_watch_known.specs.Channels.{late_to}
 use Rattle.fw_watch.proofs.HeldLaws.{no_late, stop_lines, stop_known, next_lines, next_known, end_lines, end_known}
 use Rattle.fw_watch.proofs.held.tell_held.Goals as goal
 

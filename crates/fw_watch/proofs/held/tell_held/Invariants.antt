@@ -1,5 +1,5 @@
 use Rattle.std.proofs.Common.{◌≡◌, ◌-◌}
-use Rattle.fw_remarks.specs.Remarks.{told}
+use Rattle.fw_watch_remarks.specs.Remarks.{told}
 use Rattle.fw_watch.specs.Holding.{held_remarks, after_held}
 use Rattle.fw_watch.proofs.held.tell_held.Given as goal
 

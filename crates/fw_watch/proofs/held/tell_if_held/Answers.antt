@@ -1,5 +1,5 @@
 use Rattle.std.proofs.Common.{ap, sym}
-use Rattle.fw_remarks.specs.Remarks.{told}
+use Rattle.fw_watch_remarks.specs.Remarks.{told}
 use Rattle.fw_watch.proofs.HeldLaws.{none_held, none_after}
 use Rattle.fw_watch.proofs.held.tell_if_held.Goals as goal
 

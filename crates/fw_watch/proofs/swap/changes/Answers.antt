@@ -1,5 +1,5 @@
 use Rattle.std.proofs.Common.{◌≡◌, ap, sym, ◌∙◌, ℕ, arith}
-use Rattle.fw_remarks.specs.Knowing.{bit_of}
+use Rattle.fw_watch_remarks.specs.Knowing.{bit_of}
 use Rattle.fw_watch.specs.Swaps.{next_count, changes_to}
 use Rattle.fw_watch.proofs.SwapLaws.{none_differ, differ_more, differ_at_most}
 use Rattle.fw_watch.proofs.swap.changes.Goals as goal

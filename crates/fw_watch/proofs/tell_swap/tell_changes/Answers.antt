@@ -1,5 +1,5 @@
 use Rattle.std.proofs.Common.{ap, sym, ◌∙◌, List}
-use Rattle.fw_remarks.specs.Remarks.{Said, told}
+use Rattle.fw_watch_remarks.specs.Remarks.{Said, told}
 use Rattle.fw_watch.specs.Swaps.{change_remarks, changes_remarks}
 use Rattle.fw_watch.proofs.WatchLaws.{told_more}
 use Rattle.fw_watch.proofs.SwapLaws.{no_changes, changes_more}

@@ -1,5 +1,5 @@
 use Rattle.std.proofs.Common.{◌≡◌}
-use Rattle.fw_remarks.specs.Remarks.{told}
+use Rattle.fw_watch_remarks.specs.Remarks.{told}
 use Rattle.fw_watch.specs.Swaps.{changes_remarks}
 use Rattle.fw_watch.proofs.tell_swap.tell_changes.Given as goal
 

@@ -1,5 +1,5 @@
 use Rattle.std.proofs.Common.{◌≡◌, OnOk, List, sym, subst}
-use Rattle.fw_remarks.specs.Remarks.{Said, told}
+use Rattle.fw_watch_remarks.specs.Remarks.{Said, told}
 use Rattle.fw_watch.proofs.OnlyLaws.{one_told}
 use Rattle.fw_watch.proofs.tell_swap.tell_channels.Goals as goal
 

@@ -1,4 +1,4 @@
-use Rattle.std.proofs.Common.{◌≡◌, ℕ, List, length, take, drop, arith, sym, ap, ◌∙◌}
+use Rattle.fw_async.proofs.Common.{◌≡◌, ℕ, List, length, take, drop, arith, sym, ap, ◌∙◌}
 use Rattle.fw_async.proofs.RoomLaws.{copied, stood}
 use Rattle.fw_async.proofs.room.PacketRoom.copy_to.Goals as goal
 use Rattle.fw_async.proofs.room.PacketRoom.copy_to.Goals.{then-self-le-SHORT, else-self-le-SHORT}

@@ -1,4 +1,4 @@
-use Rattle.std.proofs.Common.{arith, ◌++◌, ap, ◌∙◌}
+use Rattle.fw_async.proofs.Common.{arith, ◌++◌, ap, ◌∙◌}
 use Rattle.fw_async.proofs.RoomLaws.{appended}
 use Rattle.fw_async.proofs.room.PacketRoom.extend.Goals as goal
 

@@ -1,4 +1,4 @@
-use Rattle.std.proofs.Common.{◌≡◌, ℕ, ◌+◌, List, length, take, drop, arith, sym, ap, ◌∙◌}
+use Rattle.fw_async.proofs.Common.{◌≡◌, ℕ, ◌+◌, List, length, take, drop, arith, sym, ap, ◌∙◌}
 use Rattle.std.proofs.lemmas.List.{take-take}
 use Rattle.fw_async.proofs.RoomLaws.{row_is, stood}
 use Rattle.fw_async.proofs.room.PacketRoom.row_behind.Goals as goal

@@ -1,4 +1,4 @@
-use Rattle.std.proofs.Common.{◌≡◌, ◌<◌, ◌≤◌, ℕ, List, length, drop, get_or, eqb, arith, sym, ◌∙◌, subst, ap}
+use Rattle.fw_async.proofs.Common.{◌≡◌, ◌<◌, ◌≤◌, ℕ, List, length, drop, get_or, eqb, arith, sym, ◌∙◌, subst, ap}
 use Rattle.std.specs.List.{IsDistinct}
 use Rattle.fw_async.proofs.SenderLaws.{others, first_gone, later_gone, none_gone}
 use Rattle.fw_async.proofs.senders.Senders.remove.Goals as goal

@@ -1,6 +1,4 @@
-use Rattle.std.proofs.Common.{inl, inr, ap, sym, ◌∙◌, arith}
-use Rattle.std.proofs.lemmas.Bool.{cases_lt}
-use Rattle.fw_async.specs.Wire.{bytes_from}
+use Rattle.fw_async.proofs.Common.{inl, inr, ap, sym, ◌∙◌, arith, cases_lt, bytes_from}
 use Rattle.fw_async.proofs.WireLaws.{beyond, missing, none_from}
 use Rattle.fw_async.proofs.wire.Wire.end.Goals as goal
 

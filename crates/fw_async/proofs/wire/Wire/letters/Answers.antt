@@ -1,4 +1,4 @@
-use Rattle.std.proofs.Common.{arith}
+use Rattle.fw_async.proofs.Common.{arith}
 use Rattle.fw_async.proofs.LetterLaws.{told_all}
 use Rattle.fw_async.proofs.wire.Wire.letters.Goals as goal
 

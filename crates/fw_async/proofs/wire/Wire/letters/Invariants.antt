@@ -1,4 +1,4 @@
-use Rattle.std.proofs.Common.{◌≡◌, length}
+use Rattle.fw_async.proofs.Common.{◌≡◌, length}
 use Rattle.fw_async.proofs.LetterLaws.{AreTold}
 use Rattle.fw_async.proofs.wire.Wire.letters.Given as goal
 

@@ -1,5 +1,4 @@
-use Rattle.std.proofs.Common.{◌≢◌, ℕ, ◌++◌, [], ◌∷◌, List, take, arith, sym, ◌∙◌, ap, subst}
-use Rattle.fw_async.specs.Wire.{IsKept, bytes_from}
+use Rattle.fw_async.proofs.Common.{◌≢◌, ℕ, ◌++◌, [], ◌∷◌, List, take, arith, sym, ◌∙◌, ap, subst, IsKept, bytes_from}
 use Rattle.fw_async.proofs.ExactLaws.{whole_from_spells}
 use Rattle.fw_async.proofs.NeedLaws.{need_least}
 use Rattle.fw_async.proofs.WireLaws.{is_absent, room, put_kept, put_pairs}
@@ -16,10 +15,13 @@ invariant_of-self c =
     let whole = whole_from_spells c.requires.packet.packet c.args.packet.now c.requires.packet.spells in
     let some : c.copy_to.result ≢ 0 = omega (arith, need_least c.args.packet.now, whole, c.copy_to.ensures.size) in
     let P : List ℕ → Type 0 = IsKept _ in
-    rw c.from-at.ensures (subst P (sym c.push.ensures) (put_kept c.self.inside.lengths c.self.inside.senders c.args.from c.copy_to.result c.self.invariant (omega (arith, c.requires.from)) c.copy_to.ensures.room some absent))
+    rw c.from-at.ensures (subst P (sym c.push.ensures) (put_kept c.self.inside.lengths c.self.inside.senders c.args.from c.copy_to.result c.self.invariant
+    (omega (arith, c.requires.from)) c.copy_to.ensures.room some absent))
 
 pub returns : goal.returns
 returns c =
     let absent = is_absent c.self.inside.lengths c.self.inside.rows c.self.inside.senders c.args.from (ap (bytes_from c.args.from) c.self.view_is ∙ c.requires.free) in
-    let new = put_pairs c.self.inside.lengths c.self.inside.rows c.self.inside.senders c.args.from c.copy_to.result c.copy_to.new.row (omega (arith, c.requires.from, c.self.told)) (omega (arith, c.requires.from, c.self.told)) absent in
-    rw (c.from-at.ensures, c.push.ensures) (new ∙ ap (λ t. t ++ (c.args.from, take c.copy_to.result c.copy_to.new.row) ∷ []) c.self.view_is ∙ ap (λ t. c.args.self.now ++ (c.args.from, t) ∷ []) c.copy_to.ensures.bytes)
+    let new = put_pairs c.self.inside.lengths c.self.inside.rows c.self.inside.senders c.args.from c.copy_to.result c.copy_to.new.row (omega (arith, c.requires.from, c.self.told))
+    (omega (arith, c.requires.from, c.self.told)) absent in
+    rw (c.from-at.ensures, c.push.ensures) (new ∙ ap (λ t. t ++ (c.args.from, take c.copy_to.result c.copy_to.new.row) ∷ []) c.self.view_is
+    ∙ ap (λ t. c.args.self.now ++ (c.args.from, t) ∷ []) c.copy_to.ensures.bytes)

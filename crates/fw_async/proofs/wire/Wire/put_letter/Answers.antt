@@ -1,5 +1,4 @@
-use Rattle.std.proofs.Common.{◌≢◌, ℕ, ◌++◌, [], ◌∷◌, List, take, arith, sym, ◌∙◌, ap, subst}
-use Rattle.fw_async.specs.Wire.{IsKept, bytes_from}
+use Rattle.fw_async.proofs.Common.{◌≢◌, ℕ, ◌++◌, [], ◌∷◌, List, take, arith, sym, ◌∙◌, ap, subst, IsKept, bytes_from}
 use Rattle.fw_async.proofs.WireLaws.{is_absent, room, put_kept, put_pairs}
 use Rattle.fw_async.proofs.wire.Wire.put_letter.Goals as goal
 
@@ -13,10 +12,13 @@ invariant_of-self c =
     let absent = is_absent c.self.inside.lengths c.self.inside.rows c.self.inside.senders c.args.from (ap (bytes_from c.args.from) c.self.view_is ∙ c.requires.free) in
     let some : c.copy_letter.result ≢ 0 = omega (arith, c.copy_letter.ensures.some) in
     let P : List ℕ → Type 0 = IsKept _ in
-    rw c.from-at.ensures (subst P (sym c.push.ensures) (put_kept c.self.inside.lengths c.self.inside.senders c.args.from c.copy_letter.result c.self.invariant (omega (arith, c.requires.from)) c.copy_letter.ensures.room some absent))
+    rw c.from-at.ensures (subst P (sym c.push.ensures) (put_kept c.self.inside.lengths c.self.inside.senders c.args.from c.copy_letter.result c.self.invariant
+    (omega (arith, c.requires.from)) c.copy_letter.ensures.room some absent))
 
 pub returns : goal.returns
 returns c =
     let absent = is_absent c.self.inside.lengths c.self.inside.rows c.self.inside.senders c.args.from (ap (bytes_from c.args.from) c.self.view_is ∙ c.requires.free) in
-    let new = put_pairs c.self.inside.lengths c.self.inside.rows c.self.inside.senders c.args.from c.copy_letter.result c.copy_letter.new.row (omega (arith, c.requires.from, c.self.told)) (omega (arith, c.requires.from, c.self.told)) absent in
-    rw (c.from-at.ensures, c.push.ensures) (new ∙ ap (λ t. t ++ (c.args.from, take c.copy_letter.result c.copy_letter.new.row) ∷ []) c.self.view_is ∙ ap (λ t. c.args.self.now ++ (c.args.from, t) ∷ []) c.copy_letter.ensures.bytes)
+    let new = put_pairs c.self.inside.lengths c.self.inside.rows c.self.inside.senders c.args.from c.copy_letter.result c.copy_letter.new.row (omega (arith, c.requires.from, c.self.told))
+    (omega (arith, c.requires.from, c.self.told)) absent in
+    rw (c.from-at.ensures, c.push.ensures) (new ∙ ap (λ t. t ++ (c.args.from, take c.copy_letter.result c.copy_letter.new.row) ∷ []) c.self.view_is
+    ∙ ap (λ t. c.args.self.now ++ (c.args.from, t) ∷ []) c.copy_letter.ensures.bytes)

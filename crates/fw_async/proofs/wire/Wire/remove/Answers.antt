@@ -1,5 +1,5 @@
-use Rattle.std.proofs.Common.{◌<◌, ℕ, List, arith, sym, ◌∙◌, ap, subst}
-use Rattle.fw_async.specs.Wire.{IsKept, without}
+use Rattle.fw_async.proofs.Common.{◌<◌, ℕ, List, arith, sym, ◌∙◌, ap, subst, IsKept}
+use Rattle.fw_async.specs.Wire.{without}
 use Rattle.fw_async.proofs.WireLaws.{take_kept, take_pairs}
 use Rattle.fw_async.proofs.wire.Wire.remove.Goals as goal
 

@@ -1,6 +1,5 @@
-use Rattle.std.proofs.Common.{◌≡◌, ◌+◌, None, Some, slice_index_or, sym, subst, ◌∙◌}
-use Rattle.std.proofs.lemmas.Grind.{common_steps}
-use Rattle.std.proofs.Common.{arith}
+use Rattle.fw_async.proofs.Common.{◌≡◌, ◌+◌, None, Some, sym, subst, ◌∙◌, common_steps, arith}
+use Rattle.std.proofs.Common.{slice_index_or}
 use Rattle.fw_async.specs.Wire.{Pairs}
 use Rattle.fw_async.proofs.LetterLaws.{AreLaid, laid_one, laid_none}
 use Rattle.fw_async.proofs.wire.Wire.set_letters.Goals.{in-Some, in_default}

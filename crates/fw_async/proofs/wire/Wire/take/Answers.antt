@@ -1,5 +1,5 @@
-use Rattle.std.proofs.Common.{◌≡◌, ◌≢◌, [], ◌++◌, Some, take, get_or, arith, refl, sym, ◌∙◌, ap}
-use Rattle.fw_async.specs.Wire.{bytes_from, bytes_at, without}
+use Rattle.fw_async.proofs.Common.{◌≡◌, ◌≢◌, [], ◌++◌, Some, take, get_or, arith, refl, sym, ◌∙◌, ap, bytes_from}
+use Rattle.fw_async.specs.Wire.{bytes_at, without}
 use Rattle.fw_async.proofs.WireLaws.{found, missing, beyond, none_taken}
 use Rattle.fw_async.proofs.wire.Wire.take.Goals as goal
 use Rattle.fw_async.proofs.wire.Wire.take.Goals.{then-at-ge-MOST_NODES-via-then-at-ge-MOST_NODES, then-at-ge-MOST_NODES-via-else-at-ge-MOST_NODES+then-self-at-eq0}
@@ -7,7 +7,8 @@ use Rattle.fw_async.proofs.wire.Wire.take.Goals.{then-at-ge-MOST_NODES-via-then-
 pub returns-then-at-ge-MOST_NODES : goal.returns-then-at-ge-MOST_NODES
 returns-then-at-ge-MOST_NODES c =
     let none : get_or c.self.inside.lengths c.args.from 0 ≡ 0 = elim c.then-at-ge-MOST_NODES.branch [
-      | then-at-ge-MOST_NODES-via-then-at-ge-MOST_NODES w ↦ beyond c.self.inside.lengths c.self.inside.senders c.args.from c.self.invariant (omega (arith, w.if-at-ge-MOST_NODES.true, c.from-at.ensures))
+      | then-at-ge-MOST_NODES-via-then-at-ge-MOST_NODES w ↦ beyond c.self.inside.lengths c.self.inside.senders c.args.from c.self.invariant
+          (omega (arith, w.if-at-ge-MOST_NODES.true, c.from-at.ensures))
       | then-at-ge-MOST_NODES-via-else-at-ge-MOST_NODES+then-self-at-eq0 w ↦ rw (sym c.from-at.ensures) w.if-self-at-eq0.true
     ] in
     record {

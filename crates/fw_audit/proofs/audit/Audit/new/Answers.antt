@@ -1,5 +1,5 @@
 use Rattle.std.proofs.Common.{refl}
-use Rattle.fw_account.specs.Fold.{no_account}
+use Rattle.fw_model_account.specs.Fold.{no_account}
 use Rattle.fw_audit.proofs.Audits.{nothing_audited}
 use Rattle.fw_audit.proofs.audit.Audit.new.Goals as goal
 

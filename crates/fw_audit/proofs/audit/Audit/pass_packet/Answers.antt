@@ -1,4 +1,4 @@
-use Rattle.fw_entry.specs.declared.entry.Entry.TheVariants.{Async}
+use Rattle.fw_log_entry.specs.declared.entry.Entry.TheVariants.{Async}
 use Rattle.fw_audit.proofs.Audits.{taken_found}
 use Rattle.fw_audit.proofs.audit.Audit.pass_packet.Goals as goal
 

@@ -1,6 +1,6 @@
 use Rattle.std.proofs.Common.{◌++◌, ◌∷◌, [], refl, sym, subst, arith}
-use Rattle.fw_faults.specs.Looked.{looked}
-use Rattle.fw_faults.specs.Faults.{IsVerdict}
+use Rattle.fw_model_audit.specs.Looked.{looked}
+use Rattle.fw_model_audit.specs.Faults.{IsVerdict}
 use Rattle.fw_audit.specs.Found.{Found}
 use Rattle.fw_audit.specs.declared.audit.Audit.{Audit}
 use Rattle.fw_audit.proofs.Audits.{found_more}

@@ -30,7 +30,8 @@ pub returns-then-not-is_row : goal.returns-then-not-is_row
 returns-then-not-is_row c =
     let f = c.args.f.now in
     let found = found_as f c.of.result c.as_slice.result.now c.is_some-is_row.result c.is_some-is_row.ensures c.of.ensures c.as_slice.ensures.value in
-    let h = unknown c.args.self.now c.args.from f c.repeat-then-not-is_row.new.self c.requires.kind c.requires.id c.if-f-ne-NOTIFY.false (sym found ∙ c.if-not-is_row.true) c.repeat-then-not-is_row.ensures in
+    let h = unknown c.args.self.now c.args.from f c.repeat-then-not-is_row.new.self c.requires.kind c.requires.id c.if-f-ne-NOTIFY.false
+    (sym found ∙ c.if-not-is_row.true) c.repeat-then-not-is_row.ensures in
     record { response = h.0; unit = h.1 }
 
 powered_row : (c : goal.After-show) → c.self.inside.power ≡ true

@@ -1,5 +1,5 @@
 use Rattle.std.proofs.Common.{subst, sym, refl, IsFalse}
-use Rattle.fw_machine.specs.Stands.{StandsFor}
+use Rattle.fw_bus_state.specs.Stands.{StandsFor}
 use Rattle.fw_bus.proofs.Runs.{goes, stops, quiet_reached, ready_of, reached_more, run_good}
 use Rattle.fw_bus.proofs.bus.Bus.apply.Goals as goal
 
@@ -20,7 +20,8 @@ invariant_of-self g c = λ fresh. reached_more c.args.c.now _ (c.self.invariant 
 
 pub returns-in-Ok-carry_out-clause-run : goal.returns-in-Ok-carry_out-clause-run
 returns-in-Ok-carry_out-clause-run g c commands actions log s r st =
-    goes c.args.c.now _ _ (subst (λ v. IsFalse v.spent) (sym c.self.view_is) c.requires.spent) c.in-Ok.ensures.decided c.in-Ok-carry_out.ensures.does commands actions log s r (subst (λ v. StandsFor v.machine s) (sym c.self.view_is) st)
+    goes c.args.c.now _ _ (subst (λ v. IsFalse v.spent) (sym c.self.view_is) c.requires.spent) c.in-Ok.ensures.decided c.in-Ok-carry_out.ensures.does commands actions log s r
+    (subst (λ v. StandsFor v.machine s) (sym c.self.view_is) st)
 
 pub returns-in-Err-carry_out-clause-run : goal.returns-in-Err-carry_out-clause-run
 returns-in-Err-carry_out-clause-run g c commands actions log s r st =

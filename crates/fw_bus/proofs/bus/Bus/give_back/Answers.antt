@@ -1,4 +1,4 @@
-use Rattle.fw_places.proofs.GoodLaws.{as_good}
+use Rattle.fw_bus_places.proofs.GoodLaws.{as_good}
 use Rattle.fw_bus.proofs.bus.Bus.give_back.Goals as goal
 
 pub give_back-requires : goal.give_back-requires

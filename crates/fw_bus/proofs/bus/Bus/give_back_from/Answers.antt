@@ -1,7 +1,7 @@
 use Rattle.std.proofs.Common.{ap, subst, sym}
-use Rattle.fw_machine.specs.declared.machine.Machine.{Machine}
-use Rattle.fw_places.specs.Places.{IsPlace}
-use Rattle.fw_places.proofs.GoodLaws.{as_good}
+use Rattle.fw_bus_state.specs.declared.machine.Machine.{Machine}
+use Rattle.fw_bus_places.specs.Places.{IsPlace}
+use Rattle.fw_bus_places.proofs.GoodLaws.{as_good}
 use Rattle.fw_bus.specs.Buses.{Standing}
 use Rattle.fw_bus.proofs.bus.Bus.give_back_from.Goals as goal
 

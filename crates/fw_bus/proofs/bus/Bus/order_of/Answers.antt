@@ -1,5 +1,5 @@
 use Rattle.std.proofs.Common.{subst, sym, IsFalse}
-use Rattle.fw_machine.specs.Stands.{StandsFor}
+use Rattle.fw_bus_state.specs.Stands.{StandsFor}
 use Rattle.fw_bus.proofs.Runs.{ready_of, run_good}
 use Rattle.fw_bus.proofs.bus.Bus.order_of.Goals as goal
 

@@ -1,8 +1,8 @@
 -- The reel is that of the state for which the bus stands.
 use Rattle.std.proofs.Common.{ap, sym, subst}
-use Rattle.fw_machine.specs.declared.machine.Machine.{Machine}
+use Rattle.fw_bus_state.specs.declared.machine.Machine.{Machine}
 use Rattle.fw_bus.specs.Buses.{Standing}
-use Rattle.fw_machine.specs.Stands.{StandsFor}
+use Rattle.fw_bus_state.specs.Stands.{StandsFor}
 use Rattle.fw_bus.proofs.bus.Bus.reel.Goals as goal
 
 pub returns : goal.returns
@@ -10,5 +10,5 @@ returns c = record {
   lent = λ commands actions log s run st.
       let P : Machine → Type 0 = λ m. StandsFor m s in
       let here : StandsFor c.self.inside.machine s = subst P (ap (λ (b : Standing). b.machine) (sym c.self.view_is)) st in
-      here.beside.reel.reel_is;
+      here.reel.reel_is;
 }

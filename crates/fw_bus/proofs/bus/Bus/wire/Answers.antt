@@ -1,8 +1,8 @@
 -- The wire is that of the state for which the bus stands.
 use Rattle.std.proofs.Common.{ap, sym, subst}
-use Rattle.fw_machine.specs.declared.machine.Machine.{Machine}
+use Rattle.fw_bus_state.specs.declared.machine.Machine.{Machine}
 use Rattle.fw_bus.specs.Buses.{Standing}
-use Rattle.fw_machine.specs.Stands.{StandsFor}
+use Rattle.fw_bus_state.specs.Stands.{StandsFor}
 use Rattle.fw_bus.proofs.bus.Bus.wire.Goals as goal
 
 pub returns : goal.returns

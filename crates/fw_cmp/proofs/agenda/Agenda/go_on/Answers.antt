@@ -1,7 +1,4 @@
-use Rattle.std.proofs.Common.{◌≡◌, refl, ap, sym, subst, ◌∙◌}
-use Rattle.fw_cmp.specs.declared.current.Current.{Current}
-use Rattle.fw_cmp.specs.Controllers.{ControllerState, CurrentFits, IsHeard}
-use Rattle.fw_cmp.specs.Jobs.{going, resumed_current}
+use Rattle.fw_cmp.proofs.Common.{◌≡◌, refl, ap, sym, subst, ◌∙◌, Current, ControllerState, CurrentFits, IsHeard, going, resumed_current}
 use Rattle.fw_cmp.proofs.Fitting.{current_slots}
 use Rattle.fw_cmp.proofs.Going.{going_fits}
 use Rattle.fw_cmp.proofs.Ready.{with_slots, resumed_slots}
@@ -23,7 +20,8 @@ before c = record { slots = c.self.inside.slots; waiting = c.self.inside.waiting
 
 resumed : (c : goal.After-self-1) → c.resume-current.result ≡ resumed_current (before c) c.args.directory.now (before c).current
 resumed c =
-    let value : c.resume-current.result ≡ resumed_current (with_slots (before c).slots (before c).current) c.args.directory.now (before c).current = subst (λ (x : Current). c.resume-current.result ≡ resumed_current (with_slots (before c).slots x) c.args.directory.now x) c.unasked.ensures c.resume-current.ensures.value in
+    let value : c.resume-current.result ≡ resumed_current (with_slots (before c).slots (before c).current) c.args.directory.now (before c).current =
+    subst (λ (x : Current). c.resume-current.result ≡ resumed_current (with_slots (before c).slots x) c.args.directory.now x) c.unasked.ensures c.resume-current.ensures.value in
     value ∙ resumed_slots (with_slots (before c).slots (before c).current) (before c) c.args.directory.now (before c).current refl
 
 is : (c : goal.After-self-1) → c.new-self-inside.result ≡ resumed_current (before c) c.args.directory.now (before c).current
@@ -31,7 +29,8 @@ is c = c.new-self-inside.ensures ∙ resumed c
 
 pub invariant_of-self : goal.invariant_of-self
 invariant_of-self c =
-    let now : CurrentFits (going c.args.directory.now (before c)) c.resume-current.result = current_slots (with_slots (before c).slots c.unasked.result.now) (going c.args.directory.now (before c)) c.resume-current.result refl c.resume-current.ensures.fits in
+    let now : CurrentFits (going c.args.directory.now (before c)) c.resume-current.result =
+    current_slots (with_slots (before c).slots c.unasked.result.now) (going c.args.directory.now (before c)) c.resume-current.result refl c.resume-current.ensures.fits in
     (rw (is c) (going_fits c.args.directory.now (before c) c.self.invariant.0 (rw (resumed c) at now)), c.self.invariant.1)
 
 pub returns-clause-state : goal.returns-clause-state

@@ -1,5 +1,4 @@
-use Rattle.std.proofs.Common.{IsTrue, IsFalse, subst}
-use Rattle.fw_cmp.specs.Controllers.{ControllerState, IsHeard, IsStanding}
+use Rattle.fw_cmp.proofs.Common.{IsTrue, IsFalse, subst, ControllerState, IsHeard, IsStanding}
 use Rattle.fw_cmp.proofs.agenda.Agenda.has_request.Goals as goal
 
 pub returns-clause-standing : goal.returns-clause-standing

@@ -1,8 +1,4 @@
-use Rattle.std.proofs.Common.{◌≡◌, ap, sym, subst, ◌∙◌}
-use Rattle.fw_cmp.specs.declared.current.Current.{Current}
-use Rattle.fw_cmp.specs.Controllers.{ControllerState, IsStanding}
-use Rattle.fw_cmp.specs.Holdings.{CanGoOn}
-use Rattle.fw_cmp.specs.Resets.{after_hear}
+use Rattle.fw_cmp.proofs.Common.{◌≡◌, ap, sym, subst, ◌∙◌, Current, ControllerState, IsStanding, CanGoOn, after_hear}
 use Rattle.fw_cmp.specs.Works.{CurrentRuns}
 use Rattle.fw_cmp.proofs.GoingOn.{hear_goes_on}
 use Rattle.fw_cmp.proofs.Works.{hear_fits, runs_of}

@@ -1,4 +1,4 @@
-use Rattle.std.proofs.lemmas.Bool.{false≢true}
+use Rattle.fw_cmp.proofs.Common.{false≢true}
 use Rattle.fw_cmp.proofs.GoingOn.{first_goes_on}
 use Rattle.fw_cmp.proofs.Fitting.{first_fits}
 use Rattle.fw_cmp.proofs.agenda.Agenda.new.Goals as goal

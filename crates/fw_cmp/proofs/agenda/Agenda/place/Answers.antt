@@ -1,6 +1,5 @@
-use Rattle.std.proofs.Common.{◌≡◌, Ok, arith, sym, subst}
-use Rattle.fw_cmp.specs.Controllers.{ControllerState}
-use Rattle.fw_cmp.specs.Holdings.{CanGoOn}
+use Rattle.fw_cmp.proofs.Common.{◌≡◌, arith, sym, subst, ControllerState, CanGoOn}
+use Rattle.std.proofs.Common.{Ok}
 use Rattle.fw_cmp.specs.Refusals.{TakesSlot}
 use Rattle.fw_cmp.specs.Starts.{start}
 use Rattle.fw_cmp.proofs.Fitting.{start_fits}

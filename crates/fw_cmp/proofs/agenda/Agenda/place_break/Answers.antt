@@ -1,6 +1,5 @@
-use Rattle.std.proofs.Common.{◌≡◌, true, ◌<◌, length, None, sym, subst}
-use Rattle.fw_cmp.specs.Controllers.{ControllerState}
-use Rattle.fw_cmp.specs.Starts.{break_fault, can_break}
+use Rattle.fw_cmp.proofs.Common.{◌≡◌, true, ◌<◌, length, None, sym, subst, ControllerState, break_fault}
+use Rattle.fw_cmp.specs.Starts.{can_break}
 use Rattle.fw_cmp.proofs.Fitting.{can_break_fits}
 use Rattle.fw_cmp.proofs.Starting.{no_fault_means}
 use Rattle.fw_cmp.proofs.agenda.Agenda.place_break.Goals as goal

@@ -1,12 +1,5 @@
-use Rattle.std.proofs.lemmas.Bool.{false≢true}
-use Rattle.std.proofs.Common.{◌≡◌, List, [], refl, sym, ◌∙◌, ap, subst}
-use Rattle.fw_cmp.specs.declared.connection.Slot.{Slot}
-use Rattle.fw_cmp.specs.declared.current.Current.{Current}
-use Rattle.fw_cmp.specs.declared.current.Task.{Task}
-use Rattle.fw_cmp.specs.Holdings.{CanGoOn}
+use Rattle.fw_cmp.proofs.Common.{false≢true, ◌≡◌, List, [], refl, sym, ◌∙◌, ap, subst, Slot, Current, Task, CanGoOn, ControllerState, CurrentFits, current_reset, after_reset}
 use Rattle.fw_cmp.proofs.GoingOn.{reset_goes_on}
-use Rattle.fw_cmp.specs.Controllers.{ControllerState, CurrentFits}
-use Rattle.fw_cmp.specs.Resets.{current_reset, after_reset}
 use Rattle.fw_cmp.proofs.Fitting.{current_slots}
 use Rattle.fw_cmp.proofs.Ready.{with_slots}
 use Rattle.fw_cmp.proofs.Overtaken.{reset_fits, is_slots_reset, current_reset_waiting}
@@ -27,8 +20,10 @@ is c =
     let old : List Slot = c.self.inside.slots in
     let r : ControllerState = current_reset c.args.epoch (before c) (before c).current in
     let ts : List Task = (before c).waiting in
-    let slots : c.overtake-current.new.slots ≡ r.slots = subst (λ (x : Current). c.overtake-current.new.slots ≡ (current_reset c.args.epoch (record { slots = old; waiting = ts; current = x }) x).slots) (at c) (c.overtake-current.ensures.slots ts) in
-    let current : c.overtake-current.result ≡ r.current = subst (λ (x : Current). c.overtake-current.result ≡ (current_reset c.args.epoch (record { slots = old; waiting = ts; current = x }) x).current) (at c) (c.overtake-current.ensures.current ts) in
+    let slots : c.overtake-current.new.slots ≡ r.slots = subst (λ (x : Current). c.overtake-current.new.slots
+    ≡ (current_reset c.args.epoch (record { slots = old; waiting = ts; current = x }) x).slots) (at c) (c.overtake-current.ensures.slots ts) in
+    let current : c.overtake-current.result ≡ r.current = subst (λ (x : Current). c.overtake-current.result
+    ≡ (current_reset c.args.epoch (record { slots = old; waiting = ts; current = x }) x).current) (at c) (c.overtake-current.ensures.current ts) in
     is_slots_reset r c.overtake-current.new.slots c.reset.new.slots ts c.new-self-inside.result c.reset.ensures slots
     (sym (current_reset_waiting c.args.epoch (before c) (before c).current))
     (c.new-self-inside.ensures ∙ current)
@@ -36,7 +31,8 @@ is c =
 pub overtake-current-requires : goal.overtake-current-requires
 overtake-current-requires c =
     let now : ControllerState = record { slots = c.self.inside.slots; waiting = c.self.inside.waiting.items; current = c.self.inside.current } in
-    subst (λ (x : Current). CurrentFits (record { slots = c.self.inside.slots; waiting = []; current = x }) x) (sym c.get.ensures) (current_slots now (with_slots now.slots now.current) now.current refl c.self.invariant.0.current)
+    subst (λ (x : Current). CurrentFits (record { slots = c.self.inside.slots; waiting = []; current = x }) x) (sym c.get.ensures)
+    (current_slots now (with_slots now.slots now.current) now.current refl c.self.invariant.0.current)
 
 pub invariant_of-self : goal.invariant_of-self
 invariant_of-self c = (rw (is c) (reset_fits c.args.epoch (before c) c.self.invariant.0), λ on. absurd (false≢true on))

@@ -1,8 +1,5 @@
-use Rattle.std.proofs.lemmas.Bool.{false≢true}
-use Rattle.std.proofs.Common.{sym, subst}
-use Rattle.fw_cmp.specs.Holdings.{CanGoOn}
+use Rattle.fw_cmp.proofs.Common.{false≢true, sym, subst, CanGoOn, ControllerState}
 use Rattle.fw_cmp.proofs.GoingOn.{second_goes_on}
-use Rattle.fw_cmp.specs.Controllers.{ControllerState}
 use Rattle.fw_cmp.proofs.Overtaken.{second_fits}
 use Rattle.fw_cmp.proofs.agenda.Agenda.second_over.Goals as goal
 

@@ -1,8 +1,4 @@
-use Rattle.std.proofs.Common.{◌≡◌, ap, sym, subst, ◌∙◌}
-use Rattle.fw_cmp.specs.declared.current.Current.{Current}
-use Rattle.fw_cmp.specs.declared.current.Current.TheVariants.{Nothing}
-use Rattle.fw_cmp.specs.Controllers.{ControllerState, Fits, IsHeard}
-use Rattle.fw_cmp.specs.Jobs.{picked}
+use Rattle.fw_cmp.proofs.Common.{◌≡◌, ap, sym, subst, ◌∙◌, Current, Nothing, ControllerState, Fits, IsHeard, picked}
 use Rattle.fw_cmp.proofs.Picking.{at_rest, picked_fits}
 use Rattle.fw_cmp.proofs.Ready.{is_picked}
 use Rattle.fw_cmp.proofs.agenda.Agenda.take.Goals as goal
@@ -26,7 +22,8 @@ none : (c : goal.After-self-1) → c.self.inside.current ≡ Nothing
 none c = ap (λ (s : ControllerState). s.current) c.self.view_is ∙ c.has_job.ensures.none c.if-has_job.false
 
 is : (c : goal.After-self-1) → after c ≡ picked c.args.now c.args.directory.now (before c)
-is c = is_picked c.args.now c.args.directory.now (before c) c.pick-current.new.waiting.items c.new-self-inside.result (c.new-self-inside.ensures ∙ c.pick-current.ensures.current) c.pick-current.ensures.waiting
+is c = is_picked c.args.now c.args.directory.now (before c) c.pick-current.new.waiting.items c.new-self-inside.result
+    (c.new-self-inside.ensures ∙ c.pick-current.ensures.current) c.pick-current.ensures.waiting
 
 pub invariant_of-self : goal.invariant_of-self
 invariant_of-self c =

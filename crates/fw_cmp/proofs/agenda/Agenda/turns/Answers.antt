@@ -1,6 +1,4 @@
-use Rattle.std.proofs.Common.{◌≡◌, sym, subst, ◌∙◌}
-use Rattle.fw_cmp.specs.Controllers.{ControllerState}
-use Rattle.fw_cmp.specs.Jobs.{going}
+use Rattle.fw_cmp.proofs.Common.{◌≡◌, sym, subst, ◌∙◌, ControllerState, going}
 use Rattle.fw_cmp.proofs.Turning.{asking_stays}
 use Rattle.fw_cmp.proofs.agenda.Agenda.turns.Goals as goal
 

@@ -1,6 +1,4 @@
-use Rattle.std.proofs.Common.{sym, subst}
-use Rattle.fw_cmp.specs.Holdings.{CanGoOn}
-use Rattle.fw_cmp.specs.Losses.{Listening}
+use Rattle.fw_cmp.proofs.Common.{sym, subst, CanGoOn, Listening}
 use Rattle.fw_cmp.proofs.controller.Controller.start.Goals as goal
 
 pub returns-clause-goes_on : goal.returns-clause-goes_on

@@ -1,7 +1,4 @@
-use Rattle.std.proofs.Common.{◌≡◌, sym, subst, ap, ◌∙◌}
-use Rattle.fw_cmp.specs.Controllers.{ControllerState, IsStanding}
-use Rattle.fw_cmp.specs.Holdings.{CanGoOn}
-use Rattle.fw_cmp.specs.Losses.{Listening}
+use Rattle.fw_cmp.proofs.Common.{◌≡◌, sym, subst, ap, ◌∙◌, ControllerState, IsStanding, CanGoOn, Listening}
 use Rattle.fw_cmp.proofs.Losses.{break_current}
 use Rattle.fw_cmp.proofs.controller.Controller.start_break.Goals as goal
 

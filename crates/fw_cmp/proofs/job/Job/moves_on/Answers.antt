@@ -1,4 +1,4 @@
-use Rattle.std.proofs.Common.{sym, ◌∙◌}
+use Rattle.fw_cmp.proofs.Common.{sym, ◌∙◌}
 use Rattle.fw_cmp.proofs.Turning.{resumed_stays}
 use Rattle.fw_cmp.proofs.job.Job.moves_on.Goals as goal
 

@@ -1,5 +1,5 @@
-use Rattle.std.proofs.Common.{◌≡◌, ap, sym, subst, ◌∙◌}
-use Rattle.fw_cmp.specs.Works.{IsAsking, asked, shown}
+use Rattle.fw_cmp.proofs.Common.{◌≡◌, ap, sym, subst, ◌∙◌, asked}
+use Rattle.fw_cmp.specs.Works.{IsAsking, shown}
 use Rattle.fw_cmp.proofs.Works.{asking_kept}
 use Rattle.fw_cmp.proofs.work.Work.ask.Goals as goal
 

@@ -1,6 +1,4 @@
-use Rattle.std.proofs.Common.{ap, ◌∙◌}
-use Rattle.fw_cmp.specs.declared.current.Current.{Current}
-use Rattle.fw_cmp.specs.Controllers.{break_runs}
+use Rattle.fw_cmp.proofs.Common.{ap, ◌∙◌, Current, break_runs}
 use Rattle.fw_cmp.proofs.Works.{breaks_kept}
 use Rattle.fw_cmp.proofs.work.Work.breaks.Goals as goal
 

@@ -1,6 +1,6 @@
-use Rattle.std.proofs.Common.{ap, sym, ◌∙◌}
+use Rattle.fw_cmp.proofs.Common.{ap, sym, ◌∙◌, asked}
 use Rattle.std.specs.Prelude.{Bool}
-use Rattle.fw_cmp.specs.Works.{asked, shown}
+use Rattle.fw_cmp.specs.Works.{shown}
 use Rattle.fw_cmp.proofs.Works.{asked_stays}
 use Rattle.fw_cmp.proofs.work.Work.get.Goals as goal
 

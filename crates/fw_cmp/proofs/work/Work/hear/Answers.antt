@@ -1,9 +1,5 @@
-use Rattle.std.proofs.Common.{ap, sym, subst, ◌∙◌}
-use Rattle.std.proofs.lemmas.Bool.{false≢true}
-use Rattle.fw_cmp.specs.declared.current.Current.{Current}
-use Rattle.fw_cmp.specs.Controllers.{IsHeard, IsStanding}
-use Rattle.fw_cmp.specs.Resets.{heard}
-use Rattle.fw_cmp.specs.Works.{CurrentRuns, asked}
+use Rattle.fw_cmp.proofs.Common.{ap, sym, subst, ◌∙◌, false≢true, Current, IsHeard, IsStanding, heard, asked}
+use Rattle.fw_cmp.specs.Works.{CurrentRuns}
 use Rattle.fw_cmp.proofs.Works.{heard_hears, runs_kept, standing_kept}
 use Rattle.fw_cmp.proofs.work.Work.hear.Goals as goal
 

@@ -1,5 +1,5 @@
 use Rattle.fw_cmp.proofs.Works.{heard_unless}
-use Rattle.std.proofs.lemmas.Bool.{false≢true}
+use Rattle.fw_cmp.proofs.Common.{false≢true}
 use Rattle.fw_cmp.proofs.work.Work.new.Goals as goal
 
 pub invariant_of-result-2 : goal.invariant_of-result-2

@@ -1,5 +1,4 @@
-use Rattle.std.proofs.Common.{sym, subst, ◌∙◌}
-use Rattle.fw_cmp.specs.Controllers.{IsHeard}
+use Rattle.fw_cmp.proofs.Common.{sym, subst, ◌∙◌, IsHeard}
 use Rattle.fw_cmp.proofs.Works.{heard_kept}
 use Rattle.fw_cmp.proofs.work.Work.unasked.Goals as goal
 

@@ -1,4 +1,4 @@
-use Rattle.std.proofs.Common.{refl}
+use Rattle.fw_devices.proofs.Common.{refl}
 use Rattle.fw_devices.proofs.ResetLaws.{found_taken}
 use Rattle.fw_devices.proofs.bus.Bus.take_initiator.Goals as goal
 

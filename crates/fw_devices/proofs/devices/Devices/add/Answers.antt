@@ -1,8 +1,5 @@
-use Rattle.std.proofs.Common.{◌≡◌, ◌<◌, ◌+◌, ◌∙◌, ◌++◌, ◌∷◌, [], length, arith, rules, ap, sym, subst}
+use Rattle.fw_devices.proofs.Common.{◌≡◌, ◌<◌, ◌+◌, ◌∙◌, ◌++◌, ◌∷◌, [], length, arith, rules, ap, sym, subst, length_push, first_state, Topology, Made}
 use Rattle.std.proofs.lemmas.Grind.{common_steps}
-use Rattle.std.proofs.lemmas.List.{length_push}
-use Rattle.fw_node.specs.State.{first_state}
-use Rattle.fw_tree.specs.Topology.{Topology, Made}
 use Rattle.fw_devices.specs.Network.{facts_of}
 use Rattle.fw_devices.proofs.NetworkLaws.{network_more}
 use Rattle.fw_devices.proofs.devices.Devices.add.Goals as goal
@@ -17,7 +14,8 @@ invariant_of-self c =
     rw (topology, names, nodes) (record {
       network = network_more _ c.args.name.now c.args.kind c.args.ports c.args.speed c.self.invariant.network (subst P topology c.add.ensures.made);
       few = let room : length c.self.inside.names < 63 = search rules in let more = length_push c.self.inside.names c.args.name.now in omega arith;
-      same = length_push c.self.inside.nodes.items (first_state c.args.kind (length c.self.inside.names) c.args.speed c.self.inside.withhold) ∙ ap (λ k. k + 1) c.self.invariant.same ∙ sym (length_push c.self.inside.names c.args.name.now);
+      same = length_push c.self.inside.nodes.items (first_state c.args.kind (length c.self.inside.names) c.args.speed c.self.inside.withhold) ∙ ap (λ k. k + 1) c.self.invariant.same
+          ∙ sym (length_push c.self.inside.names c.args.name.now);
       nodes_room = omega (arith, c.push-2.ensures.capacity);
       found = λ now. absurd (let z : ⊥ = cc in z);
     })

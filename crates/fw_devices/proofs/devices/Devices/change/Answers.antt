@@ -1,11 +1,6 @@
-use Rattle.std.proofs.Common.{◌≡◌, ◌∙◌, List, ap, sym, subst, length, refl, arith}
-use Rattle.std.specs.Vec.{with_items, vec_capacity}
+use Rattle.fw_devices.proofs.Common.{◌≡◌, ◌∙◌, List, ap, sym, subst, length, refl, arith, with_items, vec_capacity, with_items_is, DeviceKind, NetworkFrame, IsFound, Network, kinds_of}
 use Rattle.std.proofs.lemmas.Bool.{and_parts}
-use Rattle.std.proofs.lemmas.List.{with_items_is}
-use Rattle.fw_base.specs.declared.device.DeviceKind.{DeviceKind}
-use Rattle.fw_devices.specs.Frames.{NetworkFrame, frame_of}
-use Rattle.fw_devices.specs.Kept.{IsFound}
-use Rattle.fw_devices.specs.Network.{Network, kinds_of}
+use Rattle.fw_devices.specs.Frames.{frame_of}
 use Rattle.fw_devices.proofs.FrameLaws.{given_back, kept_of, same_count}
 use Rattle.fw_devices.proofs.devices.Devices.change.Goals as goal
 
@@ -15,7 +10,15 @@ invariant_of-self c =
     let of = c.requires.kept.1 in
     let inside = c.self.inside in
     let nodes = c.change_nodes-same.new.nodes in
-    let old : Network = record { topology = inside.cabling; names = inside.names; nodes = inside.nodes.items; epoch = inside.bus.entry.epoch; manager = inside.bus.manager; latest = inside.bus.entry; withheld = inside.withhold } in
+    let old : Network = record {
+      topology = inside.cabling;
+      names = inside.names;
+      nodes = inside.nodes.items;
+      epoch = inside.bus.entry.epoch;
+      manager = inside.bus.manager;
+      latest = inside.bus.entry;
+      withheld = inside.withhold;
+    } in
     let framed : frame_of old ≡ frame_of c.args.self.now = ap frame_of c.self.view_is in
     let size : length nodes ≡ length inside.nodes.items =
     same_count (frame_of c.args.self.now) c.args.kept.now c.args.numbers.now n of nodes c.change_nodes-same.ensures.nodes

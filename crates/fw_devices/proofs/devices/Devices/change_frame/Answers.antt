@@ -1,12 +1,7 @@
-use Rattle.std.proofs.Common.{◌≡◌, ◌∙◌, List, ap, sym, subst, length, refl, arith}
-use Rattle.std.specs.Vec.{with_items, vec_capacity}
+use Rattle.fw_devices.proofs.Common.{◌≡◌, ◌∙◌, List, ap, sym, subst, length, refl, arith, with_items, vec_capacity, length-map, with_items_is, DeviceKind, NetworkFrame, IsFound, Network, kinds_of}
+use Rattle.fw_devices.proofs.Common.{node_at}
 use Rattle.std.proofs.lemmas.Bool.{and_parts}
-use Rattle.std.proofs.lemmas.List.{length-map, with_items_is}
-use Rattle.fw_base.specs.declared.device.DeviceKind.{DeviceKind}
-use Rattle.fw_entry.specs.declared.entry.ResetEntry.{ResetEntry}
-use Rattle.fw_devices.specs.Frames.{NetworkFrame}
-use Rattle.fw_devices.specs.Kept.{IsFound}
-use Rattle.fw_devices.specs.Network.{Network, kinds_of, node_at}
+use Rattle.fw_log_entry.specs.declared.entry.ResetEntry.{ResetEntry}
 use Rattle.fw_devices.proofs.FrameLaws.{given_back, kept_of}
 use Rattle.fw_devices.proofs.devices.Devices.change_frame.Goals as goal
 

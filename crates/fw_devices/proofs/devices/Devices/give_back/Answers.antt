@@ -1,8 +1,6 @@
-use Rattle.std.proofs.Common.{◌≡◌, ◌∙◌, sym, subst, false}
-use Rattle.std.specs.Vec.{vec_capacity}
+use Rattle.fw_devices.proofs.Common.{◌≡◌, ◌∙◌, sym, subst, false, vec_capacity, Network, NetworkFrame}
 use Rattle.std.proofs.lemmas.Bool.{false≢true}
-use Rattle.fw_devices.specs.Network.{Network}
-use Rattle.fw_devices.specs.Frames.{NetworkFrame, IsOf}
+use Rattle.fw_devices.specs.Frames.{IsOf}
 use Rattle.fw_devices.specs.Kept.{IsKept}
 use Rattle.fw_devices.proofs.FrameLaws.{few_numbers, given_back}
 use Rattle.fw_devices.proofs.devices.Devices.give_back.Goals as goal

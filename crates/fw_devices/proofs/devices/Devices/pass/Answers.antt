@@ -1,4 +1,4 @@
-use Rattle.std.proofs.Common.{◌<◌, length, rules, sym, subst}
+use Rattle.fw_devices.proofs.Common.{◌<◌, length, rules, sym, subst}
 use Rattle.fw_devices.proofs.DeckLaws.{same_moved, kept_same}
 use Rattle.fw_devices.proofs.NetworkLaws.{IsSameDevice, same_set}
 use Rattle.fw_devices.proofs.devices.Devices.pass.Goals as goal
@@ -6,4 +6,5 @@ use Rattle.fw_devices.proofs.devices.Devices.pass.Goals as goal
 pub invariant_of-self : goal.invariant_of-self
 invariant_of-self c =
     let low : c.from.result < length c.self.inside.nodes.items = search rules in
-    kept_same _ _ _ _ _ c.self.invariant (same_set c.self.inside.nodes.items c.from.result c.index_mut.result.now c.pass.new.node low c.index_mut.ensures.value (subst (IsSameDevice c.index_mut.result.now) (sym c.pass.ensures.moved) (same_moved c.args.cycles c.index_mut.result.now)))
+    kept_same _ _ _ _ _ c.self.invariant (same_set c.self.inside.nodes.items c.from.result c.index_mut.result.now c.pass.new.node low c.index_mut.ensures.value
+    (subst (IsSameDevice c.index_mut.result.now) (sym c.pass.ensures.moved) (same_moved c.args.cycles c.index_mut.result.now)))

@@ -1,5 +1,4 @@
-use Rattle.std.proofs.Common.{◌<◌, ◌∙◌, length, rules, refl, sym, subst}
-use Rattle.fw_node.specs.State.{NodeState}
+use Rattle.fw_devices.proofs.Common.{◌<◌, ◌∙◌, length, rules, refl, sym, subst, NodeState}
 use Rattle.fw_node.specs.Packets.{request_in}
 use Rattle.fw_devices.proofs.NetworkLaws.{IsSameDevice, same_after, same_set, network_kept}
 use Rattle.fw_devices.proofs.ResetLaws.{found_same}
@@ -11,7 +10,8 @@ invariant_of-self c =
     let asked = c.requires.request in
     let P : NodeState → Type 0 = IsSameDevice c.index_mut.result.now in
     let after = c.serve.ensures.registers asked.packet asked.spells in
-    let same = same_set c.self.inside.nodes.items c.from.result c.index_mut.result.now c.serve.new.self low c.index_mut.ensures.value (subst P (sym after) (same_after (request_in asked.packet) c.index_mut.result.now)) in
+    let same = same_set c.self.inside.nodes.items c.from.result c.index_mut.result.now c.serve.new.self low c.index_mut.ensures.value
+    (subst P (sym after) (same_after (request_in asked.packet) c.index_mut.result.now)) in
     record {
       network = network_kept _ _ c.self.invariant.network refl refl refl same;
       few = c.self.invariant.few;

@@ -1,4 +1,4 @@
-use Rattle.std.proofs.Common.{ℕ, List, Option, subst, sym, ◌∙◌}
+use Rattle.fw_devices.proofs.Common.{ℕ, List, Option, subst, sym, ◌∙◌}
 use Rattle.fw_devices.specs.Streams.{AreTalkers}
 use Rattle.fw_devices.proofs.TalkLaws.{talkers_none, talkers_skip, talkers_more, talkers_all}
 use Rattle.fw_devices.proofs.devices.Devices.talkers.Goals as goal

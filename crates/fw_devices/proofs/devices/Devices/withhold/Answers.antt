@@ -1,5 +1,4 @@
-use Rattle.std.proofs.Common.{◌≡◌, [], sym, subst}
-use Rattle.fw_devices.specs.Network.{Network}
+use Rattle.fw_devices.proofs.Common.{◌≡◌, [], sym, subst, Network}
 use Rattle.fw_devices.proofs.NetworkLaws.{network_withheld}
 use Rattle.fw_devices.proofs.devices.Devices.withhold.Goals as goal
 

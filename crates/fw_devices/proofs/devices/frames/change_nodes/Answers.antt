@@ -1,10 +1,6 @@
-use Rattle.std.proofs.Common.{◌≡◌, ◌∙◌, ◌<◌, ℕ, length, ap, sym, false, arith}
+use Rattle.fw_devices.proofs.Common.{◌≡◌, ◌∙◌, ◌<◌, ℕ, length, ap, sym, false, arith, DeviceKind, Relay, NodeState, first_state, kinds_of}
 use Rattle.std.proofs.lemmas.Bool.{and_parts}
 use Rattle.std.proofs.lemmas.List.{get_or_read}
-use Rattle.fw_base.specs.declared.device.DeviceKind.{DeviceKind}
-use Rattle.fw_base.specs.declared.device.DeviceKind.TheVariants.{Relay}
-use Rattle.fw_node.specs.State.{NodeState, first_state}
-use Rattle.fw_devices.specs.Network.{kinds_of}
 use Rattle.fw_devices.proofs.ChangeLaws.{all_changed, new_number, same_number}
 use Rattle.fw_devices.proofs.FrameLaws.{kinds_set}
 use Rattle.fw_devices.proofs.devices.frames.change_nodes.Goals as goal

@@ -1,8 +1,6 @@
-use Rattle.std.proofs.Common.{◌≡◌, false, IsTrue}
-use Rattle.fw_base.specs.declared.device.DeviceKind.TheVariants.{Relay}
-use Rattle.fw_node.specs.State.{first_state}
+use Rattle.fw_devices.proofs.Common.{◌≡◌, false, Relay, first_state, kinds_of}
+use Rattle.std.proofs.Common.{IsTrue}
 use Rattle.fw_devices.specs.Frames.{nodes_at}
-use Rattle.fw_devices.specs.Network.{kinds_of}
 use Rattle.fw_devices.proofs.ChangeLaws.{IsChanged}
 use Rattle.fw_devices.proofs.devices.frames.change_nodes.Given as goal
 

@@ -1,4 +1,5 @@
-use Rattle.std.proofs.Common.{◌≡◌, ◌≤◌, vec_capacity, take}
+use Rattle.fw_devices.proofs.Common.{◌≡◌, ◌≤◌, take}
+use Rattle.std.proofs.Common.{vec_capacity}
 use Rattle.fw_devices.specs.Frames.{nodes_at}
 use Rattle.fw_devices.proofs.devices.frames.copy_nodes.Given as goal
 

@@ -1,5 +1,5 @@
-use Rattle.std.proofs.Common.{◌≡◌, ◌++◌, map, take, drop}
-use Rattle.fw_node.specs.State.{after_second}
+use Rattle.fw_devices.proofs.Common.{◌≡◌, ◌++◌, map, take, after_second}
+use Rattle.std.proofs.Common.{drop}
 use Rattle.fw_devices.proofs.devices.requests.end_second.Given as goal
 
 abbrev pub invariant-loop-node : goal.invariant-loop-node

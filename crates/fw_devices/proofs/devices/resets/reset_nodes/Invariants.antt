@@ -1,6 +1,4 @@
-use Rattle.std.proofs.Common.{◌≡◌, ◌<◌, ◌≤◌, ℕ}
-use Rattle.fw_tree.specs.Numbers.{number_at}
-use Rattle.fw_devices.specs.Network.{node_at}
+use Rattle.fw_devices.proofs.Common.{◌≡◌, ◌<◌, ◌≤◌, ℕ, number_at, node_at}
 use Rattle.fw_devices.specs.Resets.{numbered}
 use Rattle.fw_devices.proofs.devices.resets.reset_nodes.Given as goal
 

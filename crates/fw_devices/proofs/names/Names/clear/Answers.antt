@@ -1,4 +1,4 @@
-use Rattle.std.proofs.Common.{arith}
+use Rattle.fw_devices.proofs.Common.{arith}
 use Rattle.fw_devices.proofs.names.Names.clear.Goals as goal
 
 pub invariant_of-self : goal.invariant_of-self

@@ -1,4 +1,4 @@
-use Rattle.std.proofs.Common.{◌≡◌, take}
+use Rattle.fw_devices.proofs.Common.{◌≡◌, take}
 use Rattle.fw_devices.proofs.names.Names.copy_from.Given as goal
 
 abbrev pub invariant-loop-name : goal.invariant-loop-name

@@ -1,7 +1,6 @@
-use Rattle.std.proofs.Common.{◌≡◌, ◌<◌, ◌∙◌, ℕ, [], length, get_or, true, arith, sym, ap, subst}
+use Rattle.fw_devices.proofs.Common.{◌≡◌, ◌<◌, ◌∙◌, ℕ, [], length, get_or, true, arith, sym, ap, subst, same_bytes}
 use Rattle.std.specs.List.{position_or_len}
 use Rattle.std.proofs.lemmas.List.{get_or_default}
-use Rattle.fw_devices.specs.Network.{same_bytes}
 use Rattle.fw_devices.proofs.NameLaws.{found}
 use Rattle.fw_devices.proofs.names.Names.find.Goals as goal
 

@@ -1,4 +1,4 @@
-use Rattle.std.proofs.Common.{◌≡◌, take}
+use Rattle.fw_devices.proofs.Common.{◌≡◌, take}
 use Rattle.fw_devices.proofs.names.Names.is_same.Given as goal
 
 abbrev pub invariant-loop-n : goal.invariant-loop-n

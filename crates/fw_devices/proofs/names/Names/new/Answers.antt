@@ -1,4 +1,4 @@
-use Rattle.std.proofs.Common.{arith}
+use Rattle.fw_devices.proofs.Common.{arith}
 use Rattle.fw_devices.proofs.names.Names.new.Goals as goal
 
 pub invariant_of-result : goal.invariant_of-result

@@ -1,4 +1,4 @@
-use Rattle.std.proofs.Common.{refl, arith}
+use Rattle.fw_devices.proofs.Common.{refl, arith}
 use Rattle.fw_devices.proofs.TalkLaws.{none_silent}
 use Rattle.fw_devices.proofs.talkers.Talkers.new.Goals as goal
 

@@ -1,7 +1,7 @@
-use Rattle.std.proofs.Common.{ℕ, ◌≡◌, List, Bool, true, false, not, if◌then◌else◌, refl, sym, ap, subst, ◌∙◌, arith}
-use Rattle.fw_endings.specs.declared.rows.Row.{Row}
-use Rattle.fw_run.specs.Desks.{DeskRelations}
-use Rattle.fw_explored.proofs.TryLaws.{ends_so, placed_still}
+use Rattle.fw_explore.proofs.Common.{ℕ, ◌≡◌, List, Bool, true, false, refl, sym, ap, subst, ◌∙◌, arith, DeskRelations}
+use Rattle.std.proofs.Common.{not, if◌then◌else◌}
+use Rattle.fw_explore_endings.specs.declared.rows.Row.{Row}
+use Rattle.fw_explore_meaning.proofs.TryLaws.{ends_so, placed_still}
 use Rattle.fw_explore.proofs.explorer.Explorer.end.Given as given
 use Rattle.fw_explore.proofs.explorer.Explorer.end.Goals as goal
 

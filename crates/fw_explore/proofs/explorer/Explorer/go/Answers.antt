@@ -1,10 +1,7 @@
-use Rattle.std.proofs.Common.{ℕ, zero, suc, ◌≡◌, List, [], ◌∷◌, length, refl, sym, ap, subst, ◌∙◌, arith}
-use Rattle.fw_levels.specs.Tables.{Entry}
-use Rattle.fw_run.specs.Desks.{DeskRelations}
-use Rattle.fw_explored.specs.Pasts.{LeadsTo}
-use Rattle.fw_explored.specs.Steps.{Had}
-use Rattle.fw_explored.specs.Walking.{ArePlaced}
-use Rattle.fw_explored.proofs.GoLaws.{other_longest, first_level, next_level, whole_level}
+use Rattle.fw_explore.proofs.Common.{ℕ, ◌≡◌, List, [], ◌∷◌, length, refl, sym, ap, subst, ◌∙◌, arith, Entry, DeskRelations, Had, ArePlaced}
+use Rattle.std.proofs.Common.{zero, suc}
+use Rattle.fw_explore_meaning.specs.Pasts.{LeadsTo}
+use Rattle.fw_explore_meaning.proofs.GoLaws.{other_longest, first_level, next_level, whole_level}
 use Rattle.fw_explore.proofs.explorer.Explorer.go.Given as given
 use Rattle.fw_explore.proofs.explorer.Explorer.go.Goals as goal
 

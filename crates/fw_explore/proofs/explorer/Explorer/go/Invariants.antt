@@ -1,9 +1,6 @@
 -- draft
-use Rattle.std.proofs.Common.{ℕ, ◌≡◌, ◌<◌, List, [], length}
-use Rattle.fw_command.specs.declared.command.Command.{Command}
-use Rattle.fw_run.specs.Desks.{IsFunction}
-use Rattle.fw_explored.specs.Steps.{Had}
-use Rattle.fw_explored.specs.Walking.{ArePlaced, IsAtLevel, IsGoing}
+use Rattle.fw_explore.proofs.Common.{ℕ, ◌≡◌, ◌<◌, List, [], length, Command, IsFunction, Had, ArePlaced, IsGoing}
+use Rattle.fw_explore_meaning.specs.Walking.{IsAtLevel}
 use Rattle.fw_explore.proofs.explorer.Explorer.go.Given as goal
 
 abbrev pub invariant-loop-moves : goal.invariant-loop-moves

@@ -1,12 +1,8 @@
-use Rattle.std.proofs.Common.{ℕ, ◌≡◌, ◌<◌, List, true, false, length, get_or, refl, sym, ap, subst, ◌∙◌, arith}
-use Rattle.fw_levels.specs.Tables.{Entry}
-use Rattle.fw_parts.specs.Words.{words_of}
-use Rattle.fw_run.specs.Desks.{DeskRelations}
-use Rattle.fw_explored.specs.Steps.{Had}
-use Rattle.fw_explored.specs.Walking.{ArePlaced, IsMoving}
-use Rattle.fw_explored.proofs.MoveLaws.{all_wider, placed_read}
-use Rattle.fw_explored.proofs.RestLaws.{leaves}
-use Rattle.fw_explored.proofs.TryLaws.{no_entry, entry_still, moved_none, place_wider}
+use Rattle.fw_explore.proofs.Common.{ℕ, ◌≡◌, ◌<◌, List, true, false, length, get_or, refl, sym, ap, subst, ◌∙◌, arith, Entry, words_of, DeskRelations, Had, ArePlaced}
+use Rattle.fw_explore_meaning.specs.Walking.{IsMoving}
+use Rattle.fw_explore_meaning.proofs.MoveLaws.{all_wider, placed_read}
+use Rattle.fw_explore_meaning.proofs.RestLaws.{leaves}
+use Rattle.fw_explore_meaning.proofs.TryLaws.{no_entry, entry_still, moved_none, place_wider}
 use Rattle.fw_explore.proofs.explorer.Explorer.go_on.Given as given
 use Rattle.fw_explore.proofs.explorer.Explorer.go_on.Goals as goal
 
@@ -32,7 +28,8 @@ returns-then-branch-clause-walks g c = λ script n only going.
     leaves D script x w.pasts v.pasts (Kept w.kept.places) (Kept v.kept.places) said.wider e.key c.read_key_words.new.out.items (sym (c.in_ok-read_key_words.ensures
     ∙ ap words_of (c.key.ensures no_entry))) n c.args.place now.levels now.rows e
     (subst (λ l. c.args.place < length l) (sym said.level) c.requires.place) (entry_still self.levels.level now.levels.level c.args.place no_entry c.requires.place said.level) refl
-    (subst (λ b. IsMoving D script x w.pasts v.pasts (Kept w.kept.places) (Kept v.kept.places) n c.args.place (length x.movers.items) e.key b now.levels now.rows) c.if-branch.true (said.walks script n no_entry
+    (subst (λ b. IsMoving D script x w.pasts v.pasts (Kept w.kept.places) (Kept v.kept.places) n c.args.place (length x.movers.items) e.key b now.levels now.rows) c.if-branch.true
+    (said.walks script n no_entry
     only going))
 
 pub returns-then-branch-clause-placed : goal.returns-then-branch-clause-placed
@@ -68,7 +65,8 @@ returns-clause-walks g c = λ script n only going.
     let said = c.in_ok-move_all.ensures in
     let key = (get_or self.levels.level c.args.place no_entry).key in
     c.end.ensures.walks script n no_entry only
-    (subst (λ l. IsMoving D script x v.pasts v.pasts (Kept v.kept.places) (Kept v.kept.places) n c.args.place (length x.movers.items) (get_or l c.args.place no_entry).key false now.levels now.rows) (sym
+    (subst (λ l. IsMoving D script x v.pasts v.pasts (Kept v.kept.places) (Kept v.kept.places) n c.args.place (length x.movers.items) (get_or l c.args.place no_entry).key false now.levels now.rows)
+    (sym
     said.level)
     (moved_none Kept D script x w.pasts v.pasts w.kept.places v.kept.places n c.args.place (length x.movers.items) key now.levels now.rows (said.still c.if-branch.false)
     (subst (λ b. IsMoving D script x w.pasts v.pasts (Kept w.kept.places) (Kept v.kept.places) n c.args.place (length x.movers.items) key b now.levels now.rows) c.if-branch.false

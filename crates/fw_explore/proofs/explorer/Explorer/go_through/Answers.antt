@@ -1,9 +1,6 @@
-use Rattle.std.proofs.Common.{ℕ, ◌≡◌, List, refl, sym, ap, subst, ◌∙◌, length, arith}
+use Rattle.fw_explore.proofs.Common.{ℕ, ◌≡◌, List, refl, sym, ap, subst, ◌∙◌, length, arith, Entry, DeskRelations, Had, ArePlaced, IsGoing}
 use Rattle.std.proofs.lemmas.List.Elements.{All-nil}
-use Rattle.fw_levels.specs.Tables.{Entry}
-use Rattle.fw_run.specs.Desks.{DeskRelations}
-use Rattle.fw_explored.specs.Steps.{Had, IsPlacedKey}
-use Rattle.fw_explored.specs.Walking.{ArePlaced, IsGoing}
+use Rattle.fw_explore_meaning.specs.Steps.{IsPlacedKey}
 use Rattle.fw_explore.proofs.explorer.Explorer.go_through.Given as given
 use Rattle.fw_explore.proofs.explorer.Explorer.go_through.Goals as goal
 

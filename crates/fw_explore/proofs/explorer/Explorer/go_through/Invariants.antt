@@ -1,8 +1,4 @@
-use Rattle.std.proofs.Common.{ℕ, ◌≡◌, List}
-use Rattle.fw_command.specs.declared.command.Command.{Command}
-use Rattle.fw_run.specs.Desks.{IsFunction}
-use Rattle.fw_explored.specs.Steps.{Had}
-use Rattle.fw_explored.specs.Walking.{ArePlaced, IsGoing}
+use Rattle.fw_explore.proofs.Common.{ℕ, ◌≡◌, List, Command, IsFunction, Had, ArePlaced, IsGoing}
 use Rattle.fw_explore.proofs.explorer.Explorer.go_through.Given as goal
 
 abbrev pub invariant-loop-place : goal.invariant-loop-place

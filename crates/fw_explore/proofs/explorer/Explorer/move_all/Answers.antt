@@ -1,11 +1,10 @@
-use Rattle.std.proofs.Common.{ℕ, ◌≡◌, ◌∷◌, [], ◌++◌, List, Bool, true, false, get_or, length, refl, sym, ap, subst, ◌∙◌, arith}
-use Rattle.fw_command.specs.declared.command.Command.{Command as Line}
-use Rattle.fw_levels.specs.Tables.{Entry, IsReached}
-use Rattle.fw_run.specs.Desks.{DeskRelations, IsFunction}
-use Rattle.fw_explored.specs.Pasts.{LeadsAt}
-use Rattle.fw_explored.specs.Steps.{Had, Steps}
-use Rattle.fw_explored.specs.Walking.{IsMoving}
-use Rattle.fw_explored.proofs.TryLaws.{IsTrying, at_still, place_wider, trying_first, trying_on, trying_by}
+use Rattle.fw_explore.proofs.Common.{ℕ, ◌≡◌, ◌∷◌, [], ◌++◌, List, Bool, true, false, get_or, length, refl, sym, ap, subst, ◌∙◌, arith, Entry, DeskRelations, IsFunction, Had}
+use Rattle.fw_script_command.specs.declared.command.Command.{Command as Line}
+use Rattle.fw_explore_levels.specs.Tables.{IsReached}
+use Rattle.fw_explore_meaning.specs.Pasts.{LeadsAt}
+use Rattle.fw_explore_meaning.specs.Steps.{Steps}
+use Rattle.fw_explore_meaning.specs.Walking.{IsMoving}
+use Rattle.fw_explore_meaning.proofs.TryLaws.{IsTrying, at_still, place_wider, trying_first, trying_on, trying_by}
 use Rattle.fw_explore.proofs.explorer.Explorer.move_all.Given as given
 use Rattle.fw_explore.proofs.explorer.Explorer.move_all.Goals as goal
 use Rattle.fw_explore.proofs.explorer.Explorer.move_all.Goals.{then-branch+in_ok-reach, else-branch}
@@ -43,7 +42,8 @@ loop-mover-preserved g c =
     → LeadsAt D script x (Had now.walker.pasts) (g.P.Keeper.Kept now.walker.kept.places) w self.walker.here.items
     → Steps D script x (Had next.pasts) (g.P.Keeper.Kept next.kept.places) w c.loop-mover.mover to b =
     λ b e script w only l. subst (λ b. Steps D script x (Had next.pasts) (g.P.Keeper.Kept next.kept.places) w c.loop-mover.mover to b) e
-    (said.steps script w only (at_still g.P.Keeper.Kept D script x now.walker.pasts now.walker.pasts now.walker.kept.places now.walker.kept.places self.walker.here.items now.walker.here.items w refl refl same
+    (said.steps script w only
+    (at_still g.P.Keeper.Kept D script x now.walker.pasts now.walker.pasts now.walker.kept.places now.walker.kept.places self.walker.here.items now.walker.here.items w refl refl same
     l)) in
     elim c.if-branch.branch [
       | then-branch+in_ok-reach w ↦ rw (w.self-is, w.moved-is) (record {
@@ -73,6 +73,7 @@ returns-clause-walks g c = λ script n d only going.
     let self = c.args.self.now in
     let now = c.loop-mover.self in
     let all : c.loop-mover.mover ≡ length x.movers.items = omega arith in
-    subst (λ p. IsMoving D script x self.walker.pasts now.walker.pasts (g.P.Keeper.Kept self.walker.kept.places) (g.P.Keeper.Kept now.walker.kept.places) n c.args.place p (get_or self.levels.level c.args.place
+    subst (λ p. IsMoving D script x self.walker.pasts now.walker.pasts (g.P.Keeper.Kept self.walker.kept.places) (g.P.Keeper.Kept now.walker.kept.places) n c.args.place p
+    (get_or self.levels.level c.args.place
     d).key
     c.loop-mover.moved now.levels now.rows) all (c.loop-mover.invariant.trying.walks script n d only going)

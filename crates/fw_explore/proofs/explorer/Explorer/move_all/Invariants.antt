@@ -1,5 +1,5 @@
-use Rattle.std.proofs.Common.{◌≡◌}
-use Rattle.fw_explored.proofs.TryLaws.{IsTrying}
+use Rattle.fw_explore.proofs.Common.{◌≡◌}
+use Rattle.fw_explore_meaning.proofs.TryLaws.{IsTrying}
 use Rattle.fw_explore.proofs.explorer.Explorer.move_all.Given as goal
 
 abbrev pub invariant-loop-mover : goal.invariant-loop-mover

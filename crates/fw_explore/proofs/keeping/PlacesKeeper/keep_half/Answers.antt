@@ -1,9 +1,9 @@
-use Rattle.std.proofs.Common.{Ok, Err, OnOk, sym, subst}
+use Rattle.fw_explore.proofs.Common.{Ok, sym, subst, Machine}
+use Rattle.std.proofs.Common.{Err, OnOk}
 use Rattle.std.specs.declared.result.Result.{Result}
-use Rattle.fw_machine.specs.declared.machine.Machine.{Machine}
 use Rattle.fw_bus.specs.Changes.{IsHalfFrom}
-use Rattle.fw_places.specs.Places.{IsPlace}
-use Rattle.fw_places.proofs.PlaceLaws.{place_stays}
+use Rattle.fw_bus_places.specs.Places.{IsPlace}
+use Rattle.fw_bus_places.proofs.PlaceLaws.{place_stays}
 use Rattle.fw_explore.proofs.keeping.PlacesKeeper.keep_half.Goals as goal
 
 pub keep_half-requires : goal.keep_half-requires
@@ -11,7 +11,7 @@ keep_half-requires c =
     let m = c.requires.now.0 in
     record { now = (m, c.requires.now.1.place, subst (IsHalfFrom c.args.device c.args.asks m) (sym c.machine.ensures) c.requires.now.2) }
 
--- what follows where a call was Ok
+-- what follows if a call was Ok
 so_then : {T E : Type 0} (r : Result T E) (P Q : Type 0) → (P → Q) → OnOk r P → OnOk r Q
 so_then (Ok t) P Q f h = f h
 so_then (Err e) P Q f h = tt

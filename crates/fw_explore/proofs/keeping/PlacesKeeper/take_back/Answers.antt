@@ -1,4 +1,4 @@
-use Rattle.std.proofs.Common.{sym, subst}
+use Rattle.fw_explore.proofs.Common.{sym, subst}
 use Rattle.fw_explore.specs.Keeping.{IsKeptIn}
 use Rattle.fw_explore.proofs.keeping.PlacesKeeper.take_back.Goals as goal
 

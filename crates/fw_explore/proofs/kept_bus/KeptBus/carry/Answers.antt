@@ -1,4 +1,4 @@
-use Rattle.std.proofs.Common.{Some, sym, ap, ◌∙◌}
+use Rattle.fw_explore.proofs.Common.{Some, sym, ap, ◌∙◌}
 use Rattle.fw_explore.proofs.SinceLaws.{since_then}
 use Rattle.fw_explore.proofs.kept_bus.KeptBus.carry.Goals as goal
 

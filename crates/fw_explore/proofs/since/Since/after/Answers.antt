@@ -1,6 +1,5 @@
-use Rattle.std.proofs.Common.{sym, subst}
+use Rattle.fw_explore.proofs.Common.{sym, subst, Since}
 use Rattle.fw_explore.specs.KeptBuses.{Follows}
-use Rattle.fw_explore.specs.declared.since.Since.{Since}
 use Rattle.fw_explore.proofs.since.Since.after.Goals as goal
 
 pub returns-in-Nothing : goal.returns-in-Nothing

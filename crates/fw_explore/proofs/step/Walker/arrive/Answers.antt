@@ -1,8 +1,7 @@
-use Rattle.std.proofs.Common.{ℕ, ◌≡◌, List, sym, ap, subst, ◌∙◌, arith}
+use Rattle.fw_explore.proofs.Common.{ℕ, ◌≡◌, List, sym, ap, subst, ◌∙◌, arith, Machine, Had}
 use Rattle.std.proofs.lemmas.List.{get_or_read}
-use Rattle.fw_machine.specs.declared.machine.Machine.{Machine}
-use Rattle.fw_explored.specs.Steps.{Had, IsArrived, IsPlacedKey, IsWiderBy, half_after, half_in}
-use Rattle.fw_explored.proofs.ArriveLaws.{arrived, placed, wider}
+use Rattle.fw_explore_meaning.specs.Steps.{IsArrived, IsPlacedKey, IsWiderBy, half_after, half_in}
+use Rattle.fw_explore_meaning.proofs.ArriveLaws.{arrived, placed, wider}
 use Rattle.fw_explore.specs.KeptBuses.{Keeping}
 use Rattle.fw_explore.proofs.Numbers.{had_here, kept_as, two_numbers}
 use Rattle.fw_explore.proofs.step.Walker.arrive.Goals as goal

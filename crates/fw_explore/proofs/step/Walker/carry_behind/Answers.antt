@@ -1,10 +1,7 @@
-use Rattle.std.proofs.Common.{refl, sym, ap, subst, ◌∙◌}
+use Rattle.fw_explore.proofs.Common.{refl, sym, ap, subst, ◌∙◌, DeskRelations, Line, History}
 use Rattle.std.proofs.lemmas.List.{drop_all}
-use Rattle.fw_run.specs.Desks.{DeskRelations}
 use Rattle.fw_bus.specs.Buses.{IsCommand}
-use Rattle.fw_movers.specs.declared.mover.Line.{Line}
-use Rattle.fw_told.specs.Histories.{History}
-use Rattle.fw_explored.proofs.BehindLines.{midway_first, midway_last}
+use Rattle.fw_explore_meaning.proofs.BehindLines.{midway_first, midway_last}
 use Rattle.fw_explore.proofs.BehindForms.{line_carried, line_refused}
 use Rattle.fw_explore.proofs.step.Walker.carry_behind.Given as given
 use Rattle.fw_explore.proofs.step.Walker.carry_behind.Goals as goal

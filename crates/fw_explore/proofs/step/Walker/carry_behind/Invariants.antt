@@ -1,11 +1,7 @@
 -- draft
-use Rattle.std.proofs.Common.{◌≡◌, List, IsFalse}
-use Rattle.fw_entry.specs.declared.entry.Timed.{Timed}
-use Rattle.fw_command.specs.declared.command.Command.{Command}
-use Rattle.fw_run.specs.State.{State}
-use Rattle.fw_bus.specs.Buses.{StandsFor}
-use Rattle.fw_explored.specs.Moves.{Behind}
-use Rattle.fw_explored.proofs.BehindLines.{Midway}
+use Rattle.fw_explore.proofs.Common.{◌≡◌, List, IsFalse, Timed, Command, State, StandsFor}
+use Rattle.fw_explore_meaning.specs.Moves.{Behind}
+use Rattle.fw_explore_meaning.proofs.BehindLines.{Midway}
 use Rattle.fw_explore.proofs.step.Walker.carry_behind.Given as goal
 
 abbrev pub invariant-loop-line : goal.invariant-loop-line

@@ -1,11 +1,9 @@
-use Rattle.std.proofs.Common.{ℕ, List, ◌++◌, length, arith, sym, ap, subst, ◌∙◌}
+use Rattle.fw_explore.proofs.Common.{ℕ, List, ◌++◌, length, arith, sym, ap, subst, ◌∙◌, DeskRelations, Line}
 use Rattle.std.specs.List.{All}
-use Rattle.fw_run.specs.Desks.{DeskRelations}
 use Rattle.fw_bus.specs.Buses.{IsCommand}
-use Rattle.fw_movers.specs.declared.mover.Line.{Line}
-use Rattle.fw_explored.specs.Moves.{commands_of}
-use Rattle.fw_told.specs.Sayings.{said_all, unmarked_from}
-use Rattle.fw_explored.proofs.EndingLaws.{finished}
+use Rattle.fw_explore_meaning.specs.Moves.{commands_of}
+use Rattle.fw_explore_told.specs.Sayings.{said_all, unmarked_from}
+use Rattle.fw_explore_meaning.proofs.EndingLaws.{finished}
 use Rattle.fw_explore.proofs.BehindForms.{carried_from}
 use Rattle.fw_explore.proofs.Numbers.{had_led, kept_at, kept_led, machine_kept, two_numbers}
 use Rattle.fw_explore.proofs.step.Walker.finish.Given as given

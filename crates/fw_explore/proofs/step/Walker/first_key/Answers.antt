@@ -1,7 +1,6 @@
-use Rattle.std.proofs.Common.{ℕ, ◌≡◌, List, [], ◌∷◌, refl, sym, ap, subst, ◌∙◌}
-use Rattle.fw_told.specs.Histories.{first_history}
-use Rattle.fw_explored.specs.Steps.{Had}
-use Rattle.fw_explored.proofs.ArriveLaws.{had_kept}
+use Rattle.fw_explore.proofs.Common.{ℕ, ◌≡◌, List, [], ◌∷◌, refl, sym, ap, subst, ◌∙◌, Had}
+use Rattle.fw_explore_told.specs.Histories.{first_history}
+use Rattle.fw_explore_meaning.proofs.ArriveLaws.{had_kept}
 use Rattle.fw_explore.proofs.step.Walker.first_key.Goals as goal
 
 pub returns : goal.returns

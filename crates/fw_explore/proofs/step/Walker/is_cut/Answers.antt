@@ -1,8 +1,8 @@
-use Rattle.std.proofs.Common.{refl, sym, ap, subst, ◌∙◌, arith, below_more}
+use Rattle.fw_explore.proofs.Common.{refl, sym, ap, subst, ◌∙◌, arith, DeskRelations}
+use Rattle.std.proofs.Common.{below_more}
 use Rattle.std.proofs.lemmas.List.{get_or_read}
-use Rattle.fw_run.specs.Desks.{DeskRelations}
-use Rattle.fw_explored.specs.Finishing.{Writes, WritesMore}
-use Rattle.fw_explored.proofs.CutLaws.{cut_full, none_cut}
+use Rattle.fw_explore_meaning.specs.Finishing.{Writes, WritesMore}
+use Rattle.fw_explore_meaning.proofs.CutLaws.{cut_full, none_cut}
 use Rattle.fw_explore.proofs.Numbers.{led_as, two_numbers}
 use Rattle.fw_explore.proofs.step.Walker.is_cut.Given as given
 use Rattle.fw_explore.proofs.step.Walker.is_cut.Goals as goal

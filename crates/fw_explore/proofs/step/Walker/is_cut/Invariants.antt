@@ -1,10 +1,7 @@
 -- draft
-use Rattle.std.proofs.Common.{ℕ, ◌≡◌, ◌<◌, List}
-use Rattle.fw_command.specs.declared.command.Command.{Command}
-use Rattle.fw_run.specs.Desks.{IsFunction}
-use Rattle.fw_explored.specs.Finishing.{WritesMore}
-use Rattle.fw_explored.specs.Pasts.{LeadsAt}
-use Rattle.fw_explored.specs.Steps.{Had}
+use Rattle.fw_explore.proofs.Common.{ℕ, ◌≡◌, ◌<◌, List, Command, IsFunction, Had}
+use Rattle.fw_explore_meaning.specs.Finishing.{WritesMore}
+use Rattle.fw_explore_meaning.specs.Pasts.{LeadsAt}
 use Rattle.fw_explore.proofs.step.Walker.is_cut.Given as goal
 
 abbrev pub invariant-loop-mover : goal.invariant-loop-mover

@@ -1,7 +1,6 @@
-use Rattle.std.proofs.Common.{◌≡◌, sym, ap, ◌∙◌, arith}
+use Rattle.fw_explore.proofs.Common.{◌≡◌, sym, ap, ◌∙◌, arith, History}
 use Rattle.std.proofs.lemmas.List.{get_or_read}
-use Rattle.fw_told.specs.Histories.{History}
-use Rattle.fw_explored.specs.Steps.{marked}
+use Rattle.fw_explore_meaning.specs.Steps.{marked}
 use Rattle.fw_explore.proofs.Numbers.{had_here, two_numbers}
 use Rattle.fw_explore.proofs.PastForms.{after_none, after_more}
 use Rattle.fw_explore.proofs.step.Walker.past_after.Goals as goal

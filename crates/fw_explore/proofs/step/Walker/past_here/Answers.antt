@@ -1,5 +1,5 @@
-use Rattle.std.proofs.Common.{◌++◌, ap, ◌∙◌}
-use Rattle.fw_told.specs.Histories.{History, told_entries}
+use Rattle.fw_explore.proofs.Common.{◌++◌, ap, ◌∙◌, History}
+use Rattle.fw_explore_told.specs.Histories.{told_entries}
 use Rattle.fw_explore.proofs.Numbers.{history_by}
 use Rattle.fw_explore.proofs.step.Walker.past_here.Goals as goal
 

@@ -1,7 +1,5 @@
-use Rattle.std.proofs.Common.{length, true, false, sym, ap, ◌∙◌, arith}
-use Rattle.fw_run.specs.Desks.{DeskRelations}
-use Rattle.fw_told.specs.Histories.{History}
-use Rattle.fw_explored.proofs.StepLaws.{none_there, none_beyond, none_ruled, none_silent, steps_on}
+use Rattle.fw_explore.proofs.Common.{length, true, false, sym, ap, ◌∙◌, arith, DeskRelations, History}
+use Rattle.fw_explore_meaning.proofs.StepLaws.{none_there, none_beyond, none_ruled, none_silent, steps_on}
 use Rattle.fw_explore.proofs.Numbers.{kept_at, machine_kept, mover_read, not_ruled, ruled, size_led, there_led, two_numbers}
 use Rattle.fw_explore.proofs.step.Walker.step_to.Given as given
 use Rattle.fw_explore.proofs.step.Walker.step_to.Goals as goal

@@ -1,6 +1,5 @@
-use Rattle.std.proofs.Common.{length, sym, ap, ◌∙◌, arith}
-use Rattle.fw_run.specs.Desks.{DeskRelations}
-use Rattle.fw_explored.proofs.CutLaws.{never_writes, never_ruled, never_silent, writes_more}
+use Rattle.fw_explore.proofs.Common.{length, sym, ap, ◌∙◌, arith, DeskRelations}
+use Rattle.fw_explore_meaning.proofs.CutLaws.{never_writes, never_ruled, never_silent, writes_more}
 use Rattle.fw_explore.proofs.Numbers.{kept_at, machine_kept, mover_read, not_ruled, ruled, two_numbers, writes_by}
 use Rattle.fw_explore.proofs.step.Walker.would_write.Given as given
 use Rattle.fw_explore.proofs.step.Walker.would_write.Goals as goal

@@ -1,7 +1,6 @@
-use Rattle.std.proofs.Common.{refl, sym, subst, arith}
-use Rattle.fw_account.specs.Fold.{no_account}
+use Rattle.fw_holders.proofs.Common.{refl, sym, subst, arith, IsWithin}
+use Rattle.fw_model_account.specs.Fold.{no_account}
 use Rattle.fw_audit.proofs.Audits.{nothing_audited}
-use Rattle.fw_holders.specs.Counts.{IsWithin}
 use Rattle.fw_holders.proofs.holders.Holders.new.Goals as goal
 
 pub returns : goal.returns

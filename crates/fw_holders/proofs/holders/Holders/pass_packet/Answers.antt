@@ -1,8 +1,5 @@
-use Rattle.std.proofs.Common.{◌++◌, ◌∷◌, [], Option, Ok, ap, sym, subst, ◌∙◌}
+use Rattle.fw_holders.proofs.Common.{◌++◌, ◌∷◌, [], Option, Ok, ap, sym, subst, ◌∙◌, Async, Answer, Holds, Room, holders}
 use Rattle.fw_audit.specs.Found.{Judges}
-use Rattle.fw_entry.specs.declared.entry.Entry.TheVariants.{Async}
-use Rattle.fw_ledger.specs.declared.answer.Answer.{Answer}
-use Rattle.fw_holders.specs.Told.{Holds, Room, holders}
 use Rattle.fw_holders.proofs.PassLaws.{answer_more, other_more, passes}
 use Rattle.fw_holders.proofs.holders.Holders.pass_packet.Goals as goal
 

@@ -1,14 +1,8 @@
-use Rattle.std.proofs.Common.{◌≡◌, ◌++◌, Some, ap, sym, subst, ◌∙◌, codes, decimal, length, arith}
-use Rattle.fw_account.specs.Account.{Account}
-use Rattle.fw_entry.specs.declared.entry.Entry.{Entry}
-use Rattle.fw_holders.specs.Counts.{entry_judged}
-use Rattle.fw_holders.specs.Deeds.{event_told, told}
-use Rattle.fw_who.specs.Names.{right}
-use Rattle.fw_holders.specs.Told.{line, line_of, rest_of_line, Room}
+use Rattle.fw_holders.proofs.Common.{◌≡◌, ◌++◌, Some, ap, sym, subst, ◌∙◌, codes, decimal, length, arith, Account, Entry, entry_judged, told, right, line, line_of, rest_of_line, Room, StandsFor}
+use Rattle.fw_holders.proofs.Common.{Tables}
+use Rattle.fw_holders.specs.Deeds.{event_told}
 use Rattle.fw_holders.proofs.TakeLaws.{cut_back, some_of}
 use Rattle.fw_holders.proofs.TextLaws.{both_put}
-use Rattle.fw_ledger.specs.Stands.{StandsFor}
-use Rattle.fw_ledger.specs.declared.tables.Tables.{Tables}
 use Rattle.fw_holders.proofs.holders.Holders.take_event.Goals as goal
 
 pub returns-in-Err : goal.returns-in-Err

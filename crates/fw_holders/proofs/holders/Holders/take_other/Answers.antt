@@ -1,16 +1,7 @@
-use Rattle.std.proofs.Common.{◌≡◌, ◌++◌, Option, Some, None, ap, sym, subst, ◌∙◌}
-use Rattle.std.proofs.lemmas.List.{append-nil}
-use Rattle.fw_account.specs.Account.{Account}
-use Rattle.fw_entry.specs.declared.entry.Entry.{Entry}
-use Rattle.fw_faults.specs.Looked.{looked}
-use Rattle.fw_holders.specs.Deeds.{told, reset_text}
-use Rattle.fw_holders.specs.Told.{line_of, Room}
-use Rattle.fw_holders.specs.Counts.{IsWithin, entry_judged}
+use Rattle.fw_holders.proofs.Common.{◌≡◌, ◌++◌, Option, Some, None, ap, sym, subst, ◌∙◌, append-nil, Account, Entry, looked, told, line_of, Room, IsWithin, entry_judged, ShowsAnswer, StandsFor}
+use Rattle.fw_holders.proofs.Common.{Answer, Tables}
+use Rattle.fw_holders.specs.Deeds.{reset_text}
 use Rattle.fw_holders.proofs.TakeLaws.{entry_answers, entry_quiet}
-use Rattle.fw_ledger.specs.Refused.{ShowsAnswer}
-use Rattle.fw_ledger.specs.Stands.{StandsFor}
-use Rattle.fw_ledger.specs.declared.answer.Answer.{Answer}
-use Rattle.fw_ledger.specs.declared.tables.Tables.{Tables}
 use Rattle.fw_holders.proofs.holders.Holders.take_other.Goals as goal
 
 pub returns-in_ok-put_reset-in-Reset-default : goal.returns-in_ok-put_reset-in-Reset-default

@@ -1,7 +1,4 @@
-use Rattle.std.proofs.Common.{Option, subst}
-use Rattle.fw_faults.specs.Looked.{looked}
-use Rattle.fw_ledger.specs.Refused.{ShowsAnswer}
-use Rattle.fw_ledger.specs.declared.answer.Answer.{Answer}
+use Rattle.fw_holders.proofs.Common.{Option, subst, looked, ShowsAnswer, Answer}
 use Rattle.fw_holders.proofs.JudgedLaws.{taken_answer}
 use Rattle.fw_holders.proofs.judged.Judged.take.Goals as goal
 

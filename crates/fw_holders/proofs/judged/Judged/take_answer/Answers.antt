@@ -1,4 +1,4 @@
-use Rattle.std.proofs.Common.{◌≡◌, sym}
+use Rattle.fw_holders.proofs.Common.{◌≡◌, sym}
 use Rattle.fw_holders.proofs.judged.Judged.take_answer.Goals as goal
 
 pub returns-then-answer-eq0 : goal.returns-then-answer-eq0

@@ -1,4 +1,4 @@
-use Rattle.fw_account.specs.Packets.{ended}
+use Rattle.fw_model_account.specs.Packets.{ended}
 use Rattle.fw_ledger.proofs.ledger.Ledger.end.Goals as goal
 
 pub invariant_of-self : goal.invariant_of-self

@@ -1,8 +1,5 @@
-use Rattle.std.proofs.Common.{◌≡◌, ◌+◌, ◌-◌, ◌*◌, ◌%◌, subst, sym, arith}
+use Rattle.fw_ledger.proofs.Common.{◌≡◌, ◌+◌, ◌-◌, ◌*◌, ◌%◌, subst, sym, arith, flag, is_open, Tables}
 use Rattle.std.specs.Int.{bit_at}
-use Rattle.fw_plug.specs.Words.{flag}
-use Rattle.fw_account.specs.Account.{is_open}
-use Rattle.fw_ledger.specs.declared.tables.Tables.{Tables}
 use Rattle.fw_ledger.proofs.Channels.{halves_fit, free_bits}
 use Rattle.fw_ledger.proofs.ledger.Ledger.free_channels.Goals as goal
 
@@ -15,4 +12,5 @@ overflow_add-result c =
 
 pub returns-clause-bits : goal.returns-clause-bits
 returns-clause-bits c = λ l ch h lt.
-    rw (c.from.ensures, c.from-2.ensures) (subst (λ (t : Tables). bit_at (t.high * 4294967296 % 18446744073709551616 + t.low) (63 - ch) ≡ flag (is_open l.withheld l.allocations ch)) (sym c.self.view_is) (free_bits c.args.self.now l ch h lt))
+    rw (c.from.ensures, c.from-2.ensures) (subst (λ (t : Tables). bit_at (t.high * 4294967296 % 18446744073709551616 + t.low) (63 - ch) ≡ flag (is_open l.withheld l.allocations ch))
+    (sym c.self.view_is) (free_bits c.args.self.now l ch h lt))

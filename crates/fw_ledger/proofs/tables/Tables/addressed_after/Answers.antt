@@ -1,4 +1,4 @@
-use Rattle.std.proofs.Common.{sym, ◌∙◌}
+use Rattle.fw_ledger.proofs.Common.{sym, ◌∙◌}
 use Rattle.fw_ledger.proofs.Requests.{addressed_plug, addressed_held, addressed_none, addressed_again}
 use Rattle.fw_ledger.proofs.tables.Tables.addressed_after.Goals as goal
 

@@ -1,12 +1,7 @@
-use Rattle.std.proofs.Common.{◌≡◌, ◌+◌, true, false, Some, slice_set, sym, ◌∙◌, ap, subst, rules, true≢false}
-use Rattle.std.specs.Vec.{with_item}
-use Rattle.fw_account.specs.Moves.{AllocateChannel}
-use Rattle.fw_account.specs.Words.{ChannelsAvailable}
-use Rattle.fw_account.specs.Decode.{allowed, at_addressed}
-use Rattle.fw_ledger.specs.Stands.{Follows}
-use Rattle.fw_ledger.specs.Swaps.{half_of, moved_by}
-use Rattle.fw_ledger.specs.declared.tables.Charge.TheVariants.{Pending}
-use Rattle.fw_ledger.specs.declared.tables.Tables.{Tables}
+use Rattle.fw_ledger.proofs.Common.{◌≡◌, ◌+◌, true, false, Some, slice_set, sym, ◌∙◌, ap, subst, rules, true≢false, with_item, ChannelsAvailable, allowed, Follows, moved_by, Pending, Tables}
+use Rattle.fw_model_account.specs.Moves.{AllocateChannel}
+use Rattle.fw_model_account.specs.Decode.{at_addressed}
+use Rattle.fw_ledger.specs.Swaps.{half_of}
 use Rattle.fw_ledger.proofs.Swapping.{compared, differ}
 use Rattle.fw_ledger.proofs.ChannelSwaps.{channel_follows, channel_denied}
 use Rattle.fw_ledger.proofs.tables.Tables.allocate_channel.Goals.{then-not-may_allocate-via-then-not-may_allocate, then-not-may_allocate-via-else-not-may_allocate+then-not-exceeds}

@@ -1,6 +1,4 @@
-use Rattle.std.proofs.Common.{◌≡◌, ◌-◌, true, refl, sym, ◌∙◌, rules}
-use Rattle.std.specs.Vec.{with_item}
-use Rattle.fw_ledger.specs.declared.tables.Charge.TheVariants.{Pending}
+use Rattle.fw_ledger.proofs.Common.{◌≡◌, ◌-◌, true, refl, sym, ◌∙◌, rules, with_item, Pending}
 use Rattle.fw_ledger.proofs.UnitSwaps.{allocated_follows}
 use Rattle.fw_ledger.proofs.tables.Tables.allocate_units.Goals as goal
 

@@ -1,12 +1,8 @@
-use Rattle.std.proofs.Common.{◌≡◌, ◌<◌, ℕ, true, false, sym, ◌∙◌, ap, subst, rules, true≢false, arith}
-use Rattle.std.specs.Vec.{with_item, vec_len}
-use Rattle.fw_ledger.specs.Stands.{SeatsFor, place, word_at, seats_at, allocation_of, charge_at}
-use Rattle.fw_ledger.specs.declared.tables.Tables.{Tables}
-use Rattle.fw_plug.specs.Words.{out_word, out_fields}
-use Rattle.fw_plug.specs.Units.{units}
-use Rattle.fw_account.specs.Decode.{is_held}
+use Rattle.fw_ledger.proofs.Common.{◌≡◌, ◌<◌, ℕ, true, false, sym, ◌∙◌, ap, subst, rules, true≢false, arith, with_item, SeatsFor, place, word_at, seats_at, allocation_of, charge_at, Tables, out_word}
+use Rattle.fw_ledger.proofs.Common.{out_fields, units, Connected}
+use Rattle.std.specs.Vec.{vec_len}
+use Rattle.fw_model_account.specs.Decode.{is_held}
 use Rattle.fw_ledger.specs.Swaps.{connected_once}
-use Rattle.fw_ledger.specs.declared.tables.Charge.TheVariants.{Connected}
 use Rattle.fw_ledger.proofs.Plugs.{output_place}
 use Rattle.fw_ledger.proofs.PlugSwaps.{seat_room}
 use Rattle.fw_ledger.proofs.OutputSwaps.{is_there_output, first_follows, first_refused}

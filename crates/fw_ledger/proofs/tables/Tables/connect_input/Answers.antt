@@ -1,7 +1,6 @@
-use Rattle.std.proofs.Common.{◌≡◌, ◌+◌, true, false, sym, ◌∙◌, ap, subst, rules, true≢false}
-use Rattle.fw_ledger.specs.Stands.{SeatsFor, word_at, seats_at}
+use Rattle.fw_ledger.proofs.Common.{◌≡◌, ◌+◌, true, false, sym, ◌∙◌, ap, subst, rules, true≢false, SeatsFor, word_at, seats_at, shows_room, connection_value}
 use Rattle.fw_plug.specs.Words.{in_fields}
-use Rattle.fw_ledger.specs.Swaps.{shows_room, keeps_channel, with_channel, connection_value}
+use Rattle.fw_ledger.specs.Swaps.{keeps_channel, with_channel}
 use Rattle.fw_ledger.proofs.Swapping.{compared, differ}
 use Rattle.fw_ledger.proofs.PlugSwaps.{seat_room}
 use Rattle.fw_ledger.proofs.InputSwaps.{is_there_input, input_follows, input_refused}

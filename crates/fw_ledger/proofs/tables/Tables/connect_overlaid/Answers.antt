@@ -1,6 +1,4 @@
-use Rattle.std.proofs.Common.{◌≡◌, ◌+◌, true, false, sym, ◌∙◌, ap, subst, rules, true≢false}
-use Rattle.fw_ledger.specs.Stands.{SeatsFor, word_at, seats_at}
-use Rattle.fw_ledger.specs.Swaps.{shows_room, connection_value}
+use Rattle.fw_ledger.proofs.Common.{◌≡◌, ◌+◌, true, false, sym, ◌∙◌, ap, subst, rules, true≢false, SeatsFor, word_at, seats_at, shows_room, connection_value}
 use Rattle.fw_ledger.proofs.Swapping.{compared, differ}
 use Rattle.fw_ledger.proofs.PlugSwaps.{seat_room}
 use Rattle.fw_ledger.proofs.OutputSwaps.{is_there_output, overlaid_follows, overlaid_refused}

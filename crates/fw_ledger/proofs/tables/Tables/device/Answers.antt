@@ -1,4 +1,4 @@
-use Rattle.std.proofs.Common.{◌∙◌, ap}
+use Rattle.fw_ledger.proofs.Common.{◌∙◌, ap}
 use Rattle.fw_ledger.specs.Stands.{device_at}
 use Rattle.fw_ledger.proofs.Requests.{device_is, device_within}
 use Rattle.fw_ledger.proofs.tables.Tables.device.Goals as goal

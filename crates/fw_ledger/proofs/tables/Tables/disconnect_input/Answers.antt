@@ -1,5 +1,4 @@
-use Rattle.std.proofs.Common.{◌≡◌, ◌+◌, true, false, sym, ◌∙◌, ap, subst, rules, true≢false}
-use Rattle.fw_ledger.specs.Stands.{SeatsFor, word_at, seats_at}
+use Rattle.fw_ledger.proofs.Common.{◌≡◌, ◌+◌, true, false, sym, ◌∙◌, ap, subst, rules, true≢false, SeatsFor, word_at, seats_at}
 use Rattle.fw_ledger.proofs.Swapping.{compared, differ}
 use Rattle.fw_ledger.proofs.InputSwaps.{is_there_input, left_follows, left_refused}
 use Rattle.fw_ledger.proofs.tables.Tables.disconnect_input.Goals.{then-not-has_connection_of-via-then-not-has_connection_of, then-not-has_connection_of-via-else-not-has_connection_of+then-not-exceeds}

@@ -1,13 +1,8 @@
-use Rattle.std.proofs.Common.{◌≡◌, ◌+◌, true, false, sym, ◌∙◌, ap, subst, rules, true≢false}
-use Rattle.std.specs.Vec.{with_item}
-use Rattle.fw_ledger.specs.Stands.{SeatsFor, place, word_at, seats_at}
-use Rattle.fw_ledger.specs.declared.tables.Tables.{Tables}
-use Rattle.fw_plug.specs.Words.{out_fields}
-use Rattle.fw_plug.specs.Units.{units}
-use Rattle.fw_ledger.specs.declared.tables.Charge.TheVariants.{Pending}
+use Rattle.fw_ledger.proofs.Common.{◌≡◌, ◌+◌, true, false, sym, ◌∙◌, ap, subst, rules, true≢false, with_item, SeatsFor, place, word_at, seats_at, Tables, out_fields, units, Pending}
 use Rattle.fw_ledger.proofs.Swapping.{compared, differ}
 use Rattle.fw_ledger.proofs.OutputSwaps.{is_there_output, dropped_follows, dropped_refused, last_follows, last_refused}
-use Rattle.fw_ledger.proofs.tables.Tables.disconnect_output.Goals.{then-not-has_connection_of-via-then-not-has_connection_of, then-not-has_connection_of-via-else-not-has_connection_of+then-not-exceeds}
+use Rattle.fw_ledger.proofs.tables.Tables.disconnect_output.Goals.{then-not-has_connection_of-via-then-not-has_connection_of}
+use Rattle.fw_ledger.proofs.tables.Tables.disconnect_output.Goals.{then-not-has_connection_of-via-else-not-has_connection_of+then-not-exceeds}
 use Rattle.fw_ledger.proofs.tables.Tables.disconnect_output.Goals as goal
 
 pub returns-then-not-has_connection_of : goal.returns-then-not-has_connection_of

@@ -1,7 +1,4 @@
-use Rattle.std.proofs.Common.{◌≡◌, true, false, refl, sym, ◌∙◌, ap, rules}
-use Rattle.std.specs.Option.{option_map}
-use Rattle.std.proofs.lemmas.Result.{err_from_is_err_and}
-use Rattle.fw_account.specs.Words.{word_of}
+use Rattle.fw_ledger.proofs.Common.{◌≡◌, true, false, refl, sym, ◌∙◌, ap, rules, option_map, err_from_is_err_and, word_of}
 use Rattle.fw_ledger.specs.Swapped.{is_lock_of}
 use Rattle.fw_ledger.proofs.Replies.{ended_answer}
 use Rattle.fw_ledger.proofs.Swapping.{goes_stand}
@@ -43,5 +40,6 @@ returns c = λ l h d.
         asked = x.asked;
         due = c.word_in.ensures l h ∙ ap (option_map (word_of l)) place;
       },
-      lock_goes c.make_swap.new.self _ l c.args.c c.args.head.now c.args.rcode c.args.function c.args.old.now a _ _ x is holds place c.swap_done-done.ensures (c.in_ok-make_swap.ensures l h).1 c.end.ensures,
+      lock_goes c.make_swap.new.self _ l c.args.c c.args.head.now c.args.rcode c.args.function c.args.old.now a _ _ x is holds place c.swap_done-done.ensures
+          (c.in_ok-make_swap.ensures l h).1 c.end.ensures,
     )

@@ -1,8 +1,5 @@
-use Rattle.std.proofs.Common.{◌≡◌, true, false, Some, refl, sym, ◌∙◌, ap, subst, rules}
-use Rattle.std.specs.Option.{option_map}
-use Rattle.fw_account.specs.Words.{word_of}
+use Rattle.fw_ledger.proofs.Common.{◌≡◌, true, false, Some, refl, sym, ◌∙◌, ap, subst, rules, option_map, word_of, GoesOn}
 use Rattle.fw_ledger.specs.Stands.{is_read_of}
-use Rattle.fw_ledger.specs.Refused.{GoesOn}
 use Rattle.fw_ledger.proofs.Replies.{read_refused, read_ended, ended_answer}
 use Rattle.fw_ledger.proofs.tables.Tables.end_read.Goals as goal
 

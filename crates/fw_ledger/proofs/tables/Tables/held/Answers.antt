@@ -1,7 +1,4 @@
-use Rattle.std.proofs.Common.{◌≡◌, ◌∙◌, sym, ap, subst, ℕ, Some}
-use Rattle.fw_base.specs.Tables.{find_to}
-use Rattle.fw_account.specs.Account.{is_pending}
-use Rattle.fw_ledger.specs.Stands.{allocation_of, charge_at}
+use Rattle.fw_ledger.proofs.Common.{◌≡◌, ◌∙◌, sym, ap, subst, ℕ, Some, find_to, is_pending, allocation_of, charge_at}
 use Rattle.fw_ledger.specs.Swaps.{IsHeld, held_of}
 use Rattle.fw_ledger.proofs.Plugs.{pending_is_found}
 use Rattle.fw_ledger.proofs.UnitSwaps.{found_at, held_is}

@@ -1,7 +1,4 @@
-use Rattle.std.proofs.Common.{◌∙◌, ap, is_some}
-use Rattle.fw_base.specs.Tables.{find_to}
-use Rattle.fw_account.specs.Account.{is_pending}
-use Rattle.fw_ledger.specs.Stands.{allocation_of, charge_at}
+use Rattle.fw_ledger.proofs.Common.{◌∙◌, ap, is_some, find_to, is_pending, allocation_of, charge_at}
 use Rattle.fw_ledger.proofs.Requests.{holds_is}
 use Rattle.fw_ledger.proofs.tables.Tables.holds.Goals as goal
 

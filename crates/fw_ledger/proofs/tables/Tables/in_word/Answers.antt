@@ -1,5 +1,4 @@
-use Rattle.std.proofs.Common.{◌≡◌, ◌∙◌, ap, true, false, nat_lt, slice_index, rules}
-use Rattle.fw_ledger.specs.Stands.{word_at}
+use Rattle.fw_ledger.proofs.Common.{◌≡◌, ◌∙◌, ap, true, false, nat_lt, slice_index, rules, word_at}
 use Rattle.fw_ledger.proofs.Plugs.{input_told, input_missing, input_place}
 use Rattle.fw_ledger.proofs.tables.Tables.in_word.Goals as goal
 

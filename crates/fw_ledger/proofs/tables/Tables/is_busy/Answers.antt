@@ -1,4 +1,4 @@
-use Rattle.std.proofs.Common.{◌∙◌}
+use Rattle.fw_ledger.proofs.Common.{◌∙◌}
 use Rattle.fw_ledger.proofs.Requests.{outstanding_is}
 use Rattle.fw_ledger.proofs.tables.Tables.is_busy.Goals as goal
 

@@ -1,4 +1,4 @@
-use Rattle.std.proofs.Common.{refl}
+use Rattle.fw_ledger.proofs.Common.{refl}
 use Rattle.fw_ledger.proofs.Starts.{starts_stand}
 use Rattle.fw_ledger.proofs.tables.Tables.new.Goals as goal
 

@@ -1,5 +1,4 @@
-use Rattle.std.proofs.Common.{◌≡◌, ◌∙◌, ap, true, false, nat_lt, slice_index, rules}
-use Rattle.fw_ledger.specs.Stands.{word_at}
+use Rattle.fw_ledger.proofs.Common.{◌≡◌, ◌∙◌, ap, true, false, nat_lt, slice_index, rules, word_at}
 use Rattle.fw_ledger.proofs.Plugs.{output_told, output_missing, output_place}
 use Rattle.fw_ledger.proofs.tables.Tables.out_word.Goals as goal
 

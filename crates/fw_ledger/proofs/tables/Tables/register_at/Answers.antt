@@ -1,6 +1,7 @@
-use Rattle.std.proofs.Common.{◌-◌, if◌then◌else◌, None, ◌∙◌, ap, sym}
-use Rattle.fw_entry.specs.Network.{first_id}
-use Rattle.fw_account.specs.Words.{is_node, manager_register, plug_register, first_address}
+use Rattle.fw_ledger.proofs.Common.{◌-◌, None, ◌∙◌, ap, sym}
+use Rattle.std.proofs.Common.{if◌then◌else◌}
+use Rattle.fw_log_entry.specs.Network.{first_id}
+use Rattle.fw_model_account.specs.Words.{is_node, manager_register, plug_register, first_address}
 use Rattle.fw_ledger.specs.Stands.{row_at}
 use Rattle.fw_ledger.proofs.RegisterNames.{register_is, local_id, second_found, named_there}
 use Rattle.fw_ledger.proofs.tables.Tables.register_at.Goals as goal

@@ -1,12 +1,8 @@
-use Rattle.std.proofs.Common.{◌≡◌, ◌+◌, ◌-◌, ◌^◌, true, false, slice_set, sym, ◌∙◌, ap, subst, rules, true≢false}
-use Rattle.std.specs.Vec.{with_item}
-use Rattle.fw_account.specs.Moves.{ReleaseChannel}
-use Rattle.fw_account.specs.Words.{ChannelsAvailable}
-use Rattle.fw_account.specs.Decode.{allowed, at_addressed, held_for}
-use Rattle.fw_ledger.specs.Stands.{Follows, allocation_of, charge_at}
-use Rattle.fw_ledger.specs.Swaps.{half_of, holds_no_units, moved_by}
-use Rattle.fw_ledger.specs.declared.tables.Charge.TheVariants.{Free}
-use Rattle.fw_ledger.specs.declared.tables.Tables.{Tables}
+use Rattle.fw_ledger.proofs.Common.{◌≡◌, ◌+◌, ◌-◌, ◌^◌, true, false, slice_set, sym, ◌∙◌, ap, subst, rules, true≢false, with_item, ChannelsAvailable, allowed, Follows, allocation_of, charge_at}
+use Rattle.fw_ledger.proofs.Common.{moved_by, Free, Tables}
+use Rattle.fw_model_account.specs.Moves.{ReleaseChannel}
+use Rattle.fw_model_account.specs.Decode.{at_addressed, held_for}
+use Rattle.fw_ledger.specs.Swaps.{half_of, holds_no_units}
 use Rattle.fw_ledger.proofs.Swapping.{compared, differ}
 use Rattle.fw_ledger.proofs.ChannelSwaps.{half_within, release_follows, release_denied}
 use Rattle.fw_ledger.proofs.tables.Tables.release_channel.Goals.{then-not-holds_no_units-via-then-not-holds_no_units, then-not-holds_no_units-via-else-not-holds_no_units+then-not-exceeds}

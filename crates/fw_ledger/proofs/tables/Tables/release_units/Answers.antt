@@ -1,6 +1,4 @@
-use Rattle.std.proofs.Common.{refl, rules}
-use Rattle.std.specs.Vec.{with_item}
-use Rattle.fw_ledger.specs.declared.tables.Charge.TheVariants.{Pending}
+use Rattle.fw_ledger.proofs.Common.{refl, rules, with_item, Pending}
 use Rattle.fw_ledger.proofs.UnitSwaps.{released_follows}
 use Rattle.fw_ledger.proofs.tables.Tables.release_units.Goals as goal
 

@@ -1,5 +1,4 @@
-use Rattle.std.proofs.Common.{ap}
-use Rattle.std.specs.Vec.{with_item}
+use Rattle.fw_ledger.proofs.Common.{ap, with_item}
 use Rattle.fw_ledger.proofs.tables.Tables.set_input.Goals as goal
 
 pub returns : goal.returns

@@ -1,4 +1,4 @@
-use Rattle.std.proofs.Common.{refl, ap}
+use Rattle.fw_ledger.proofs.Common.{refl, ap}
 use Rattle.fw_ledger.specs.Swaps.{register_named}
 use Rattle.fw_ledger.specs.declared.refused.Refused.TheVariants.{NoMove}
 use Rattle.fw_ledger.proofs.Swapping.{follows_goes, moved_none}

@@ -1,5 +1,4 @@
-use Rattle.std.proofs.Common.{sym, ◌∙◌}
-use Rattle.fw_account.specs.Words.{ChannelsAvailable}
+use Rattle.fw_ledger.proofs.Common.{sym, ◌∙◌, ChannelsAvailable}
 use Rattle.fw_ledger.proofs.Swapping.{swap_other}
 use Rattle.fw_ledger.proofs.ChannelSwaps.{half_is}
 use Rattle.fw_ledger.proofs.tables.Tables.swap_channels.Goals as goal

@@ -1,6 +1,5 @@
-use Rattle.std.proofs.Common.{◌≡◌, sym, ◌∙◌, ap, rules}
-use Rattle.fw_account.specs.Words.{InputPlug}
-use Rattle.fw_ledger.specs.Stands.{word_at}
+use Rattle.fw_ledger.proofs.Common.{◌≡◌, sym, ◌∙◌, ap, rules, word_at}
+use Rattle.fw_model_account.specs.Words.{InputPlug}
 use Rattle.fw_ledger.proofs.InputSwaps.{is_there_input, input_made, input_left}
 use Rattle.fw_ledger.proofs.Swapping.{swap_other}
 use Rattle.fw_ledger.proofs.tables.Tables.swap_input.Goals as goal

@@ -1,8 +1,6 @@
-use Rattle.std.proofs.Common.{◌≡◌, true, false, refl, sym, ◌∙◌, ap, rules}
-use Rattle.fw_plug.specs.Words.{out_fields}
-use Rattle.fw_account.specs.Moves.{ConnectFirst, ConnectOverlaid, DisconnectOutput}
-use Rattle.fw_account.specs.Words.{OutputPlug}
-use Rattle.fw_ledger.specs.Stands.{word_at}
+use Rattle.fw_ledger.proofs.Common.{◌≡◌, true, false, refl, sym, ◌∙◌, ap, rules, out_fields, word_at}
+use Rattle.fw_model_account.specs.Moves.{ConnectFirst, ConnectOverlaid, DisconnectOutput}
+use Rattle.fw_model_account.specs.Words.{OutputPlug}
 use Rattle.fw_ledger.proofs.Swapping.{swap_other}
 use Rattle.fw_ledger.proofs.OutputSwaps.{is_there_output, output_follows}
 use Rattle.fw_ledger.proofs.tables.Tables.swap_output.Goals as goal

@@ -1,4 +1,4 @@
-use Rattle.std.proofs.Common.{◌≡◌, rules}
+use Rattle.fw_ledger.proofs.Common.{◌≡◌, rules}
 use Rattle.fw_ledger.proofs.UnitSwaps.{less_decoded, more_decoded}
 use Rattle.fw_ledger.proofs.tables.Tables.swap_units.Goals as goal
 

@@ -1,5 +1,4 @@
-use Rattle.std.proofs.Common.{◌∙◌, ap, map, length-set}
-use Rattle.fw_ledger.specs.Deaths.{orphaned_charge, orphaned_seats}
+use Rattle.fw_ledger.proofs.Common.{◌∙◌, ap, map, length-set, orphaned_charge, orphaned_seats}
 use Rattle.fw_ledger.proofs.Orphans.{death_stands, mapped_items, asked_dropped, asked_beyond}
 use Rattle.fw_ledger.proofs.tables.Tables.take_death.Goals as goal
 

@@ -1,6 +1,6 @@
-use Rattle.std.proofs.Common.{refl}
-use Rattle.fw_entry.specs.declared.entry.Entry.TheVariants.{Event}
-use Rattle.fw_account.proofs.Refused.{refused_exactly}
+use Rattle.fw_ledger.proofs.Common.{refl}
+use Rattle.fw_log_entry.specs.declared.entry.Entry.TheVariants.{Event}
+use Rattle.fw_model_account.proofs.Refused.{refused_exactly}
 use Rattle.fw_ledger.proofs.Swapping.{follows_goes, follows_stops}
 use Rattle.fw_ledger.proofs.tables.Tables.take_event.Goals as goal
 

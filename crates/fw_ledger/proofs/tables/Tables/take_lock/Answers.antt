@@ -1,6 +1,4 @@
-use Rattle.std.proofs.Common.{refl, sym, ◌∙◌}
-use Rattle.std.proofs.lemmas.Result.{err_from_is_err_and}
-use Rattle.fw_account.specs.Account.{Locks}
+use Rattle.fw_ledger.proofs.Common.{refl, sym, ◌∙◌, err_from_is_err_and, Locks}
 use Rattle.fw_ledger.proofs.Replies.{other_label, request_shows, request_labelled, request_refused}
 use Rattle.fw_ledger.proofs.tables.Tables.take_lock.Goals as goal
 
@@ -10,8 +8,12 @@ returns-then-not-marks c = λ l h. (request_shows l c.args.head.now c.args.head.
 pub returns-in_err-take_request : goal.returns-in_err-take_request
 returns-in_err-take_request c = λ l h.
     let p = err_from_is_err_and c.from_residual.result c.from_residual.ensures.1 in
-    rw (p.1, p.2) (request_refused _ _ l c.args.head.now _ _ _ (sym c.marks.ensures ∙ c.if-not-marks.false) (c.in_err-take_request.ensures l (Locks c.args.function c.args.bytes.now) h c.lock_asked-asked.ensures))
+    rw (p.1, p.2) (request_refused _ _ l c.args.head.now _ _ _ (sym c.marks.ensures ∙ c.if-not-marks.false)
+    (c.in_err-take_request.ensures l (Locks c.args.function c.args.bytes.now) h c.lock_asked-asked.ensures))
 
 pub returns : goal.returns
-returns c = λ l h.
-    (request_shows l c.args.head.now c.args.head.now.source, request_labelled _ l c.args.head.now _ (sym c.marks.ensures ∙ c.if-not-marks.false) (c.in_ok-take_request.ensures l (Locks c.args.function c.args.bytes.now) h c.lock_asked-asked.ensures).1)
+returns c = λ l h. (
+  request_shows l c.args.head.now c.args.head.now.source,
+  request_labelled _ l c.args.head.now _ (sym c.marks.ensures ∙ c.if-not-marks.false)
+      (c.in_ok-take_request.ensures l (Locks c.args.function c.args.bytes.now) h c.lock_asked-asked.ensures).1,
+)

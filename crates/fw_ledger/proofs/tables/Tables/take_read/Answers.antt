@@ -1,6 +1,5 @@
-use Rattle.std.proofs.Common.{refl, sym, ◌∙◌}
-use Rattle.std.proofs.lemmas.Result.{err_from_is_err_and}
-use Rattle.fw_account.specs.Account.{Reads}
+use Rattle.fw_ledger.proofs.Common.{refl, sym, ◌∙◌, err_from_is_err_and}
+use Rattle.fw_model_account.specs.Account.{Reads}
 use Rattle.fw_ledger.proofs.Replies.{other_label, request_shows, request_labelled, request_refused}
 use Rattle.fw_ledger.proofs.tables.Tables.take_read.Goals as goal
 

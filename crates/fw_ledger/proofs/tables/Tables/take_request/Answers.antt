@@ -1,7 +1,6 @@
-use Rattle.std.proofs.Common.{sym, ◌∙◌, ap, slice_set, refl}
-use Rattle.std.specs.Vec.{with_item}
+use Rattle.fw_ledger.proofs.Common.{sym, ◌∙◌, ap, slice_set, refl, with_item}
 use Rattle.fw_ledger.proofs.Requests.{refused_none, refused_beside, asked_follows, asked_stands}
-use Rattle.fw_account.proofs.Packets.{device_below, device_started}
+use Rattle.fw_model_account.proofs.Packets.{device_below, device_started}
 use Rattle.fw_ledger.proofs.tables.Tables.take_request.Goals as goal
 
 pub returns-in-None : goal.returns-in-None
@@ -22,6 +21,7 @@ returns c = λ l operation h is.
     let i = c.from-c.ensures in (
       tt,
       asked_follows _ l _ _ _ d (sym (c.is_busy.ensures l h) ∙ c.if-is_busy.false)
-          (asked_stands t l c.in-Some.device _ c.args.asked x (with_item t.addressed c.from-c.result x) (with_item t.asked c.from-c.result c.args.asked) h (device_below _ _ _ h.sound.range d) (device_started _ _ _ d)
+          (asked_stands t l c.in-Some.device _ c.args.asked x (with_item t.addressed c.from-c.result x) (with_item t.asked c.from-c.result c.args.asked) h (device_below _ _ _ h.sound.range d)
+          (device_started _ _ _ d)
           (ap (λ k. slice_set t.addressed.items k x) i) (ap (λ k. slice_set t.asked.items k c.args.asked) i) is (c.addressed_after-plug.ensures l h)),
     )

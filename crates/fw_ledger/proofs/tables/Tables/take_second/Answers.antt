@@ -1,4 +1,4 @@
-use Rattle.std.proofs.Common.{rules}
+use Rattle.fw_ledger.proofs.Common.{rules}
 use Rattle.fw_ledger.proofs.Seconds.{second_follows, no_second_follows}
 use Rattle.fw_ledger.proofs.tables.Tables.take_second.Goals as goal
 

@@ -1,4 +1,4 @@
-use Rattle.std.proofs.Common.{rules}
+use Rattle.fw_ledger.proofs.Common.{rules}
 use Rattle.fw_ledger.proofs.Seconds.{withholding_follows, too_late_follows}
 use Rattle.fw_ledger.proofs.tables.Tables.take_withholding.Goals as goal
 

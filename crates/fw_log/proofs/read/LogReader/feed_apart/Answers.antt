@@ -1,7 +1,4 @@
-use Rattle.std.proofs.Common.{subst}
-use Rattle.fw_log.specs.Stands.{position}
-use Rattle.fw_log.specs.Reading.{IsPending}
-use Rattle.fw_log.specs.Reader.{State}
+use Rattle.fw_log.proofs.Common.{subst, position, IsPending, State}
 use Rattle.fw_log.proofs.FeedLaws.{pending_of}
 use Rattle.fw_log.proofs.ExactLaws.{counts, body_is}
 use Rattle.fw_log.proofs.HistoryLaws.{reads_on}
@@ -13,7 +10,8 @@ returns-in-None-clause-history c entries bytes h = reads_on entries bytes c.args
 
 pub returns-in-None-clause-counts : goal.returns-in-None-clause-counts
 returns-in-None-clause-counts c = counts c.args.self.now c.args.piece.now c.feed_any.result c.feed_any.new.self c.feed_any.ensures.fed
-    (let P : State → Type 0 = λ r. IsPending r.stand r.taken in subst P c.self.view_is (pending_of (position c.self.inside.stand) c.self.inside.taken.value c.self.inside.fault c.in-None.is c.self.invariant))
+    (let P : State → Type 0 = λ r. IsPending r.stand r.taken in subst P c.self.view_is
+    (pending_of (position c.self.inside.stand) c.self.inside.taken.value c.self.inside.fault c.in-None.is c.self.invariant))
 
 pub returns-in-None-clause-body : goal.returns-in-None-clause-body
 returns-in-None-clause-body c =

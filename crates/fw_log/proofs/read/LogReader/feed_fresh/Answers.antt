@@ -1,13 +1,12 @@
-use Rattle.std.proofs.Common.{length, Some, Ok, arith, ap, ◌∙◌}
-use Rattle.fw_log.specs.Stands.{position}
-use Rattle.fw_log.specs.Reader.{State}
+use Rattle.fw_log.proofs.Common.{length, Some, Ok, arith, ap, ◌∙◌, position, State}
 use Rattle.fw_log.proofs.FindLaws.{found_in, pending_at}
 use Rattle.fw_log.proofs.FoundLaws.{joins_at}
 use Rattle.fw_log.proofs.read.LogReader.feed_fresh.Goals as goal
 
 pub keep-requires-clause-found : goal.keep-requires-clause-found
 keep-requires-clause-found c =
-    found_in c.args.self.now.stand (position c.self.inside.stand) c.args.self.now.taken c.as_slice.result.now c.args.piece.now c.at_hand-bytes.result.now (Ok (Some c.in-Some.found)) (ap (λ (r : State). r.stand) c.self.view_is)
+    found_in c.args.self.now.stand (position c.self.inside.stand) c.args.self.now.taken c.as_slice.result.now c.args.piece.now c.at_hand-bytes.result.now (Ok (Some c.in-Some.found))
+    (ap (λ (r : State). r.stand) c.self.view_is)
     (c.as_slice.ensures.value ∙ c.deref.ensures ∙ ap (λ (r : State). r.taken) c.self.view_is) c.at_hand-bytes.ensures c.in-Some.ensures
 
 pub at_hand-bytes-requires-clause-pending : goal.at_hand-bytes-requires-clause-pending

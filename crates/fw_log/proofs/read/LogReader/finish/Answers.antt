@@ -1,4 +1,4 @@
-use Rattle.std.proofs.Common.{Ok, Err}
+use Rattle.fw_log.proofs.Common.{Ok, Err}
 use Rattle.fw_log.proofs.HistoryLaws.{finishes}
 use Rattle.fw_log.proofs.read.LogReader.finish.Goals as goal
 

@@ -1,8 +1,5 @@
-use Rattle.std.proofs.Common.{◌≡◌, ◌-◌, ℕ, List, length, None, arith, ap, sym, subst, ◌∙◌}
+use Rattle.fw_log.proofs.Common.{◌≡◌, ◌-◌, ℕ, List, length, None, arith, ap, sym, subst, ◌∙◌, IsPending, State, Feeds, HoldsPending, Position, position}
 use Rattle.fw_log.specs.Next.{IsNext}
-use Rattle.fw_log.specs.Reading.{IsPending}
-use Rattle.fw_log.specs.Reader.{State, Feeds, HoldsPending}
-use Rattle.fw_log.specs.Stands.{Position, position}
 use Rattle.fw_log.specs.declared.first.PlainEntry.{PlainEntry}
 use Rattle.fw_log.specs.declared.plain.PlainBody.{PlainBody}
 use Rattle.fw_log.proofs.FindLaws.{holds_by}

@@ -1,8 +1,4 @@
-use Rattle.std.proofs.Common.{◌≡◌, ◌+◌, ◌-◌, ◌++◌, ℕ, [], length, take, None, Some, arith, refl, ap, sym, subst, ◌∙◌}
-use Rattle.fw_entry.specs.Log.{epoch_after}
-use Rattle.fw_log.specs.Stands.{position}
-use Rattle.fw_log.specs.Reading.{version_at}
-use Rattle.fw_log.specs.Reader.{State, EndsEntry}
+use Rattle.fw_log.proofs.Common.{◌≡◌, ◌+◌, ◌-◌, ◌++◌, ℕ, [], length, take, None, Some, arith, refl, ap, sym, subst, ◌∙◌, epoch_after, position, version_at, State, EndsEntry}
 use Rattle.fw_log.proofs.FindLaws.{kept_fault, kept_entry, kept_part, found_as, found_err, pending_at, holds_by, same_state, same_stand}
 use Rattle.fw_log.proofs.read.LogReader.keep.Goals as goal
 
@@ -22,23 +18,30 @@ invariant_of-self-in-Ok-None c =
 
 pub overflow_sub-used : goal.overflow_sub-used
 overflow_sub-used c =
-    let e = kept_entry c.args.self.now.stand c.args.self.now.taken c.args.piece.now c.in-Ok-Some.found c.requires.pending (found_as _ _ _ _ _ (Some c.in-Ok-Some.found) c.in-Ok-Some.is c.in-Ok-Some.field-0-is c.requires.found) in
+    let e = kept_entry c.args.self.now.stand c.args.self.now.taken c.args.piece.now c.in-Ok-Some.found c.requires.pending
+    (found_as _ _ _ _ _ (Some c.in-Ok-Some.found) c.in-Ok-Some.is c.in-Ok-Some.field-0-is c.requires.found) in
     let same : length c.as_slice.result.now ≡ length c.args.self.now.taken = ap length (c.as_slice.ensures.value ∙ c.deref.ensures ∙ ap (λ (r : State). r.taken) c.self.view_is) in
     omega (arith, same, e.past)
 
 pub overflow_add-place : goal.overflow_add-place
 overflow_add-place c =
-    let e = kept_entry c.args.self.now.stand c.args.self.now.taken c.args.piece.now c.in-Ok-Some.found c.requires.pending (found_as _ _ _ _ _ (Some c.in-Ok-Some.found) c.in-Ok-Some.is c.in-Ok-Some.field-0-is c.requires.found) in
+    let e = kept_entry c.args.self.now.stand c.args.self.now.taken c.args.piece.now c.in-Ok-Some.found c.requires.pending
+    (found_as _ _ _ _ _ (Some c.in-Ok-Some.found) c.in-Ok-Some.is c.in-Ok-Some.field-0-is c.requires.found) in
     let start : c.start.result ≡ c.args.self.now.stand.start = c.start.ensures ∙ ap (λ (r : State). r.stand.start) c.self.view_is in
     omega (arith, start, e.past, e.ends.within, c.requires.room)
 
 pub behind-self-inside-requires : goal.behind-self-inside-requires
 behind-self-inside-requires c =
-    let e = kept_entry c.args.self.now.stand c.args.self.now.taken c.args.piece.now c.in-Ok-Some.found c.requires.pending (found_as _ _ _ _ _ (Some c.in-Ok-Some.found) c.in-Ok-Some.is c.in-Ok-Some.field-0-is c.requires.found) in
+    let e = kept_entry c.args.self.now.stand c.args.self.now.taken c.args.piece.now c.in-Ok-Some.found c.requires.pending
+    (found_as _ _ _ _ _ (Some c.in-Ok-Some.found) c.in-Ok-Some.is c.in-Ok-Some.field-0-is c.requires.found) in
     omega (arith, e.some)
 
 pub returns-in-Err-clause-fed : goal.returns-in-Err-clause-fed
-returns-in-Err-clause-fed c = (kept_fault c.args.self.now.stand c.args.self.now.taken c.args.piece.now c.in-Err.fault c.requires.pending (found_err _ _ _ _ c.in-Err.fault c.in-Err.is c.requires.found), refl)
+returns-in-Err-clause-fed c = (
+  kept_fault c.args.self.now.stand c.args.self.now.taken c.args.piece.now c.in-Err.fault c.requires.pending
+      (found_err _ _ _ _ c.in-Err.fault c.in-Err.is c.requires.found),
+  refl,
+)
 
 pub returns-in-Ok-None-clause-fed : goal.returns-in-Ok-None-clause-fed
 returns-in-Ok-None-clause-fed c =
@@ -56,7 +59,8 @@ returns-in-Ok-None-clause-fed c =
 
 pub returns-in-Ok-Some-clause-fed : goal.returns-in-Ok-Some-clause-fed
 returns-in-Ok-Some-clause-fed c =
-    let e = kept_entry c.args.self.now.stand c.args.self.now.taken c.args.piece.now c.in-Ok-Some.found c.requires.pending (found_as _ _ _ _ _ (Some c.in-Ok-Some.found) c.in-Ok-Some.is c.in-Ok-Some.field-0-is c.requires.found) in
+    let e = kept_entry c.args.self.now.stand c.args.self.now.taken c.args.piece.now c.in-Ok-Some.found c.requires.pending
+    (found_as _ _ _ _ _ (Some c.in-Ok-Some.found) c.in-Ok-Some.is c.in-Ok-Some.field-0-is c.requires.found) in
     let same : length c.as_slice.result.now ≡ length c.args.self.now.taken = ap length (c.as_slice.ensures.value ∙ c.deref.ensures ∙ ap (λ (r : State). r.taken) c.self.view_is) in
     let P : ℕ → Type 0 = λ n. EndsEntry c.args.self.now.stand c.args.self.now.taken c.args.piece.now (c.in-Ok-Some.found.end - n) c.in-Ok-Some.found.entry in
     let start : c.start.result ≡ c.args.self.now.stand.start = c.start.ensures ∙ ap (λ (r : State). r.stand.start) c.self.view_is in

@@ -1,5 +1,4 @@
-use Rattle.std.proofs.Common.{length, arith, refl, ap, ◌∙◌}
-use Rattle.fw_log.specs.Stands.{Position, position}
+use Rattle.fw_log.proofs.Common.{length, arith, refl, ap, ◌∙◌, Position, position}
 use Rattle.fw_log.proofs.FeedLaws.{pending_of}
 use Rattle.fw_log.proofs.FindLaws.{pending_at}
 use Rattle.fw_log.proofs.PassLaws.{without_fault}

@@ -1,10 +1,7 @@
-use Rattle.std.proofs.Common.{◌≡◌, ◌-◌, ℕ, List, length, arith, refl, ap, sym, subst, ◌∙◌}
-use Rattle.fw_log.specs.Stands.{Position, position}
-use Rattle.fw_log.specs.Reading.{IsPending}
+use Rattle.fw_log.proofs.Common.{◌≡◌, ◌-◌, ℕ, List, length, arith, refl, ap, sym, subst, ◌∙◌, Position, position, IsPending, State, Feeds}
 use Rattle.fw_log.proofs.FeedLaws.{pending_of, if_none_by}
 use Rattle.fw_log.proofs.FindLaws.{holds_by, pending_at}
 use Rattle.fw_log.proofs.HistoryLaws.{nothing_pending}
-use Rattle.fw_log.specs.Reader.{State, Feeds}
 use Rattle.fw_log.proofs.PassLaws.{EndsPassed, ends_passed, fed, behind_passed, counts_up, passes_on, without_fault}
 use Rattle.fw_log.proofs.read.LogReader.pass.Goals as goal
 use Rattle.fw_log.proofs.read.LogReader.pass.Goals.{After-as_slice-2, After-clear}

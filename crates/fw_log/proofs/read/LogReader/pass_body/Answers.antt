@@ -1,4 +1,4 @@
-use Rattle.std.proofs.Common.{refl}
+use Rattle.fw_log.proofs.Common.{refl}
 use Rattle.fw_log.proofs.FeedLaws.{if_none_by}
 use Rattle.fw_log.proofs.read.LogReader.pass_body.Goals as goal
 

@@ -1,4 +1,4 @@
-use Rattle.std.proofs.Common.{◌∙◌}
+use Rattle.fw_log.proofs.Common.{◌∙◌}
 use Rattle.fw_log.proofs.VersionLaws.{version_known}
 use Rattle.fw_log.proofs.read.LogReader.version.Goals as goal
 

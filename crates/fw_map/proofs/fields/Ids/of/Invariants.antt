@@ -1,5 +1,5 @@
+use Rattle.fw_map.proofs.Common.{drop}
 use Rattle.fw_map.specs.Fields.{HasFields}
-use Rattle.std.proofs.Common.{drop}
 use Rattle.fw_map.proofs.fields.Ids.of.Given as goal
 
 abbrev pub invariant-loop-k : goal.invariant-loop-k

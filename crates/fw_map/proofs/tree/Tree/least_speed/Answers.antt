@@ -1,6 +1,4 @@
-use Rattle.std.proofs.Common.{◌≡◌, ◌⊎◌, inl, inr, ◌+◌, ◌<◌, ◌≤◌, ℕ, ap, ◌∙◌, arith}
-use Rattle.std.proofs.lemmas.Bool.{cases_lt}
-use Rattle.fw_map.specs.Trees.{speed_at}
+use Rattle.fw_map.proofs.Common.{◌≡◌, ◌⊎◌, inl, inr, ◌+◌, ◌<◌, ◌≤◌, ℕ, ap, ◌∙◌, arith, cases_lt, speed_at}
 use Rattle.fw_map.proofs.WalkLaws.{way, first_up, second_up, so_far, at_end}
 use Rattle.fw_map.proofs.tree.Tree.least_speed.Goals as goal
 
@@ -16,7 +14,8 @@ lesser n a b e = record { left = omega arith; right = omega arith; which = elim 
 pub loop-a-init : goal.loop-a-init
 loop-a-init c =
     let sp = speed_at c.args.self.now.sp in
-    let w = lesser c.min-least.result (sp c.args.a) (sp c.args.b) (c.min-least.ensures ∙ (ap (λ k. Prim.Native.Nat.min (sp k) (sp c.from-2.result)) c.from.ensures ∙ ap (λ k. Prim.Native.Nat.min (sp c.args.a) (sp k)) c.from-2.ensures)) in
+    let w = lesser c.min-least.result (sp c.args.a) (sp c.args.b)
+    (c.min-least.ensures ∙ (ap (λ k. Prim.Native.Nat.min (sp k) (sp c.from-2.result)) c.from.ensures ∙ ap (λ k. Prim.Native.Nat.min (sp c.args.a) (sp k)) c.from-2.ensures)) in
     record {
       a = c.requires.a;
       b = c.requires.b;

@@ -1,5 +1,4 @@
-use Rattle.std.proofs.Common.{ℕ, ◌+◌, ◌-◌, ◌<◌, ◌≤◌, List}
-use Rattle.fw_map.specs.Trees.{speed_at}
+use Rattle.fw_map.proofs.Common.{ℕ, ◌+◌, ◌-◌, ◌<◌, ◌≤◌, List, speed_at}
 use Rattle.fw_map.specs.Walks.{IsLeastSoFar, Walk}
 use Rattle.fw_map.proofs.tree.Tree.least_speed.Given as goal
 

@@ -1,5 +1,4 @@
-use Rattle.std.proofs.Common.{sym, ap, ◌∙◌}
-use Rattle.fw_tree.specs.Numbers.{number_at}
+use Rattle.fw_map.proofs.Common.{sym, ap, ◌∙◌, number_at}
 use Rattle.fw_map.proofs.WalkLaws.{has_parent, higher}
 use Rattle.fw_map.proofs.tree.Tree.parent_of.Goals as goal
 

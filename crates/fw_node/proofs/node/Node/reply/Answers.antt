@@ -6,19 +6,24 @@ use Rattle.fw_node.specs.State.{space_of}
 use Rattle.fw_node.specs.contracts.node.Node.{the_view}
 use Rattle.fw_node.proofs.Places.{manager_register_of, manager_asked, plug_register_of, plugs_asked, core_register_of, core_asked, OfCore}
 use Rattle.fw_node.proofs.node.Node.reply.Goals as goal
-use Rattle.fw_node.proofs.node.Node.reply.Goals.{in_default-via-then-offset-lt281474708275740, in_default-via-else-offset-lt281474708275740+else-offset-lt281474708275753+then-offset-lt281474708277504, in_default-via-else-offset-lt281474708275740+else-offset-lt281474708275753+else-offset-lt281474708277504+else-offset-lt281474708277757}
+use Rattle.fw_node.proofs.node.Node.reply.Goals.{in_default-via-then-offset-lt281474708275740, in_default-via-else-offset-lt281474708275740+else-offset-lt281474708275753+then-offset-lt281474708277504}
+use Rattle.fw_node.proofs.node.Node.reply.Goals.{in_default-via-else-offset-lt281474708275740+else-offset-lt281474708275753+else-offset-lt281474708277504+else-offset-lt281474708277757}
 
 pub returns-in-281474708275740-to-281474708275752-clause-reply : goal.returns-in-281474708275740-to-281474708275752-clause-reply
 returns-in-281474708275740-to-281474708275752-clause-reply g c =
-    c.manager_reply.ensures.reply ∙ ap (λ o. reply o (g.R.RegisterRequest.request c.args.r.now)) (manager_register_of (the_view c.self.inside) c.args.self.now c.args.number c.args.now (offset_of (g.R.RegisterRequest.request c.args.r.now)) c.self.view_is (omega arith) (omega arith))
+    c.manager_reply.ensures.reply ∙ ap (λ o. reply o (g.R.RegisterRequest.request c.args.r.now))
+    (manager_register_of (the_view c.self.inside) c.args.self.now c.args.number c.args.now (offset_of (g.R.RegisterRequest.request c.args.r.now)) c.self.view_is (omega arith) (omega arith))
 
 pub returns-in-281474708275740-to-281474708275752-clause-registers : goal.returns-in-281474708275740-to-281474708275752-clause-registers
 returns-in-281474708275740-to-281474708275752-clause-registers g c =
-    manager_asked (the_view c.self.inside) c.args.self.now c.manager_reply.new.manager (g.R.RegisterRequest.request c.args.r.now) c.self.view_is (c.self.invariant.1, c.self.invariant.2) (omega arith) c.manager_reply.ensures.words
+    manager_asked (the_view c.self.inside) c.args.self.now c.manager_reply.new.manager (g.R.RegisterRequest.request c.args.r.now) c.self.view_is (c.self.invariant.1, c.self.invariant.2)
+    (omega arith) c.manager_reply.ensures.words
 
 pub returns-in-281474708277504-to-281474708277756-clause-reply : goal.returns-in-281474708277504-to-281474708277756-clause-reply
 returns-in-281474708277504-to-281474708277756-clause-reply g c =
-    c.answer.ensures.reply ∙ ap (λ o. reply o (g.R.RegisterRequest.request c.args.r.now)) (plug_register_of (the_view c.self.inside) c.args.self.now c.args.number c.args.now (offset_of (g.R.RegisterRequest.request c.args.r.now)) c.self.view_is (c.self.invariant.1, c.self.invariant.2) (omega arith) (omega arith))
+    c.answer.ensures.reply ∙ ap (λ o. reply o (g.R.RegisterRequest.request c.args.r.now))
+    (plug_register_of (the_view c.self.inside) c.args.self.now c.args.number c.args.now (offset_of (g.R.RegisterRequest.request c.args.r.now)) c.self.view_is
+    (c.self.invariant.1, c.self.invariant.2) (omega arith) (omega arith))
 
 pub returns-in-281474708277504-to-281474708277756-clause-registers : goal.returns-in-281474708277504-to-281474708277756-clause-registers
 returns-in-281474708277504-to-281474708277756-clause-registers g c =

@@ -4,7 +4,7 @@ use Rattle.std.proofs.lemmas.List.{drop-drop}
 use Rattle.fw_outside.proofs.Fronts.{reads_front}
 use Rattle.fw_outside.proofs.script_source.ScriptSourceSource.read.Goals as goal
 
--- what was copied is the front of what was left
+-- what was copied is a prefix of what was left
 pub returns-clause-bytes : goal.returns-clause-bytes
 returns-clause-bytes c =
     let n = c.copy_front-count.result in

@@ -1,7 +1,5 @@
-use Rattle.std.proofs.Common.{◌==◌, not, length, refl, ap, ◌∙◌, arith}
-use Rattle.fw_content.specs.declared.counts.Counts.{Counts}
-use Rattle.fw_page.specs.declared.progress.Progress.{Progress}
-use Rattle.fw_content.specs.Counts.{next}
+use Rattle.fw_page.proofs.Common.{◌==◌, not, length, refl, ap, ◌∙◌, arith, Counts, Progress}
+use Rattle.fw_page_content.specs.Counts.{next}
 use Rattle.fw_page.proofs.ResetLaws.{counted_shown, reset_shown}
 use Rattle.fw_page.proofs.progress.Progress.begin.Goals as goal
 

@@ -1,9 +1,5 @@
-use Rattle.std.proofs.Common.{◌-◌, ◌∙◌, codes, ap}
-use Rattle.std.proofs.lemmas.Result.{on_ok_weaker}
+use Rattle.fw_page.proofs.Common.{◌-◌, ◌∙◌, codes, ap, on_ok_weaker, Painted, three, put_as}
 use Rattle.fw_page.specs.Rows.{strip_front}
-use Rattle.fw_strip.specs.Drawing.{Painted}
-use Rattle.fw_section.proofs.ChainLaws.{three}
-use Rattle.fw_content.proofs.TextLaws.{put_as}
 use Rattle.fw_page.proofs.progress.Progress.close_plain.Goals as goal
 
 pub returns : goal.returns

@@ -1,6 +1,6 @@
-use Rattle.std.proofs.Common.{Some, ap, refl, ◌∙◌}
-use Rattle.fw_phrases.specs.Made.{answer_of, made}
-use Rattle.fw_content.specs.Counts.{count_answer}
+use Rattle.fw_page.proofs.Common.{Some, ap, refl, ◌∙◌}
+use Rattle.fw_page_phrases.specs.Made.{answer_of, made}
+use Rattle.fw_page_content.specs.Counts.{count_answer}
 use Rattle.fw_page.proofs.FrameLaws.{counts_shown}
 use Rattle.fw_page.proofs.progress.Progress.count_answer.Goals as goal
 

@@ -1,6 +1,6 @@
-use Rattle.std.proofs.Common.{◌+◌, map, refl, ap, ◌∙◌}
-use Rattle.fw_entry.specs.Network.{first_id}
-use Rattle.fw_phrases.specs.Standing.{given_up}
+use Rattle.fw_page.proofs.Common.{◌+◌, refl, ap, ◌∙◌, first_id}
+use Rattle.std.proofs.Common.{map}
+use Rattle.fw_page_phrases.specs.Standing.{given_up}
 use Rattle.fw_page.proofs.ResetLaws.{died_alone, died_known}
 use Rattle.fw_page.proofs.progress.Progress.die.Goals as goal
 

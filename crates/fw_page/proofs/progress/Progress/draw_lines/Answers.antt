@@ -1,7 +1,5 @@
-use Rattle.std.proofs.Common.{◌≡◌, [], ◌++◌, ap, refl, ◌∙◌}
-use Rattle.std.proofs.lemmas.Result.{on_ok_weaker}
-use Rattle.fw_scene.specs.Lines.{nodes_text, bars}
-use Rattle.fw_page.specs.Sheets.{painted_of}
+use Rattle.fw_page.proofs.Common.{◌≡◌, [], ◌++◌, ap, refl, ◌∙◌, on_ok_weaker, painted_of}
+use Rattle.fw_page_scene.specs.Lines.{nodes_text, bars}
 use Rattle.fw_page.proofs.RowLaws.{nodes_stay, nodes_shown}
 use Rattle.fw_page.proofs.progress.Progress.draw_lines.Goals as goal
 

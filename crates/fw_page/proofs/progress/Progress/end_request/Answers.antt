@@ -1,7 +1,7 @@
-use Rattle.std.proofs.Common.{refl, ◌∙◌}
+use Rattle.fw_page.proofs.Common.{refl, ◌∙◌}
 use Rattle.fw_async.specs.Heads.{head_of}
-use Rattle.fw_phrases.specs.Made.{answer_of}
-use Rattle.fw_phrases.specs.Standing.{standing_for, without}
+use Rattle.fw_page_phrases.specs.Made.{answer_of}
+use Rattle.fw_page_phrases.specs.Standing.{standing_for, without}
 use Rattle.fw_page.proofs.FrameLaws.{ended_shown}
 use Rattle.fw_page.proofs.progress.Progress.end_request.Goals as goal
 

@@ -1,4 +1,4 @@
-use Rattle.std.proofs.Common.{refl}
+use Rattle.fw_page.proofs.Common.{refl}
 use Rattle.fw_page.proofs.FollowedLaws.{follow_shown}
 use Rattle.fw_page.proofs.progress.Progress.follow.Goals as goal
 

@@ -1,13 +1,9 @@
-use Rattle.std.proofs.Common.{◌≡◌, false, refl, ap, subst, ◌∙◌, arith}
-use Rattle.fw_entry.specs.declared.entry.EventEntry.{EventEntry}
-use Rattle.fw_content.specs.declared.counts.Counts.{Counts}
-use Rattle.fw_page.specs.declared.progress.Progress.{Progress}
+use Rattle.fw_page.proofs.Common.{◌≡◌, false, refl, ap, subst, ◌∙◌, arith, Counts, Progress, Shows, State}
+use Rattle.fw_log_entry.specs.declared.entry.EventEntry.{EventEntry}
 use Rattle.fw_page.specs.Events.{died, event_counted}
-use Rattle.fw_content.specs.Counts.{counted_at}
-use Rattle.fw_page.specs.Sheets.{Shows}
-use Rattle.fw_page.specs.State.{State}
-use Rattle.fw_scene.specs.Lives.{after_start, after_loss}
-use Rattle.fw_scene.specs.declared.lives.Devices.{Devices}
+use Rattle.fw_page_content.specs.Counts.{counted_at}
+use Rattle.fw_page_scene.specs.Lives.{after_start, after_loss}
+use Rattle.fw_page_scene.specs.declared.lives.Devices.{Devices}
 use Rattle.fw_page.proofs.EventLaws.{five_first, five_second, five_third, five_fourth, five_other}
 use Rattle.fw_page.proofs.FrameLaws.{counts_shown}
 use Rattle.fw_page.proofs.MovedLaws.{lives_shown, moved_shown, second_shown}

@@ -1,6 +1,5 @@
-use Rattle.std.proofs.Common.{◌≡◌, List, ℕ, length, Some, ap, subst, sym, ◌∙◌, arith}
+use Rattle.fw_page.proofs.Common.{◌≡◌, List, ℕ, length, Some, ap, subst, sym, ◌∙◌, arith, Spells}
 use Rattle.std.proofs.Math.Seq.{take-length}
-use Rattle.fw_async.specs.Reader.{Spells}
 use Rattle.fw_async.specs.declared.reader.Fed.{Fed}
 use Rattle.fw_page.proofs.progress.Progress.kept_packet.Goals as goal
 

@@ -1,8 +1,6 @@
-use Rattle.std.proofs.Common.{not, false, Bool, ap, sym, subst, ◌∙◌}
-use Rattle.std.specs.Option.{is_some}
-use Rattle.fw_scene.specs.Beside.{IsBeside}
-use Rattle.fw_page.specs.declared.progress.Progress.{Progress}
-use Rattle.fw_content.proofs.LedgerLaws.{is_there}
+use Rattle.fw_page.proofs.Common.{not, false, Bool, ap, sym, subst, ◌∙◌, is_some, Progress}
+use Rattle.fw_page_scene.specs.Beside.{IsBeside}
+use Rattle.fw_page_content.proofs.LedgerLaws.{is_there}
 use Rattle.fw_page.proofs.progress.Progress.leave_row.Goals as goal
 
 pub returns-clause-left : goal.returns-clause-left

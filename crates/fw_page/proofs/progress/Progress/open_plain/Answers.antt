@@ -1,8 +1,6 @@
-use Rattle.std.proofs.Common.{◌-◌, ◌∙◌, codes}
-use Rattle.std.proofs.lemmas.Result.{on_ok_weaker}
-use Rattle.fw_content.specs.Heads.{edge_text}
-use Rattle.fw_section.proofs.ChainLaws.{eight}
-use Rattle.fw_content.proofs.TextLaws.{put_as}
+use Rattle.fw_page.proofs.Common.{◌-◌, ◌∙◌, codes, on_ok_weaker, put_as}
+use Rattle.fw_page_content.specs.Heads.{edge_text}
+use Rattle.fw_page_section.proofs.ChainLaws.{eight}
 use Rattle.fw_page.proofs.progress.Progress.open_plain.Goals as goal
 
 pub returns : goal.returns

@@ -1,10 +1,6 @@
-use Rattle.std.proofs.Common.{ap, subst, sym, not, false, ◌∙◌}
-use Rattle.std.specs.Option.{is_some}
-use Rattle.fw_marks.specs.Shapes.{halves}
-use Rattle.fw_scene.specs.Beside.{IsBeside}
-use Rattle.fw_page.specs.declared.progress.Progress.{Progress}
-use Rattle.fw_content.specs.Heads.{front_of}
-use Rattle.fw_content.proofs.TextLaws.{put_as}
+use Rattle.fw_page.proofs.Common.{ap, subst, sym, not, false, ◌∙◌, is_some, Progress, front_of, put_as}
+use Rattle.fw_page_marks.specs.Shapes.{halves}
+use Rattle.fw_page_scene.specs.Beside.{IsBeside}
 use Rattle.fw_page.proofs.RowLaws.{row_said, row_left}
 use Rattle.fw_page.proofs.progress.Progress.put_bare_row.Goals as goal
 

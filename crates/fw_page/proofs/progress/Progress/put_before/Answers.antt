@@ -1,6 +1,4 @@
-use Rattle.std.proofs.Common.{codes, refl}
-use Rattle.std.proofs.lemmas.Result.{on_ok_weaker}
-use Rattle.fw_section.proofs.ChainLaws.{three}
+use Rattle.fw_page.proofs.Common.{codes, refl, on_ok_weaker, three}
 use Rattle.fw_page.proofs.PlainLaws.{before_none, before_done}
 use Rattle.fw_page.proofs.progress.Progress.put_before.Goals as goal
 

@@ -1,6 +1,5 @@
-use Rattle.std.proofs.Common.{codes, refl}
-use Rattle.fw_section.proofs.ChainLaws.{three}
-use Rattle.fw_page.specs.Rows.{plain_front, plain_back, due_words}
+use Rattle.fw_page.proofs.Common.{codes, refl, three, plain_front}
+use Rattle.fw_page.specs.Rows.{plain_back, due_words}
 use Rattle.fw_page.proofs.PlainLaws.{due_none, due_done}
 use Rattle.fw_page.proofs.progress.Progress.put_due.Goals as goal
 

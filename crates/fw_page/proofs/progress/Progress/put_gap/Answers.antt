@@ -1,4 +1,4 @@
-use Rattle.std.proofs.Common.{◌++◌, ◌-◌, ap, refl, ◌∙◌}
+use Rattle.fw_page.proofs.Common.{◌++◌, ◌-◌, ap, refl, ◌∙◌}
 use Rattle.fw_page.specs.Rows.{gap_text}
 use Rattle.fw_page.proofs.FrameLaws.{last_shown}
 use Rattle.fw_page.proofs.progress.Progress.put_gap.Goals as goal

@@ -1,11 +1,8 @@
-use Rattle.std.proofs.Common.{[], ◌++◌, sym, ap, ◌∙◌, arith}
-use Rattle.std.proofs.lemmas.List.{append-nil}
-use Rattle.std.proofs.lemmas.Result.{on_ok_weaker}
-use Rattle.fw_marks.specs.Places.{node_of}
-use Rattle.fw_content.specs.Leaving.{dropped_by, left_text, not_taken_text}
-use Rattle.fw_section.proofs.ChainLaws.{two}
+use Rattle.fw_page.proofs.Common.{[], ◌++◌, sym, ap, ◌∙◌, arith, append-nil, on_ok_weaker, put_as}
+use Rattle.fw_page_marks.specs.Places.{node_of}
+use Rattle.fw_page_content.specs.Leaving.{dropped_by, left_text, not_taken_text}
+use Rattle.fw_page_section.proofs.ChainLaws.{two}
 use Rattle.fw_page.proofs.EventLaws.{three_first, three_second, three_other}
-use Rattle.fw_content.proofs.TextLaws.{put_as}
 use Rattle.fw_page.proofs.progress.Progress.put_more.Goals as goal
 
 pub returns-in-1 : goal.returns-in-1

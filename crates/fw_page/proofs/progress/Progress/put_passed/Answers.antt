@@ -1,6 +1,5 @@
-use Rattle.std.proofs.Common.{◌≡◌, [], ◌++◌}
-use Rattle.std.proofs.lemmas.Result.{on_ok_weaker}
-use Rattle.fw_page.specs.Rows.{plain_front, gap_class}
+use Rattle.fw_page.proofs.Common.{◌≡◌, [], ◌++◌, on_ok_weaker, plain_front}
+use Rattle.fw_page.specs.Rows.{gap_class}
 use Rattle.fw_page.proofs.PlainLaws.{gap_none, gap_said}
 use Rattle.fw_page.proofs.progress.Progress.put_passed.Goals as goal
 

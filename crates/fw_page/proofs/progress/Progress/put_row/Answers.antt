@@ -1,7 +1,5 @@
-use Rattle.std.proofs.lemmas.Result.{on_ok_weaker}
-use Rattle.fw_page.specs.State.{then_do}
+use Rattle.fw_page.proofs.Common.{on_ok_weaker, then_do, front_of}
 use Rattle.fw_page.specs.Rows.{gap, bare_row, due}
-use Rattle.fw_content.specs.Heads.{front_of}
 use Rattle.fw_page.proofs.StepLaws.{moves_more}
 use Rattle.fw_page.proofs.progress.Progress.put_row.Goals as goal
 

@@ -1,15 +1,9 @@
-use Rattle.std.proofs.Common.{◌++◌, not, codes, ap, refl}
-use Rattle.std.specs.Option.{is_some}
-use Rattle.std.proofs.lemmas.Result.{on_ok_weaker}
-use Rattle.fw_marks.specs.Shapes.{halves}
-use Rattle.fw_section.proofs.ChainLaws.{three}
-use Rattle.fw_strip.specs.Drawing.{Painted}
-use Rattle.fw_strip.specs.Labels.{labels, dot_text}
-use Rattle.fw_strip.specs.Lanes.{lanes}
+use Rattle.fw_page.proofs.Common.{◌++◌, not, codes, ap, refl, is_some, on_ok_weaker, three, Painted, painted_of, put_as}
+use Rattle.fw_page_marks.specs.Shapes.{halves}
+use Rattle.fw_page_strip.specs.Labels.{labels, dot_text}
+use Rattle.fw_page_strip.specs.Lanes.{lanes}
 use Rattle.fw_page.specs.Rows.{strip_front}
-use Rattle.fw_page.specs.Sheets.{painted_of}
-use Rattle.fw_content.proofs.LedgerLaws.{is_there}
-use Rattle.fw_content.proofs.TextLaws.{put_as}
+use Rattle.fw_page_content.proofs.LedgerLaws.{is_there}
 use Rattle.fw_page.proofs.RowLaws.{strip_stays}
 use Rattle.fw_page.proofs.progress.Progress.put_strip.Goals as goal
 

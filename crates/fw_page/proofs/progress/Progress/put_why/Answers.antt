@@ -1,9 +1,8 @@
-use Rattle.std.proofs.Common.{◌≡◌, ◌++◌, [], codes, ap, sym}
-use Rattle.std.proofs.lemmas.Result.{on_ok_weaker}
-use Rattle.fw_phrases.specs.Notes.{break_text}
-use Rattle.fw_section.proofs.ChainLaws.{two, three}
-use Rattle.fw_page.specs.State.{State, becomes, says, then_do}
-use Rattle.fw_page.specs.Rows.{before, plain, plain_front, plain_back}
+use Rattle.fw_page.proofs.Common.{◌≡◌, ◌++◌, [], codes, ap, sym, on_ok_weaker, three, State, becomes, then_do, plain_front}
+use Rattle.fw_page_phrases.specs.Notes.{break_text}
+use Rattle.fw_page_section.proofs.ChainLaws.{two}
+use Rattle.fw_page.specs.State.{says}
+use Rattle.fw_page.specs.Rows.{before, plain, plain_back}
 use Rattle.fw_page.specs.Ends.{why}
 use Rattle.fw_page.proofs.StepLaws.{moves_as, moves_none, moves_more, on_ok_states}
 use Rattle.fw_page.proofs.progress.Progress.put_why.Goals as goal

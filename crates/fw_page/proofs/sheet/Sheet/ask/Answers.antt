@@ -1,9 +1,7 @@
-use Rattle.std.proofs.Common.{ℕ, List, ◌++◌, ◌∙◌, ap, sym, refl, subst}
-use Rattle.fw_async.specs.Reader.{Spells}
-use Rattle.fw_entry.specs.Log.{body}
-use Rattle.fw_entry.specs.declared.entry.Entry.TheVariants.{Async}
-use Rattle.fw_page.specs.State.{Asks, with_entry}
-use Rattle.fw_phrases.specs.Standing.{with_request}
+use Rattle.fw_page.proofs.Common.{ℕ, List, ◌++◌, ◌∙◌, ap, sym, refl, subst, Spells, Asks, with_entry}
+use Rattle.fw_log_entry.specs.Log.{body}
+use Rattle.fw_log_entry.specs.declared.entry.Entry.TheVariants.{Async}
+use Rattle.fw_page_phrases.specs.Standing.{with_request}
 use Rattle.fw_page.proofs.StepLaws.{moves_silent}
 use Rattle.fw_page.proofs.FrameLaws.{standing_shown, asked_shown}
 use Rattle.fw_page.proofs.sheet.Sheet.ask.Goals as goal

@@ -1,6 +1,5 @@
-use Rattle.std.proofs.Common.{◌∙◌, ap, refl}
-use Rattle.fw_phrases.specs.Runs.{run_from}
-use Rattle.fw_page.specs.State.{becomes}
+use Rattle.fw_page.proofs.Common.{◌∙◌, ap, refl, becomes}
+use Rattle.fw_page_phrases.specs.Runs.{run_from}
 use Rattle.fw_page.specs.Pieces.{released_in_section, run_begun}
 use Rattle.fw_page.proofs.StepLaws.{moves_more, moves_silent}
 use Rattle.fw_page.proofs.FrameLaws.{run_shown}

@@ -1,10 +1,8 @@
-use Rattle.std.proofs.Common.{codes, sym, ◌∙◌}
-use Rattle.std.proofs.lemmas.Result.{on_ok_weaker}
-use Rattle.fw_page.specs.State.{becomes, says, then_do}
+use Rattle.fw_page.proofs.Common.{codes, sym, ◌∙◌, on_ok_weaker, becomes, then_do, yes, no}
+use Rattle.fw_page.specs.State.{says}
 use Rattle.fw_page.specs.Rows.{gap}
 use Rattle.fw_page.specs.Resets.{drops, closed}
 use Rattle.fw_page.proofs.StepLaws.{moves_as, moves_none, moves_more}
-use Rattle.fw_content.proofs.TextLaws.{yes, no}
 use Rattle.fw_page.proofs.sheet.Sheet.close_section.Goals as goal
 
 pub returns-then-not-self : goal.returns-then-not-self

@@ -1,5 +1,6 @@
-use Rattle.std.proofs.Common.{◌==◌, ◌&&◌, ap, sym, ◌∙◌}
-use Rattle.fw_phrases.specs.Made.{is_answer}
+use Rattle.fw_page.proofs.Common.{◌==◌, ap, sym, ◌∙◌}
+use Rattle.std.proofs.Common.{◌&&◌}
+use Rattle.fw_page_phrases.specs.Made.{is_answer}
 use Rattle.fw_page.proofs.HeldLaws.{none_held_for, asks_answered, asks_not_answered}
 use Rattle.fw_page.proofs.sheet.Sheet.held_for.Goals as goal
 

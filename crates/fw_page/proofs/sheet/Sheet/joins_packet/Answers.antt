@@ -1,6 +1,5 @@
-use Rattle.std.proofs.Common.{ap, ◌∙◌}
-use Rattle.fw_phrases.specs.Runs.{joins_packet}
-use Rattle.fw_phrases.specs.declared.run.Run.{Run}
+use Rattle.fw_page.proofs.Common.{ap, ◌∙◌, Run}
+use Rattle.fw_page_phrases.specs.Runs.{joins_packet}
 use Rattle.fw_page.proofs.HeldLaws.{run_joins_packet, none_joins_packet}
 use Rattle.fw_page.proofs.sheet.Sheet.joins_packet.Goals as goal
 

@@ -1,7 +1,5 @@
-use Rattle.std.proofs.Common.{◌==◌, ◌++◌, ap, ◌∙◌}
+use Rattle.fw_page.proofs.Common.{◌==◌, ◌++◌, ap, ◌∙◌, Painted, Counts}
 use Rattle.std.specs.Prelude.{List, ℕ}
-use Rattle.fw_strip.specs.Drawing.{Painted}
-use Rattle.fw_content.specs.declared.counts.Counts.{Counts}
 use Rattle.fw_page.specs.Rows.{lines_now}
 use Rattle.fw_page.specs.Resets.{reset_state}
 use Rattle.fw_page.proofs.ResetLaws.{same_section, lines_left}
@@ -11,7 +9,7 @@ pub returns : goal.returns
 returns c = λ st h.
     let b = c.begin-before.ensures.shows st h in
     let d = c.in_ok-draw_lines.ensures.draws (reset_state c.args.e.now st) b in (
-      c.in_ok-put_section.ensures ∙ ap (λ (x : List ℕ). c.args.self.now.text.items ++ x)
+      c.in_ok-put.ensures ∙ ap (λ (x : List ℕ). c.args.self.now.text.items ++ x)
           (same_section c.args.e.now _ _ _ _ _ _ st.counts.resets st.number c.args.t.now.cycle st.drawn.lanes b.nodes (c.begin-before.ensures.before
           ∙ h.nodes) (ap (λ (n : Counts). n.resets == 0) h.counts) b.number
           (c.lanes.ensures ∙ ap (λ (p : Painted). p.lanes) b.painted)),

@@ -1,7 +1,6 @@
-use Rattle.std.proofs.Common.{◌≡◌, true, codes, None, ap, ◌∙◌}
-use Rattle.fw_content.specs.Heads.{front_of, request_front}
+use Rattle.fw_page.proofs.Common.{◌≡◌, true, codes, None, ap, ◌∙◌, front_of, request_front}
 use Rattle.fw_page.specs.Requests.{alone}
-use Rattle.fw_content.specs.Exchanges.{alone_marks, alone_words}
+use Rattle.fw_page_content.specs.Exchanges.{alone_marks, alone_words}
 use Rattle.fw_page.proofs.DoneLaws.{row_done}
 use Rattle.fw_page.proofs.RowLaws.{row_same, gathered}
 use Rattle.fw_page.proofs.sheet.Sheet.put_alone.Goals as goal

@@ -1,9 +1,7 @@
-use Rattle.std.proofs.Common.{◌+◌, ◌∙◌, ℕ, codes, ap, Option, Some, None}
-use Rattle.fw_entry.specs.Network.{first_id}
-use Rattle.fw_marks.specs.Places.{device_of}
-use Rattle.fw_phrases.specs.declared.run.Run.{Run}
-use Rattle.fw_content.specs.Heads.{Front, front_of, further_front}
-use Rattle.fw_page.specs.Streams.{channel_row, flow_marks}
+use Rattle.fw_page.proofs.Common.{◌+◌, ◌∙◌, ℕ, codes, ap, Option, Some, None, first_id, Run, Front, front_of, channel_row}
+use Rattle.fw_page_marks.specs.Places.{device_of}
+use Rattle.fw_page_content.specs.Heads.{further_front}
+use Rattle.fw_page.specs.Streams.{flow_marks}
 use Rattle.fw_page.proofs.DoneLaws.{row_done}
 use Rattle.fw_page.proofs.RowLaws.{row_same, gathered}
 use Rattle.fw_page.proofs.sheet.Sheet.put_channel.Goals as goal

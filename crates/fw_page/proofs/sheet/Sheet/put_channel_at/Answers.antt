@@ -1,8 +1,5 @@
-use Rattle.std.proofs.Common.{◌≡◌, None, Some, ap, sym, ◌∙◌}
-use Rattle.fw_phrases.specs.Runs.{flow_at}
-use Rattle.fw_phrases.specs.declared.run.Run.{Run}
-use Rattle.fw_page.specs.State.{becomes}
-use Rattle.fw_page.specs.Streams.{channel_row}
+use Rattle.fw_page.proofs.Common.{◌≡◌, None, Some, ap, sym, ◌∙◌, Run, becomes, channel_row}
+use Rattle.fw_page_phrases.specs.Runs.{flow_at}
 use Rattle.fw_page.proofs.DoneLaws.{done_as}
 use Rattle.fw_page.proofs.StepLaws.{moves_as, moves_none}
 use Rattle.fw_page.proofs.sheet.Sheet.put_channel_at.Goals as goal

@@ -1,9 +1,6 @@
-use Rattle.std.proofs.Common.{◌-◌, ◌∙◌, codes, ap, false, None}
-use Rattle.std.proofs.lemmas.Result.{on_ok_weaker}
-use Rattle.fw_content.specs.Heads.{request_front, front_of}
+use Rattle.fw_page.proofs.Common.{◌-◌, ◌∙◌, codes, ap, false, None, on_ok_weaker, request_front, front_of, row}
 use Rattle.fw_page.specs.Resets.{drop_row}
-use Rattle.fw_content.specs.Exchanges.{dropped_marks}
-use Rattle.fw_page.specs.Rows.{row}
+use Rattle.fw_page_content.specs.Exchanges.{dropped_marks}
 use Rattle.fw_page.proofs.StepLaws.{moves_as}
 use Rattle.fw_page.proofs.RowLaws.{row_same, gathered}
 use Rattle.fw_page.proofs.sheet.Sheet.put_drop.Goals as goal

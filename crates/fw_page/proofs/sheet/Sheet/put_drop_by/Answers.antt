@@ -1,9 +1,6 @@
-use Rattle.std.proofs.Common.{◌-◌}
-use Rattle.std.proofs.lemmas.Result.{on_ok_weaker}
+use Rattle.fw_page.proofs.Common.{◌-◌, on_ok_weaker, becomes, yes, no}
 use Rattle.fw_page.specs.Resets.{drop_by, drop_row}
-use Rattle.fw_page.specs.State.{becomes}
 use Rattle.fw_page.proofs.StepLaws.{moves_as, moves_none}
-use Rattle.fw_content.proofs.TextLaws.{yes, no}
 use Rattle.fw_page.proofs.sheet.Sheet.put_drop_by.Goals as goal
 
 pub returns-then-not-s-clause-does : goal.returns-then-not-s-clause-does

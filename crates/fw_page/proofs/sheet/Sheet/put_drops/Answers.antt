@@ -1,5 +1,5 @@
-use Rattle.std.proofs.Common.{List, drop, slice_get, sym, refl, ap, ◌∙◌}
-use Rattle.fw_phrases.specs.declared.standing.Standing.{Standing}
+use Rattle.fw_page.proofs.Common.{List, sym, refl, ap, ◌∙◌, Standing}
+use Rattle.std.proofs.Common.{drop, slice_get}
 use Rattle.fw_page.proofs.DropLaws.{none_dropped, one_dropped, all_dropped, fewer, not_some}
 use Rattle.fw_page.proofs.sheet.Sheet.put_drops.Goals as goal
 

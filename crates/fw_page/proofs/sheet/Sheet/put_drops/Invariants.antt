@@ -1,6 +1,4 @@
-use Rattle.std.proofs.Common.{length}
-use Rattle.fw_page.specs.State.{State}
-use Rattle.fw_page.specs.Sheets.{Shows}
+use Rattle.fw_page.proofs.Common.{length, State, Shows}
 use Rattle.fw_page.proofs.DropLaws.{Dropping}
 use Rattle.fw_page.proofs.sheet.Sheet.put_drops.Given as goal
 

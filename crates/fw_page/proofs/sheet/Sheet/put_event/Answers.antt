@@ -1,12 +1,8 @@
-use Rattle.std.proofs.Common.{◌∙◌, [], codes, ap, None}
-use Rattle.fw_entry.specs.declared.entry.Entry.TheVariants.{Event}
-use Rattle.fw_marks.specs.Places.{place_of_device}
-use Rattle.fw_section.proofs.ChainLaws.{three}
+use Rattle.fw_page.proofs.Common.{◌∙◌, [], codes, ap, None, three, front_of, own_front, Shows, State, with_entry}
+use Rattle.fw_log_entry.specs.declared.entry.Entry.TheVariants.{Event}
+use Rattle.fw_page_marks.specs.Places.{place_of_device}
 use Rattle.fw_page.specs.Events.{event_counted, event_row, happened, more_text}
-use Rattle.fw_content.specs.Sayings.{event_front, event_symbol, symbol_marks}
-use Rattle.fw_content.specs.Heads.{front_of, own_front}
-use Rattle.fw_page.specs.Sheets.{Shows}
-use Rattle.fw_page.specs.State.{State, with_entry}
+use Rattle.fw_page_content.specs.Sayings.{event_front, event_symbol, symbol_marks}
 use Rattle.fw_page.proofs.DoneLaws.{row_after, follow_as, happened_number}
 use Rattle.fw_page.proofs.RowLaws.{row_same, gathered}
 use Rattle.fw_page.proofs.sheet.Sheet.put_event.Goals as goal

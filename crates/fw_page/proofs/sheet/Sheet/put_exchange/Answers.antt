@@ -1,10 +1,7 @@
-use Rattle.std.proofs.Common.{◌≡◌, ◌∙◌, true, false, [], ap, Some, None}
-use Rattle.fw_phrases.specs.Made.{told_of}
-use Rattle.fw_page.specs.Requests.{answered, ended, exchange}
-use Rattle.fw_content.specs.Exchanges.{exchange_marks, exchange_words}
-use Rattle.fw_content.specs.Heads.{request_front, front_of}
-use Rattle.fw_page.specs.Sheets.{Shows}
-use Rattle.fw_page.specs.State.{State}
+use Rattle.fw_page.proofs.Common.{◌≡◌, ◌∙◌, true, false, [], ap, Some, None, exchange, request_front, front_of, Shows, State}
+use Rattle.fw_page_phrases.specs.Made.{told_of}
+use Rattle.fw_page.specs.Requests.{answered, ended}
+use Rattle.fw_page_content.specs.Exchanges.{exchange_marks, exchange_words}
 use Rattle.fw_page.proofs.DoneLaws.{row_after}
 use Rattle.fw_page.proofs.RowLaws.{row_same, gathered}
 use Rattle.fw_page.proofs.sheet.Sheet.put_exchange.Goals as goal

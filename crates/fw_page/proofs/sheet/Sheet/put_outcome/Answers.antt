@@ -1,12 +1,8 @@
-use Rattle.std.proofs.Common.{◌∙◌, codes, ap, refl, Some, None}
-use Rattle.fw_marks.specs.Places.{place_of_device}
-use Rattle.fw_content.specs.declared.counts.Counts.{Counts}
+use Rattle.fw_page.proofs.Common.{◌∙◌, codes, ap, refl, Some, None, Counts, front_of, own_front, Shows, State}
+use Rattle.fw_page_marks.specs.Places.{place_of_device}
 use Rattle.fw_page.specs.Events.{outcome_row}
-use Rattle.fw_content.specs.Counts.{counted_at}
-use Rattle.fw_content.specs.Sayings.{outcome_symbol, symbol_marks}
-use Rattle.fw_content.specs.Heads.{front_of, own_front}
-use Rattle.fw_page.specs.Sheets.{Shows}
-use Rattle.fw_page.specs.State.{State}
+use Rattle.fw_page_content.specs.Counts.{counted_at}
+use Rattle.fw_page_content.specs.Sayings.{outcome_symbol, symbol_marks}
 use Rattle.fw_page.proofs.DoneLaws.{row_after}
 use Rattle.fw_page.proofs.FrameLaws.{counts_shown}
 use Rattle.fw_page.proofs.RowLaws.{row_same, gathered}

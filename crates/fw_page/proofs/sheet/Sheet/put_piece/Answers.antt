@@ -1,5 +1,5 @@
-use Rattle.std.proofs.Common.{ap, sym, ◌∙◌}
-use Rattle.fw_entry.specs.declared.entry.Entry.TheVariants.{Reset, Outcome, End}
+use Rattle.fw_page.proofs.Common.{ap, sym, ◌∙◌}
+use Rattle.fw_log_entry.specs.declared.entry.Entry.TheVariants.{Reset, Outcome, End}
 use Rattle.fw_page.proofs.DoneLaws.{iso_channel, iso_done, entry_done}
 use Rattle.fw_page.proofs.sheet.Sheet.put_piece.Goals as goal
 

@@ -1,5 +1,4 @@
-use Rattle.std.proofs.Common.{◌==◌, refl}
-use Rattle.std.proofs.lemmas.Result.{on_ok_weaker}
+use Rattle.fw_page.proofs.Common.{◌==◌, refl, on_ok_weaker}
 use Rattle.fw_page.proofs.ResetLaws.{reset_done}
 use Rattle.fw_page.proofs.sheet.Sheet.put_reset.Goals as goal
 

@@ -1,10 +1,8 @@
-use Rattle.std.proofs.Common.{◌∙◌, [], codes, None, ap}
-use Rattle.std.proofs.lemmas.Result.{on_ok_weaker}
-use Rattle.fw_section.proofs.ChainLaws.{two}
-use Rattle.fw_page.specs.Rows.{row}
-use Rattle.fw_content.specs.Heads.{front_of, further_front}
+use Rattle.fw_page.proofs.Common.{◌∙◌, [], codes, None, ap, on_ok_weaker, row, front_of}
+use Rattle.fw_page_section.proofs.ChainLaws.{two}
+use Rattle.fw_page_content.specs.Heads.{further_front}
 use Rattle.fw_page.specs.Resets.{reset_row}
-use Rattle.fw_content.specs.Kept.{account_text}
+use Rattle.fw_page_content.specs.Kept.{account_text}
 use Rattle.fw_page.proofs.StepLaws.{moves_as}
 use Rattle.fw_page.proofs.RowLaws.{row_same, gathered}
 use Rattle.fw_page.proofs.sheet.Sheet.put_reset_row.Goals as goal

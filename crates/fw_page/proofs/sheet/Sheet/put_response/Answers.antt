@@ -1,9 +1,8 @@
-use Rattle.std.proofs.Common.{true, ap, ◌∙◌}
+use Rattle.fw_page.proofs.Common.{true, ap, ◌∙◌, on_ok_weaker, front_of, own_front}
 use Rattle.std.specs.Option.{option_map}
-use Rattle.std.proofs.lemmas.Result.{on_ok_weaker}
-use Rattle.fw_phrases.specs.Asking.{class_of}
-use Rattle.fw_content.specs.Exchanges.{answer_marks, answer_words, request_of}
-use Rattle.fw_content.specs.Heads.{devices_of, front_of, own_front}
+use Rattle.fw_page_phrases.specs.Asking.{class_of}
+use Rattle.fw_page_content.specs.Exchanges.{answer_marks, answer_words, request_of}
+use Rattle.fw_page_content.specs.Heads.{devices_of}
 use Rattle.fw_page.proofs.AnswerLaws.{answered_still, answer_done}
 use Rattle.fw_page.proofs.RowLaws.{gathered}
 use Rattle.fw_page.proofs.sheet.Sheet.put_response.Goals as goal

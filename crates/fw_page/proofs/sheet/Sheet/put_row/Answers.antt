@@ -1,6 +1,4 @@
-use Rattle.std.proofs.Common.{refl}
-use Rattle.fw_page.specs.Rows.{row}
-use Rattle.fw_content.specs.Heads.{front_of}
+use Rattle.fw_page.proofs.Common.{refl, row, front_of}
 use Rattle.fw_page.proofs.DoneLaws.{row_done}
 use Rattle.fw_page.proofs.RowLaws.{row_same}
 use Rattle.fw_page.proofs.sheet.Sheet.put_row.Goals as goal

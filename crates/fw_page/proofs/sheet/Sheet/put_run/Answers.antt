@@ -1,8 +1,6 @@
-use Rattle.std.proofs.Common.{◌≡◌, ◌+◌, ℕ, refl, ap, sym, ◌∙◌, arith}
-use Rattle.fw_phrases.specs.Runs.{flow_at}
-use Rattle.fw_phrases.specs.declared.run.Run.{Run}
-use Rattle.fw_page.specs.State.{becomes, then_do}
-use Rattle.fw_page.specs.Streams.{starts, channel_row, channel_rows}
+use Rattle.fw_page.proofs.Common.{◌≡◌, ◌+◌, ℕ, refl, ap, sym, ◌∙◌, arith, Run, becomes, then_do, channel_row}
+use Rattle.fw_page_phrases.specs.Runs.{flow_at}
+use Rattle.fw_page.specs.Streams.{starts, channel_rows}
 use Rattle.fw_page.proofs.StepLaws.{moves_as, moves_none, moves_more, moves_silent}
 use Rattle.fw_page.proofs.RunLaws.{last_as}
 use Rattle.fw_page.proofs.LoopLaws.{no_rows, more_rows}

@@ -1,5 +1,4 @@
-use Rattle.std.proofs.Common.{◌≡◌}
-use Rattle.fw_page.specs.Sheets.{Moves}
+use Rattle.fw_page.proofs.Common.{◌≡◌, Moves}
 use Rattle.fw_page.specs.Streams.{channel_rows}
 use Rattle.fw_page.proofs.sheet.Sheet.put_run.Given as goal
 

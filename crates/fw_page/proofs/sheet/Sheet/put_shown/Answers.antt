@@ -1,10 +1,8 @@
-use Rattle.std.proofs.Common.{◌∙◌, codes, ap, Some, None}
-use Rattle.fw_entry.specs.declared.entry.Entry.TheVariants.{Shown}
-use Rattle.fw_marks.specs.Places.{place_of_device}
+use Rattle.fw_page.proofs.Common.{◌∙◌, codes, ap, Some, None, front_of, own_front, with_entry}
+use Rattle.fw_log_entry.specs.declared.entry.Entry.TheVariants.{Shown}
+use Rattle.fw_page_marks.specs.Places.{place_of_device}
 use Rattle.fw_page.specs.Events.{shown_row}
-use Rattle.fw_content.specs.Sayings.{symbol_marks}
-use Rattle.fw_content.specs.Heads.{front_of, own_front}
-use Rattle.fw_page.specs.State.{with_entry}
+use Rattle.fw_page_content.specs.Sayings.{symbol_marks}
 use Rattle.fw_page.proofs.DoneLaws.{row_after, follow_as}
 use Rattle.fw_page.proofs.RowLaws.{row_same, gathered}
 use Rattle.fw_page.proofs.sheet.Sheet.put_shown.Goals as goal

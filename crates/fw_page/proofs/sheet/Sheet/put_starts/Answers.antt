@@ -1,6 +1,4 @@
-use Rattle.std.proofs.Common.{◌∙◌, codes, Option, None, ℕ, ap}
-use Rattle.fw_phrases.specs.declared.run.Run.{Run}
-use Rattle.fw_content.specs.Heads.{Front, front_of, own_front}
+use Rattle.fw_page.proofs.Common.{◌∙◌, codes, Option, None, ℕ, ap, Run, Front, front_of, own_front}
 use Rattle.fw_page.specs.Streams.{starter, starts, starts_marks}
 use Rattle.fw_page.proofs.DoneLaws.{row_done}
 use Rattle.fw_page.proofs.RowLaws.{row_same, gathered}

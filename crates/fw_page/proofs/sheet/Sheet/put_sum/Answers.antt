@@ -1,9 +1,6 @@
-use Rattle.std.proofs.Common.{◌≡◌, codes, ap, ◌∙◌}
-use Rattle.std.proofs.lemmas.Result.{on_ok_weaker}
-use Rattle.fw_section.proofs.ChainLaws.{six}
-use Rattle.fw_content.specs.declared.counts.Counts.{Counts}
-use Rattle.fw_content.specs.Sums.{entries_text, answers_text, kinds_text, account_text}
-use Rattle.fw_content.proofs.TextLaws.{put_as}
+use Rattle.fw_page.proofs.Common.{◌≡◌, codes, ap, ◌∙◌, on_ok_weaker, Counts, put_as}
+use Rattle.fw_page_section.proofs.ChainLaws.{six}
+use Rattle.fw_page_content.specs.Sums.{entries_text, answers_text, kinds_text, account_text}
 use Rattle.fw_page.proofs.sheet.Sheet.put_sum.Goals as goal
 
 pub returns : goal.returns

@@ -1,4 +1,4 @@
-use Rattle.std.proofs.Common.{refl}
+use Rattle.fw_page.proofs.Common.{refl}
 use Rattle.fw_page.proofs.DoneLaws.{alone_done, cycles_done}
 use Rattle.fw_page.proofs.ReleaseLaws.{release_none}
 use Rattle.fw_page.proofs.sheet.Sheet.release.Goals as goal

@@ -1,6 +1,5 @@
-use Rattle.std.proofs.Common.{refl, ap, ◌∙◌}
-use Rattle.fw_page.specs.State.{becomes}
-use Rattle.fw_content.specs.Counts.{next}
+use Rattle.fw_page.proofs.Common.{refl, ap, ◌∙◌, becomes}
+use Rattle.fw_page_content.specs.Counts.{next}
 use Rattle.fw_page.specs.Pieces.{piece_of}
 use Rattle.fw_page.proofs.StepLaws.{moves_more, moves_silent}
 use Rattle.fw_page.proofs.FrameLaws.{number_shown}

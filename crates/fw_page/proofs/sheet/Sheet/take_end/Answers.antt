@@ -1,6 +1,5 @@
-use Rattle.std.proofs.Common.{◌∙◌, codes, ap, None}
+use Rattle.fw_page.proofs.Common.{◌∙◌, codes, ap, None, front_of, own_front}
 use Rattle.fw_page.specs.Events.{end_row}
-use Rattle.fw_content.specs.Heads.{front_of, own_front}
 use Rattle.fw_page.proofs.DoneLaws.{row_done, end_done}
 use Rattle.fw_page.proofs.RowLaws.{row_same, gathered}
 use Rattle.fw_page.proofs.sheet.Sheet.take_end.Goals as goal

@@ -1,5 +1,5 @@
-use Rattle.std.proofs.Common.{refl, ap, ◌∙◌}
-use Rattle.fw_phrases.specs.Runs.{with_packet}
+use Rattle.fw_page.proofs.Common.{refl, ap, ◌∙◌}
+use Rattle.fw_page_phrases.specs.Runs.{with_packet}
 use Rattle.fw_page.specs.Streams.{packet_joins}
 use Rattle.fw_page.proofs.ReleaseLaws.{streams}
 use Rattle.fw_page.proofs.sheet.Sheet.take_iso.Goals as goal

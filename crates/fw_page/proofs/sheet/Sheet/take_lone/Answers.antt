@@ -1,4 +1,4 @@
-use Rattle.std.proofs.Common.{ap, sym, ◌∙◌}
+use Rattle.fw_page.proofs.Common.{ap, sym, ◌∙◌}
 use Rattle.fw_async.specs.declared.packet.Head.{Head}
 use Rattle.fw_page.proofs.DoneLaws.{asked_done, answered_done, start_done}
 use Rattle.fw_page.proofs.HeldLaws.{lone_is, lone_start}

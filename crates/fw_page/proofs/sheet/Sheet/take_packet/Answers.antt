@@ -1,4 +1,4 @@
-use Rattle.std.proofs.Common.{sym, ◌∙◌}
+use Rattle.fw_page.proofs.Common.{sym, ◌∙◌}
 use Rattle.fw_page.proofs.DoneLaws.{exchange_done, lone_done}
 use Rattle.fw_page.proofs.sheet.Sheet.take_packet.Goals as goal
 

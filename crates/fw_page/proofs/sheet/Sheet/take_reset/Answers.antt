@@ -1,5 +1,5 @@
-use Rattle.std.proofs.Common.{◌∙◌}
-use Rattle.fw_content.specs.Kept.{orphans}
+use Rattle.fw_page.proofs.Common.{◌∙◌}
+use Rattle.fw_page_content.specs.Kept.{orphans}
 use Rattle.fw_page.proofs.DoneLaws.{reset_entry_done}
 use Rattle.fw_page.proofs.RowLaws.{gathered}
 use Rattle.fw_page.proofs.sheet.Sheet.take_reset.Goals as goal

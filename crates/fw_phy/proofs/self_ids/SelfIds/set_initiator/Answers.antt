@@ -6,7 +6,8 @@ use Rattle.fw_phy.specs.Phy.{begun_by}
 use Rattle.fw_phy.proofs.self_ids.SelfIds.set_initiator.Goals as goal
 
 -- one packet more is written
-one_more : (f : PhyPacket → PhyPacket) (xs ys : List PhyPacket) (i : ℕ) (d y : PhyPacket) → i < length xs → length ys ≡ length xs → ys ≡ map f (take i xs) ++ drop i xs → y ≡ f (get_or ys i d) → slice_set ys i y ≡ map f (take (i + 1) xs) ++ drop (i + 1) xs
+one_more : (f : PhyPacket → PhyPacket) (xs ys : List PhyPacket) (i : ℕ) (d y : PhyPacket) → i < length xs → length ys ≡ length xs → ys ≡ map f (take i xs) ++ drop i xs → y ≡ f (get_or ys i d)
+    → slice_set ys i y ≡ map f (take (i + 1) xs) ++ drop (i + 1) xs
 one_more f xs ys i d y low size h e = ap (slice_set ys i) e ∙ map_over_more f xs ys i (get_or ys i d) low h (get_or_default ys i d (get_or ys i d) (omega arith))
 
 pub loop-packet-preserved : goal.loop-packet-preserved

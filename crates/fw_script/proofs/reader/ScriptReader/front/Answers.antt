@@ -9,7 +9,15 @@ use Rattle.fw_script.proofs.reader.ScriptReader.front.Goals as goal
 pub returns-clause-stands : goal.returns-clause-stands
 returns-clause-stands c =
     let r = c.self.inside in
-    let p : Reading = record { rest = drop r.at r.bytes.items; whole = r.whole; before = r.before; line = r.line; stage = r.stage; text = take r.text.length (drop r.text.at r.bytes.items); end = r.end } in
+    let p : Reading = record {
+      rest = drop r.at r.bytes.items;
+      whole = r.whole;
+      before = r.before;
+      line = r.line;
+      stage = r.stage;
+      text = take r.text.length (drop r.text.at r.bytes.items);
+      end = r.end;
+    } in
     let f : IsFront (drop r.at c.deref.result.now) (1048576 - r.before) r.whole c.front_of.result =
     subst (λ (l : List ℕ). IsFront l (1048576 - r.before) r.whole c.front_of.result) (take_rest c.deref.result.now r.at) c.front_of.ensures in
     let g = subst (λ (l : List ℕ). IsFront (drop r.at l) (1048576 - r.before) r.whole c.front_of.result) c.deref.ensures.value f in

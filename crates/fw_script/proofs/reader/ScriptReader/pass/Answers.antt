@@ -1,6 +1,6 @@
 use Rattle.std.proofs.Common.{◌≡◌, ◌⊎◌, ℕ, List, false, refl, subst}
-use Rattle.fw_command.specs.Form.{HasForm}
-use Rattle.fw_command.specs.declared.command.Command.{Command}
+use Rattle.fw_script_command.specs.Form.{HasForm}
+use Rattle.fw_script_command.specs.declared.command.Command.{Command}
 use Rattle.fw_script.specs.Line.{is_skipped}
 use Rattle.fw_script.specs.Reader.{IsNear}
 use Rattle.fw_script.specs.Reading.{Reading}

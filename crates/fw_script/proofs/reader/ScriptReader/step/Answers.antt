@@ -12,7 +12,8 @@ pub returns-in-Line-clause-unasked : goal.returns-in-Line-clause-unasked
 returns-in-Line-clause-unasked g c = λ w. (refl, reads_whole c.args.self.now c.read_text.new.self (answer_of c.read_text.result c.read_text.new.out) c.read_text.ensures.reads w)
 
 pub returns-in-Line-clause-holds : goal.returns-in-Line-clause-holds
-returns-in-Line-clause-holds g c = λ h e. reads_holds c.args.self.now c.read_text.new.self (answer_of c.read_text.result c.read_text.new.out) c.read_text.ensures.reads h (ap (λ r. answer_of r c.read_text.new.out) e)
+returns-in-Line-clause-holds g c = λ h e. reads_holds c.args.self.now c.read_text.new.self (answer_of c.read_text.result c.read_text.new.out) c.read_text.ensures.reads h
+    (ap (λ r. answer_of r c.read_text.new.out) e)
 
 pub returns-in-LongLine-clause-steps : goal.returns-in-LongLine-clause-steps
 returns-in-LongLine-clause-steps g c =

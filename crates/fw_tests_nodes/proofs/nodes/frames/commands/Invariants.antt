@@ -1,5 +1,5 @@
 use Rattle.std.proofs.Common.{◌≡◌, None, IsSome, IsTrue}
-use Rattle.fw_base.specs.Devices.{has_link}
+use Rattle.fw_terms.specs.Devices.{has_link}
 use Rattle.fw_tests_nodes.proofs.nodes.frames.commands.Given as goal
 
 abbrev pub invariant-loop-packet : goal.invariant-loop-packet

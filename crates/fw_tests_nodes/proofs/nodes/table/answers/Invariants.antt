@@ -1,5 +1,5 @@
 use Rattle.std.proofs.Common.{IsSome, IsTrue}
-use Rattle.fw_base.specs.Devices.{has_link}
+use Rattle.fw_terms.specs.Devices.{has_link}
 use Rattle.fw_tests_nodes.proofs.nodes.table.answers.Given as goal
 
 abbrev pub invariant-loop-ask : goal.invariant-loop-ask

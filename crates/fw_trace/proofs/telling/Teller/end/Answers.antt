@@ -1,5 +1,4 @@
-use Rattle.std.proofs.Common.{ap, sym, ◌∙◌}
-use Rattle.fw_trace.specs.Telling.{fails_by}
+use Rattle.fw_trace.proofs.Common.{ap, sym, ◌∙◌, fails_by}
 use Rattle.fw_trace.proofs.TellingLaws.{tells_marked}
 use Rattle.fw_trace.proofs.telling.Teller.end.Goals as goal
 

@@ -1,5 +1,4 @@
-use Rattle.std.proofs.Common.{◌≡◌, ◌<◌, length, None, sym, ◌∙◌, []}
-use Rattle.std.proofs.lemmas.List.{append-nil}
+use Rattle.fw_trace.proofs.Common.{◌≡◌, ◌<◌, length, None, sym, ◌∙◌, [], append-nil}
 use Rattle.fw_trace.proofs.TellingLaws.{none_lacks, some_length, tells_after}
 use Rattle.fw_trace.proofs.telling.Teller.write.Goals as goal
 

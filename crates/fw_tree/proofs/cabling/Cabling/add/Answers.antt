@@ -1,12 +1,11 @@
-use Rattle.std.proofs.Common.{arith, take, length, length-set, refl, ◌≡◌, ◌<◌, ◌≤◌, ◌+◌, ℕ, List, slice_set}
+use Rattle.fw_tree.proofs.Common.{arith, take, length, length-set, refl, ◌≡◌, ◌<◌, ◌≤◌, ◌+◌, ℕ, List, slice_set, PhyFacts, Peers, Made}
 use Rattle.std.proofs.lemmas.List.{take_more_set}
-use Rattle.fw_tree.specs.declared.facts.PhyFacts.{PhyFacts}
-use Rattle.fw_tree.specs.Cables.{Peers}
-use Rattle.fw_tree.specs.Topology.{Made, device}
+use Rattle.fw_tree.specs.Topology.{device}
 use Rattle.fw_tree.proofs.TopologyLaws.{sound_add, short}
 use Rattle.fw_tree.proofs.cabling.Cabling.add.Goals as goal
 
-made_add : (fs : List PhyFacts) (n : ℕ) (g : Peers) (f : PhyFacts) → Made (record { devices = take n fs; cables = g }) → length fs ≡ 63 → n < 63 → 0 < f.ports → f.ports ≤ 27 → f.speed ≤ 2 → Made (record { devices = take (n + 1) (slice_set fs n f); cables = g })
+made_add : (fs : List PhyFacts) (n : ℕ) (g : Peers) (f : PhyFacts) → Made (record { devices = take n fs; cables = g }) → length fs ≡ 63 → n < 63 → 0 < f.ports → f.ports ≤ 27 → f.speed ≤ 2
+    → Made (record { devices = take (n + 1) (slice_set fs n f); cables = g })
 made_add fs n g f m size room some most speed =
     let k = take_more_set fs n f (omega arith) in
     rw k (device m f (record { room = short fs n room; some = some; most = most; speed = speed; is = refl }))
@@ -24,4 +23,5 @@ invariant_of-self c =
     }
 
 pub returns-clause-made : goal.returns-clause-made
-returns-clause-made c = made_add c.self.inside.facts c.self.inside.count c.self.inside.cables c.args.facts c.self.invariant.made c.self.invariant.size (omega arith) c.requires.some c.requires.most c.requires.speed
+returns-clause-made c = made_add c.self.inside.facts c.self.inside.count c.self.inside.cables c.args.facts c.self.invariant.made c.self.invariant.size
+    (omega arith) c.requires.some c.requires.most c.requires.speed

@@ -1,5 +1,5 @@
-use Rattle.std.proofs.Common.{◌≡◌, ◌∙◌, ℕ, ap, refl, sym, subst, take}
-use Rattle.fw_tree.specs.Topology.{Topology, IsKept}
+use Rattle.fw_tree.proofs.Common.{◌≡◌, ◌∙◌, ℕ, ap, refl, sym, subst, take, Topology}
+use Rattle.fw_tree.specs.Topology.{IsKept}
 use Rattle.fw_tree.proofs.PlacedLaws.{placed_of}
 use Rattle.fw_tree.proofs.CopyLaws.{same_cables}
 use Rattle.fw_tree.proofs.cabling.Cabling.is_same.Goals as goal
@@ -19,6 +19,7 @@ returns c = λ same.
     let P : ℕ → Type 0 = λ n. IsKept c.other.inside.facts n c.other.inside.cables in
     let cables : c.self.inside.cables ≡ c.other.inside.cables = same_cables c.self.inside.facts c.other.inside.facts c.self.inside.count c.self.inside.cables c.other.inside.cables
     c.self.invariant (subst P (sym count) c.other.invariant) (c.same_cables.ensures same) in
-    let both : ◌≡◌ {A = Topology} (record { devices = take c.self.inside.count c.self.inside.facts; cables = c.self.inside.cables }) (record { devices = take c.other.inside.count c.other.inside.facts; cables = c.other.inside.cables }) =
+    let both : ◌≡◌ {A = Topology} (record { devices = take c.self.inside.count c.self.inside.facts; cables = c.self.inside.cables })
+    (record { devices = take c.other.inside.count c.other.inside.facts; cables = c.other.inside.cables }) =
     (λ i. record { devices = facts i; cables = cables i }) in
     sym c.self.view_is ∙ both ∙ c.other.view_is

@@ -1,4 +1,4 @@
-use Rattle.std.proofs.Common.{take}
+use Rattle.fw_tree.proofs.Common.{take}
 use Rattle.fw_tree.specs.Topology.{cable}
 use Rattle.fw_tree.proofs.ReachLaws.{Joins, joins_of}
 use Rattle.fw_tree.proofs.cabling.Cabling.join.Goals as goal

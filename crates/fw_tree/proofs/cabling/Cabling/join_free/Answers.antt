@@ -1,4 +1,4 @@
-use Rattle.std.proofs.Common.{take}
+use Rattle.fw_tree.proofs.Common.{take}
 use Rattle.fw_tree.specs.Topology.{cable}
 use Rattle.fw_tree.proofs.ReachLaws.{joins_of}
 use Rattle.fw_tree.proofs.cabling.Cabling.join_free.Goals as goal

@@ -1,4 +1,4 @@
-use Rattle.std.proofs.Common.{arith, refl}
+use Rattle.fw_tree.proofs.Common.{arith, refl}
 use Rattle.fw_tree.specs.Topology.{empty}
 use Rattle.fw_tree.proofs.TopologyLaws.{sound_new}
 use Rattle.fw_tree.proofs.cabling.Cabling.new.Goals as goal

@@ -1,5 +1,5 @@
-use Rattle.std.proofs.Common.{◌≤◌, ◌*◌, length}
-use Rattle.fw_tree.specs.SelfIds.{ArePackets}
+use Rattle.fw_tree.proofs.Common.{◌≤◌, length, ArePackets}
+use Rattle.std.proofs.Common.{◌*◌}
 use Rattle.fw_tree.proofs.cabling.Cabling.self_ids.Given as goal
 
 abbrev pub invariant-loop-node : goal.invariant-loop-node

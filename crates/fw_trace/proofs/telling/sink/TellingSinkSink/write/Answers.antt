@@ -1,5 +1,4 @@
-use Rattle.std.proofs.Common.{◌≡◌}
-use Rattle.fw_trace.specs.Framing.{Base}
+use Rattle.fw_trace.proofs.Common.{◌≡◌, Base}
 use Rattle.fw_trace.proofs.Framings.{frame_writes}
 use Rattle.fw_trace.proofs.telling.sink.TellingSinkSink.write.Goals as goal
 

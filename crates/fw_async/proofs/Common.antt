@@ -1,0 +1,20 @@
+-- What most files of proofs import.
+pub use Rattle.fw_async.specs.Async.{AreBytes, Fits, HeadFits, head_fields, is_lock_size, is_reply_size, padded, padding, size, spelling}
+pub use Rattle.fw_async.specs.Reader.{ShowsFault, Spells, State}
+pub use Rattle.fw_async.specs.Reading.{IsPending, end_of_data, fault_of, need, tcode_of}
+unfoldable pub use Rattle.fw_async.specs.Reading.{fault_in_padding, fault_in_quadlet_0, fault_in_quadlet_1, fault_in_quadlet_2, fault_in_quadlet_3}
+pub use Rattle.fw_async.specs.Tcode.{has_data}
+pub use Rattle.fw_async.specs.Wire.{IsKept, bytes_from}
+pub use Rattle.fw_async.specs.declared.PacketFault.{PacketFault}
+pub use Rattle.fw_async.specs.declared.packet.Head.{Head}
+pub use Rattle.fw_async.specs.declared.packet.Packet.{Packet}
+pub use Rattle.fw_async.specs.declared.packet.Packet.TheVariants.{CycleStart, Lock, LockReply, ReadQuadlet, ReadQuadletReply, WriteBlock, WriteQuadlet, WriteReply}
+pub use Rattle.fw_words.specs.Layout.{packed}
+pub use Rattle.fw_words.specs.Quadlet.{field, quadlet_at}
+pub use Rattle.std.proofs.Common.{Bool, IsTrue, List, None, Option, Some, [], ap, arith, drop, eqb, false, get_or, if◌then◌else◌, inl, inr, length, length-append, nat_lt, refl, replicate, rules}
+pub use Rattle.std.proofs.Common.{slice_index, subst, suc, sym, take, true, zero, ℕ, ◌%◌, ◌++◌, ◌+◌, ◌-◌, ◌/◌, ◌<◌, ◌==◌, ◌^◌, ◌||◌, ◌∙◌, ◌∷◌, ◌≡◌, ◌≢◌, ◌≤◌}
+pub use Rattle.std.proofs.lemmas.Bool.{cases_lt}
+pub use Rattle.std.proofs.lemmas.Bool.Decides.{nat_tests}
+pub use Rattle.std.proofs.lemmas.Grind.{common_steps}
+pub use Rattle.std.proofs.lemmas.List.{length-take-le}
+pub use Rattle.std.specs.Int.{to_be_bytes, w32}

@@ -1,0 +1,23 @@
+use Rattle.std.proofs.Common.{◌<◌, ℕ, slice_index, arith, refl}
+use Rattle.fw_async.proofs.QuadletLaws.{least}
+use Rattle.fw_async_glance.proofs.GlanceLaws.{HasHead, read_reply_is, value_end}
+use Rattle.fw_async_glance.proofs.glance.read_reply_at.Goals as goal
+
+pub head_at-requires : goal.head_at-requires
+head_at-requires c = omega (arith, least c.requires.packet.packet c.args.bytes.now c.requires.packet.spells)
+
+pub rcode_at-requires : goal.rcode_at-requires
+rcode_at-requires c = omega (arith, least c.requires.packet.packet c.args.bytes.now c.requires.packet.spells)
+
+pub quadlet_at-requires : goal.quadlet_at-requires
+quadlet_at-requires c = omega (
+  arith,
+  value_end 6 c.requires.packet.packet c.args.bytes.now
+      (λ i. let x : slice_index c.args.bytes.now i < 256 = omega (arith, c.type_inv.bytes i) in x) c.requires.packet.spells c.requires.kind refl,
+)
+
+pub returns : goal.returns
+returns c = λ p s.
+    let fit = λ (i : ℕ). let x : slice_index c.args.bytes.now i < 256 = omega (arith, c.type_inv.bytes i) in x in
+    let head : HasHead 6 c.args.bytes.now c.head_at.result = record { kind = c.requires.kind; fits = c.head_at.ensures.fits; first = c.head_at.ensures.first; source = c.head_at.ensures.source } in
+    read_reply_is p c.args.bytes.now c.head_at.result c.rcode_at.result c.quadlet_at.result.0 fit s head c.rcode_at.ensures c.quadlet_at.ensures.value

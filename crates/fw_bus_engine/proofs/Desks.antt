@@ -1,0 +1,261 @@
+-- What was done with what a desk gave: one call after another.
+use Rattle.fw_bus_engine.proofs.Common.{ℕ, List, [], ◌∷◌, ◌++◌, Option, Some, refl, ap, sym, subst, ◌∙◌}
+use Rattle.fw_bus_engine.proofs.Common.{append_assoc, arith, ◌≡◌, Ok, Err, IsErr, Result, Grows-nothing, at_plug, Entry, Timed, epoch_after}
+use Rattle.fw_bus_engine.proofs.Common.{entry_bytes, Two, Action, Step, Steps, DeskRelations, at_cycle, at_most, GivesEntry, IsGood, State, steps_then, steps_good, Machine, PerformedWhere, between}
+use Rattle.fw_bus_engine.proofs.Common.{Recording, Task, Performed, CountsFaults, PerformedWithDesk, StandsFor}
+use Rattle.fw_model_run.specs.Actions.{SendPacket}
+use Rattle.fw_model_run.specs.Given.{IsGiven, AreGiven}
+use Rattle.fw_model_run.specs.Streams.{GivenBlock, bytes_of}
+use Rattle.fw_model_run.proofs.Given.{given_then, given_append}
+use Rattle.fw_bus_engine.specs.Cycling.{SendsHeard}
+use Rattle.fw_bus_state.specs.Recording.{hearing_of}
+use Rattle.fw_bus_engine.proofs.Doings.{one_grew, grew_then, front_then_front, parts_then, Follows, GoesOn, does_as, faults_then, no_faults, one_step}
+
+-- ---- what is known of the state
+
+-- it holds of all states that the machine stands for
+pub by_where : {T E : Type 0} {A : State → Type 0} {D : DeskRelations} {P : Task} {m now : Machine} {a b : Option (List ℕ)} {k l : ℕ} {r : Result T E}
+    → ((s : State) → IsGood s → StandsFor m s → A s) → PerformedWhere A D P m now (between a b k l) r → PerformedWithDesk D P m now (between a b k l) r
+by_where holds d = record { faults = d.faults; shown = λ s g st. d.shown s g st (holds s g st) }
+
+-- nothing is asked of them
+pub where_by : {T E : Type 0} {A : State → Type 0} {D : DeskRelations} {P : Task} {m now : Machine} {a b : Option (List ℕ)} {k l : ℕ} {r : Result T E}
+    → PerformedWithDesk D P m now (between a b k l) r → PerformedWhere A D P m now (between a b k l) r
+where_by d = record { faults = d.faults; shown = λ s g st known. d.shown s g st }
+
+-- ---- what is done
+
+-- if all that was to be done is what the desk gives, so is what was done
+pub given_front : {T E : Type 0} {D : DeskRelations} {P : Task} {m now : Machine} {a b : Option (List ℕ)} {k l : ℕ} {r : Result T E}
+    → Performed (λ s xs out t. P s xs out t × AreGiven D xs) m now (between a b k l) r → PerformedWithDesk D P m now (between a b k l) r
+given_front {r = Ok u} d = record { faults = d.faults; shown = λ s g st. d.shown s g st }
+given_front {D = D} {r = Err u} d = record {
+  faults = d.faults;
+  shown = λ s g st. let x = d.shown s g st in (
+    record {
+      done = x.done;
+      later = x.later;
+      all = x.all;
+      last = x.last;
+      whole = x.whole.0;
+      goes = x.goes;
+      given = x.given;
+      next = x.next;
+      state = x.state;
+      steps = x.steps;
+      front = x.front;
+      rest = x.rest;
+      parts = x.parts;
+      appended = x.appended;
+    },
+    (given_append D x.done x.later x.whole.1).0,
+  );
+}
+
+-- a desk has nothing to give in it, or what it gives is known
+pub does_given : {T E : Type 0} {D : DeskRelations} {P : Task} {m now : Machine} {a b : Option (List ℕ)} {k l : ℕ} {r : Result T E}
+    → ((s t : State) (xs : List Action) (out : List Timed) → P s xs out t → AreGiven D xs) → Performed P m now (between a b k l) r → PerformedWithDesk D P m now (between a b k l) r
+does_given {D = D} {P} given d = given_front (does_as {Q = λ s xs out t. P s xs out t × AreGiven D xs} (λ s t xs out p. (p, given s t xs out p)) d)
+
+-- what is done of the one is done of the other, in the states that the machine stood for
+pub where_when : {T E : Type 0} {A : State → Type 0} {D : DeskRelations} {P Q : Task} {m now : Machine} {a b : Option (List ℕ)} {k l : ℕ} {r : Result T E}
+    → ((s t : State) (xs : List Action) (out : List Timed) → IsGood s → StandsFor m s → P s xs out t → Steps s xs out t → Q s xs out t)
+    → PerformedWhere A D P m now (between a b k l) r → PerformedWhere A D Q m now (between a b k l) r
+where_when {r = Ok u} to d = record {
+  faults = d.faults;
+  shown = λ s g st known. let x = d.shown s g st known in record {
+    actions = x.actions;
+    out = x.out;
+    state = x.state;
+    whole = (to s x.state x.actions x.out g st x.whole.0 x.steps, x.whole.1);
+    steps = x.steps;
+    stands = x.stands;
+    grew = x.grew;
+  };
+}
+where_when {r = Err u} to d = record {
+  faults = d.faults;
+  shown = λ s g st known.
+      let y = d.shown s g st known in
+      let x = y.0 in (
+        record {
+          done = x.done;
+          later = x.later;
+          all = x.all;
+          last = x.last;
+          whole = to s x.last (x.done ++ x.later) x.all g st x.whole x.goes;
+          goes = x.goes;
+          given = x.given;
+          next = x.next;
+          state = x.state;
+          steps = x.steps;
+          front = x.front;
+          rest = x.rest;
+          parts = x.parts;
+          appended = x.appended;
+        },
+        y.1,
+      );
+}
+
+-- nothing was done
+pub where_nothing : {T E : Type 0} {A : State → Type 0} {D : DeskRelations} {P : Task} (m : Machine) (held : Option (List ℕ)) (k : ℕ) (u : T)
+    → ((s : State) → IsGood s → StandsFor m s → P s [] [] s) → PerformedWhere {T = T} {E = E} A D P m m (between held held k k) (Ok u)
+where_nothing m held k u nothing = record {
+  faults = no_faults k u;
+  shown = λ s g st known. record {
+    actions = [];
+    out = [];
+    state = s;
+    whole = (nothing s g st, tt);
+    steps = (refl, refl);
+    stands = st;
+    grew = Grows-nothing held;
+  };
+}
+
+-- the entry of a packet was written, or cut off; the machine stays
+pub where_sent : {T E : Type 0} {A : State → Type 0} {D : DeskRelations}
+    (m : Machine) (d channel cycle : ℕ) (old new : Option Recording) (held after : Option (List ℕ)) (k l : ℕ) (e : Entry) (r : Result T E)
+    → ((s : State) → IsGood s → StandsFor m s → A s → (block : Option GivenBlock) × IsGiven D (SendPacket (at_plug d 0) block)
+    × Step s (SendPacket (at_plug d 0) block) (at_most cycle (Some e)) s × (new ≡ hearing_of channel (bytes_of block) old))
+    → GivesEntry held after r cycle m.devices.epoch (Some e) → CountsFaults k l r → PerformedWhere A D (SendsHeard d channel old new) m m (between held after k l) r
+where_sent m d channel cycle old new held after k l e (Ok u) turn gives faults = record {
+  faults = faults;
+  shown = λ s g st known.
+      let x = turn s g st known in
+      let f = one_step s s (SendPacket (at_plug d 0) x.0) (at_cycle cycle e ∷ []) x.2 in record {
+        actions = SendPacket (at_plug d 0) x.0 ∷ [];
+        out = at_cycle cycle e ∷ [];
+        state = s;
+        whole = ((x.0, (refl, f), x.3), (x.1, tt));
+        steps = f;
+        stands = st;
+        grew = one_grew s (at_cycle cycle e) (epoch_after m.devices.epoch e) held after (ap (λ (n : ℕ). epoch_after n e) st.devices.epoch) gives;
+      };
+}
+where_sent m d channel cycle old new held after k l e (Err u) turn gives faults = record {
+  faults = faults;
+  shown = λ s g st known.
+      let x = turn s g st known in
+      let f = one_step s s (SendPacket (at_plug d 0) x.0) (at_cycle cycle e ∷ []) x.2 in (
+        record {
+          done = SendPacket (at_plug d 0) x.0 ∷ [];
+          later = [];
+          all = at_cycle cycle e ∷ [];
+          last = s;
+          whole = (x.0, (refl, f), x.3);
+          goes = f;
+          given = [];
+          next = at_cycle cycle e;
+          state = s;
+          steps = f;
+          front = gives.front;
+          rest = gives.rest;
+          parts = ap (λ (n : ℕ). entry_bytes Two (epoch_after n e) (at_cycle cycle e)) (sym st.devices.epoch) ∙ gives.parts;
+          appended = gives.appended;
+        },
+        (x.1, tt),
+      );
+}
+
+-- ---- one after another
+
+-- what is known of the state that the one leads to
+abbrev pub LeadsTo : Machine → (State → Type 0) → Task → (State → Type 0) → Type 0
+LeadsTo m A P B = (s t : State) (xs : List Action) (out : List Timed) → IsGood s → StandsFor m s → A s → P s xs out t → Steps s xs out t → B t
+
+pub where_then : {T E U F : Type 0} {A B : State → Type 0} {D : DeskRelations} {P Q R : Task}
+    {m mid now : Machine} {a b c : Option (List ℕ)} {k l n : ℕ} {u : T} (r : Result U F)
+    → Follows m P Q R → LeadsTo m A P B → PerformedWhere {T = T} {E = E} A D P m mid (between a b k l) (Ok u) → PerformedWhere B D Q mid now (between b c l n) r
+    → PerformedWhere A D R m now (between a c k n) r
+where_then {D = D} {a = a} {b} {c} {k} {l} {n} (Ok w) follows leads f g = record {
+  faults = faults_then k l n (Ok w) f.faults.same g.faults;
+  shown = λ s good st known.
+      let x = f.shown s good st known in
+      let y = g.shown x.state (steps_good s x.state x.actions x.out good x.steps) x.stands (leads s x.state x.actions x.out good st known x.whole.0 x.steps) in
+      record {
+        actions = x.actions ++ y.actions;
+        out = x.out ++ y.out;
+        state = y.state;
+        whole = (
+          follows s x.state y.state x.actions y.actions x.out y.out good st x.whole.0 x.steps y.whole.0 y.steps,
+          given_then D x.actions y.actions x.whole.1 y.whole.1,
+        );
+        steps = steps_then s x.state y.state x.actions y.actions x.out y.out x.steps y.steps;
+        stands = y.stands;
+        grew = grew_then s x.state x.actions x.out y.out a b c good x.steps x.grew y.grew;
+      };
+}
+where_then {D = D} {R = R} {a = a} {b} {c} {k} {l} {n} (Err w) follows leads f g = record {
+  faults = faults_then k l n (Err w) f.faults.same g.faults;
+  shown = λ s good st known.
+      let x = f.shown s good st known in
+      let z = g.shown x.state (steps_good s x.state x.actions x.out good x.steps) x.stands (leads s x.state x.actions x.out good st known x.whole.0 x.steps) in
+      let y = z.0 in
+      let assoc = append_assoc x.actions y.done y.later in (
+        record {
+          done = x.actions ++ y.done;
+          later = y.later;
+          all = x.out ++ y.all;
+          last = y.last;
+          whole = subst (λ z. R s z (x.out ++ y.all) y.last) (sym assoc)
+              (follows s x.state y.last x.actions (y.done ++ y.later) x.out y.all good st x.whole.0 x.steps y.whole y.goes);
+          goes = subst (λ z. Steps s z (x.out ++ y.all) y.last) (sym assoc)
+              (steps_then s x.state y.last x.actions (y.done ++ y.later) x.out y.all x.steps y.goes);
+          given = x.out ++ y.given;
+          next = y.next;
+          state = y.state;
+          steps = subst (λ z. Steps s (x.actions ++ y.done) z y.state) (sym (append_assoc x.out y.given (y.next ∷ [])))
+              (steps_then s x.state y.state x.actions y.done x.out (y.given ++ y.next ∷ []) x.steps y.steps);
+          front = y.front;
+          rest = y.rest;
+          parts = parts_then s x.state x.actions x.out y.given y.next (y.front ++ y.rest) good x.steps y.parts;
+          appended = front_then_front s x.state x.actions x.out y.given y.front a b c good x.steps x.grew y.appended;
+        },
+        given_then D x.actions y.done x.whole.1 z.1,
+      );
+}
+
+-- ---- what was cut off
+
+-- what was done could have been gone on with, whatever a desk gives
+pub where_cut : {U F V G : Type 0} {A : State → Type 0} {D : DeskRelations} {P R : Task}
+    {m now last : Machine} {a b : Option (List ℕ)} {k l : ℕ} (q : Result U F) (r : Result V G)
+    → GoesOn m P R → IsErr q → IsErr r → PerformedWhere A D P m now (between a b k l) q → PerformedWhere A D R m last (between a b k l) r
+where_cut (Ok u) r on is was f = let no : ⊥ = grind (arith, is) in absurd no
+where_cut (Err u) (Ok v) on is was f = let no : ⊥ = grind (arith, was) in absurd no
+where_cut {R = R} (Err u) (Err v) on is was f = record {
+  faults = record { cause = record { later = f.faults.cause.later; failed = f.faults.cause.failed }; same = tt };
+  shown = λ s good st known.
+      let z = f.shown s good st known in
+      let y = z.0 in
+      let x = on s y.last (y.done ++ y.later) y.all good st y.whole y.goes in
+      let assoc = append_assoc y.done y.later x.0 in (
+        record {
+          done = y.done;
+          later = y.later ++ x.0;
+          all = y.all ++ x.1;
+          last = x.2;
+          whole = subst (λ z. R s z (y.all ++ x.1) x.2) assoc x.3;
+          goes = subst (λ z. Steps s z (y.all ++ x.1) x.2) assoc (steps_then s y.last x.2 (y.done ++ y.later) x.0 y.all x.1 y.goes x.4);
+          given = y.given;
+          next = y.next;
+          state = y.state;
+          steps = y.steps;
+          front = y.front;
+          rest = y.rest;
+          parts = y.parts;
+          appended = y.appended;
+        },
+        z.1,
+      );
+}
+
+-- ---- the machine is ready for what comes next
+
+-- what is known of a call, without the desk
+pub by_does : {T E : Type 0} {D : DeskRelations} {P : Task} {m now : Machine} {a b : Option (List ℕ)} {k l : ℕ} {u : T}
+    → PerformedWithDesk {T = T} {E = E} D P m now (between a b k l) (Ok u) → Performed {T = T} {E = E} P m now (between a b k l) (Ok u)
+by_does {D = D} {P} d =
+    does_as {P = λ s xs out t. P s xs out t × AreGiven D xs} {Q = P} (λ s t xs out p. p.0) (record { faults = d.faults; shown = λ s g st. d.shown s g st })

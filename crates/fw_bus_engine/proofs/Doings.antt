@@ -1,0 +1,328 @@
+-- One call after another.
+use Rattle.fw_bus_engine.proofs.Common.{◌≡◌, ℕ, List, [], ◌∷◌, ◌++◌, Option, Some, None, refl, ap, sym}
+use Rattle.fw_bus_engine.proofs.Common.{subst, ◌∙◌, append_assoc, append-nil, arith, Ok, Err, IsErr, Result, Grows-nothing, Entry, Timed}
+use Rattle.fw_bus_engine.proofs.Common.{epoch_after, entry_bytes, Two, at_cycle, at_most, GivesEntry, State, epoch_of, Action}
+use Rattle.fw_bus_engine.proofs.Common.{Step, Steps, IsGood, steps_then, steps_good, Machine, CountsFaults, Gives}
+use Rattle.fw_bus_engine.proofs.Common.{between, IsReady, StandsFor, Task, Performs, TakesAction, Performed}
+use Rattle.fw_outside.specs.Outside.{Grows}
+use Rattle.fw_outside.proofs.Parts.{Grows-Grows}
+use Rattle.fw_log_entry.specs.Log.{latest_epoch}
+use Rattle.fw_log_entry.proofs.LogLaws.{latest_append}
+use Rattle.fw_model_run.proofs.Epochs.{step_epoch, steps_epoch, entry_epoch}
+use Rattle.fw_model_run.specs.Giving.{log_bytes}
+use Rattle.fw_model_run.specs.Numbers.{HasNumbers}
+use Rattle.fw_model_run.proofs.Runs.{log_append}
+use Rattle.fw_model_run.proofs.Steps.{step_good}
+use Rattle.fw_model_run.proofs.Kept.{step_numbers}
+
+-- ---- counts of faults
+
+pub faults_then : {U F : Type 0} (k l m : ℕ) (r : Result U F) → l ≡ k → CountsFaults l m r → CountsFaults k m r
+faults_then k l m (Ok _) first c = record { cause = record { later = omega (arith, first, c.same); failed = tt }; same = c.same ∙ first }
+faults_then k l m (Err _) first c =
+    record { cause = record { later = omega (arith, first, c.cause.later); failed = grind (arith, c.cause.failed, first) }; same = tt }
+
+pub no_faults : {T E : Type 0} (k : ℕ) (u : T) → CountsFaults {T = T} {E = E} k k (Ok u)
+no_faults k u = record { cause = record { later = omega arith; failed = tt }; same = refl }
+
+-- ---- what is done
+
+-- one action from a state
+pub one_step : (s t : State) (a : Action) (out : List Timed) → Step s a out t → Steps s (a ∷ []) out t
+one_step s t a out f = (out, [], t, f, sym (append-nil out), (refl, refl))
+
+-- what is done of the one is done of the other, in the states that the machine stood for
+pub does_when : {T E : Type 0} {P Q : Task} {m now : Machine} {a b : Option (List ℕ)} {k l : ℕ} {r : Result T E}
+    → ((s t : State) (xs : List Action) (out : List Timed) → IsGood s → StandsFor m s → P s xs out t → Steps s xs out t → Q s xs out t) → Performed P m now (between a b k l) r
+    → Performed Q m now (between a b k l) r
+does_when {r = Ok u} to d = record {
+  faults = d.faults;
+  shown = λ s g st. let x = d.shown s g st in record {
+    actions = x.actions;
+    out = x.out;
+    state = x.state;
+    whole = to s x.state x.actions x.out g st x.whole x.steps;
+    steps = x.steps;
+    stands = x.stands;
+    grew = x.grew;
+  };
+}
+does_when {r = Err u} to d = record {
+  faults = d.faults;
+  shown = λ s g st. let x = d.shown s g st in record {
+    done = x.done;
+    later = x.later;
+    all = x.all;
+    last = x.last;
+    whole = to s x.last (x.done ++ x.later) x.all g st x.whole x.goes;
+    goes = x.goes;
+    given = x.given;
+    next = x.next;
+    state = x.state;
+    steps = x.steps;
+    front = x.front;
+    rest = x.rest;
+    parts = x.parts;
+    appended = x.appended;
+  };
+}
+
+pub does_as : {T E : Type 0} {P Q : Task} {m now : Machine} {a b : Option (List ℕ)} {k l : ℕ} {r : Result T E}
+    → ((s t : State) (xs : List Action) (out : List Timed) → P s xs out t → Q s xs out t) → Performed P m now (between a b k l) r → Performed Q m now (between a b k l) r
+does_as to d = does_when (λ s t xs out g st x f. to s t xs out x) d
+
+-- nothing was done
+pub does_nothing : {T E : Type 0} {P : Task} (m : Machine) (held : Option (List ℕ)) (k : ℕ) (u : T)
+    → ((s : State) → IsGood s → StandsFor m s → P s [] [] s) → Performed {T = T} {E = E} P m m (between held held k k) (Ok u)
+does_nothing m held k u nothing = record {
+  faults = no_faults k u;
+  shown = λ s g st. record {
+    actions = [];
+    out = [];
+    state = s;
+    whole = nothing s g st;
+    steps = (refl, refl);
+    stands = st;
+    grew = Grows-nothing held;
+  };
+}
+
+pub does_none : {T E : Type 0} (m : Machine) (held : Option (List ℕ)) (k : ℕ) (u : T) → Performed {T = T} {E = E} (Performs []) m m (between held held k k) (Ok u)
+does_none m held k u = does_nothing m held k u (λ s g st. (refl, (refl, refl)))
+
+-- ---- epochs
+
+-- the epoch that the machine has after an entry is that in its head
+pub written_epoch : (now : Machine) (s t : State) (a : Action) (cycle : ℕ) (e : Entry) → IsGood s → Step s a (at_most cycle (Some e)) t → StandsFor now t
+    → epoch_after now.devices.epoch e ≡ epoch_after (epoch_of s.account.latest) e
+written_epoch now s t a cycle e g f st = ap (λ (n : ℕ). epoch_after n e) st.devices.epoch ∙ entry_epoch s t a cycle e g f
+
+-- the entry of one action
+pub one_grew : (s : State) (t : Timed) (n : ℕ) (held after : Option (List ℕ)) → n ≡ epoch_after (epoch_of s.account.latest) t.what → Grows held after (entry_bytes Two n t)
+    → Grows held after (log_bytes (epoch_of s.account.latest) (t ∷ []))
+one_grew s t n held after is g =
+    let P : ℕ → Type 0 = λ k. Grows held after (entry_bytes Two k t) in
+    subst (Grows held after) (sym (append-nil (entry_bytes Two (epoch_after (epoch_of s.account.latest) t.what) t))) (subst P is g)
+
+-- what was written after other entries
+pub grew_then : (s mid : State) (xs : List Action) (out more : List Timed) (a b c : Option (List ℕ)) → IsGood s → Steps s xs out mid
+    → Grows a b (log_bytes (epoch_of s.account.latest) out) → Grows b c (log_bytes (epoch_of mid.account.latest) more) → Grows a c (log_bytes (epoch_of s.account.latest) (out ++ more))
+grew_then s mid xs out more a b c g f first last =
+    let n : ℕ = epoch_of s.account.latest in
+    let P : ℕ → Type 0 = λ k. Grows b c (log_bytes k more) in
+    subst (Grows a c) (sym (log_append n out more)) (Grows-Grows a b c (log_bytes n out) (log_bytes (latest_epoch n out) more) first (subst P (steps_epoch s mid xs out g f) last))
+
+pub front_then_front : (s mid : State) (xs : List Action) (out more : List Timed) (front : List ℕ) (a b c : Option (List ℕ)) → IsGood s → Steps s xs out mid
+    → Grows a b (log_bytes (epoch_of s.account.latest) out) → Grows b c (log_bytes (epoch_of mid.account.latest) more ++ front)
+    → Grows a c (log_bytes (epoch_of s.account.latest) (out ++ more) ++ front)
+front_then_front s mid xs out more front a b c g f first last =
+    let n : ℕ = epoch_of s.account.latest in
+    let P : ℕ → Type 0 = λ k. Grows b c (log_bytes k more ++ front) in
+    subst (Grows a c) (sym (ap (λ z. z ++ front) (log_append n out more) ∙ append_assoc (log_bytes n out) (log_bytes (latest_epoch n out) more) front))
+    (Grows-Grows a b c (log_bytes n out) (log_bytes (latest_epoch n out) more ++ front) first (subst P (steps_epoch s mid xs out g f) last))
+
+pub parts_then : (s mid : State) (xs : List Action) (out given : List Timed) (next : Timed) (whole : List ℕ) → IsGood s → Steps s xs out mid
+    → entry_bytes Two (epoch_after (latest_epoch (epoch_of mid.account.latest) given) next.what) next ≡ whole
+    → entry_bytes Two (epoch_after (latest_epoch (epoch_of s.account.latest) (out ++ given)) next.what) next ≡ whole
+parts_then s mid xs out given next whole g f is =
+    let n : ℕ = epoch_of s.account.latest in
+    ap (λ (k : ℕ). entry_bytes Two (epoch_after k next.what) next) (latest_append n out given ∙ ap (λ (k : ℕ). latest_epoch k given) (sym (steps_epoch s mid xs out g f))) ∙ is
+
+-- an action whose entry was written, or cut off
+pub does_one : {T E : Type 0} {a : Action} {m now : Machine} {held after : Option (List ℕ)} {k l : ℕ} (cycle : ℕ) (e : Option Entry) (r : Result T E)
+    → TakesAction a m now cycle e → GivesEntry held after r cycle now.devices.epoch e → CountsFaults k l r → Performed (Performs (a ∷ [])) m now (between held after k l) r
+does_one {a = a} cycle None (Ok u) turn gives faults = record {
+  faults = faults;
+  shown = λ s g st. let x = turn.shown s g st in let f = one_step s x.0 a [] x.1 in record {
+    actions = a ∷ [];
+    out = [];
+    state = x.0;
+    whole = (refl, f);
+    steps = f;
+    stands = x.2;
+    grew = gives;
+  };
+}
+does_one {a = a} {now = now} {held = held} {after} cycle (Some e) (Ok u) turn gives faults = record {
+  faults = faults;
+  shown = λ s g st. let x = turn.shown s g st in let f = one_step s x.0 a (at_cycle cycle e ∷ []) x.1 in record {
+    actions = a ∷ [];
+    out = at_cycle cycle e ∷ [];
+    state = x.0;
+    whole = (refl, f);
+    steps = f;
+    stands = x.2;
+    grew = one_grew s (at_cycle cycle e) (epoch_after now.devices.epoch e) held after (written_epoch now s x.0 a cycle e g x.1 x.2) gives;
+  };
+}
+does_one cycle None (Err u) turn gives faults = absurd gives
+does_one {a = a} {now = now} cycle (Some e) (Err u) turn gives faults = record {
+  faults = faults;
+  shown = λ s g st. let x = turn.shown s g st in let f = one_step s x.0 a (at_cycle cycle e ∷ []) x.1 in record {
+    done = a ∷ [];
+    later = [];
+    all = at_cycle cycle e ∷ [];
+    last = x.0;
+    whole = (refl, f);
+    goes = f;
+    given = [];
+    next = at_cycle cycle e;
+    state = x.0;
+    steps = f;
+    front = gives.front;
+    rest = gives.rest;
+    parts = ap (λ (n : ℕ). entry_bytes Two n (at_cycle cycle e)) (sym (written_epoch now s x.0 a cycle e g x.1 x.2)) ∙ gives.parts;
+    appended = gives.appended;
+  };
+}
+
+-- an action whose entry was given to a sink
+pub does_entry : {T E : Type 0} {a : Action} {m now : Machine} {e : Entry} {held after : Option (List ℕ)} {k l : ℕ} {r : Result T E}
+    → TakesAction a m now now.cycle (Some e) → Gives now e (between held after k l) r → Performed (Performs (a ∷ [])) m now (between held after k l) r
+does_entry {now = now} {e = e} {r = r} turn gives = does_one now.cycle (Some e) r turn gives.bytes gives.faults
+
+-- an action that writes nothing
+pub does_silent : {T E : Type 0} {a : Action} {m now : Machine} (held : Option (List ℕ)) (k cycle : ℕ) (u : T) → TakesAction a m now cycle None
+    → Performed {T = T} {E = E} (Performs (a ∷ [])) m now (between held held k k) (Ok u)
+does_silent held k cycle u turn = does_one cycle None (Ok u) turn (Grows-nothing held) (no_faults k u)
+
+-- ---- one after another
+
+-- one thing done after another comes to a third
+abbrev pub Follows : Machine → Task → Task → Task → Type 0
+Follows m P Q R =
+    (s mid t : State) (xs ys : List Action) (a b : List Timed) → IsGood s → StandsFor m s → P s xs a mid → Steps s xs a mid → Q mid ys b t → Steps mid ys b t → R s (xs ++ ys) (a ++ b) t
+
+pub does_then : {T E U F : Type 0} {P Q R : Task} {m mid now : Machine} {a b c : Option (List ℕ)} {k l n : ℕ} {u : T} (r : Result U F)
+    → Follows m P Q R → Performed {T = T} {E = E} P m mid (between a b k l) (Ok u) → Performed Q mid now (between b c l n) r → Performed R m now (between a c k n) r
+does_then {a = a} {b} {c} {k} {l} {n} (Ok w) follows f g = record {
+  faults = faults_then k l n (Ok w) f.faults.same g.faults;
+  shown = λ s good st.
+      let x = f.shown s good st in
+      let y = g.shown x.state (steps_good s x.state x.actions x.out good x.steps) x.stands in
+      record {
+        actions = x.actions ++ y.actions;
+        out = x.out ++ y.out;
+        state = y.state;
+        whole = follows s x.state y.state x.actions y.actions x.out y.out good st x.whole x.steps y.whole y.steps;
+        steps = steps_then s x.state y.state x.actions y.actions x.out y.out x.steps y.steps;
+        stands = y.stands;
+        grew = grew_then s x.state x.actions x.out y.out a b c good x.steps x.grew y.grew;
+      };
+}
+does_then {R = R} {a = a} {b} {c} {k} {l} {n} (Err w) follows f g = record {
+  faults = faults_then k l n (Err w) f.faults.same g.faults;
+  shown = λ s good st.
+      let x = f.shown s good st in
+      let y = g.shown x.state (steps_good s x.state x.actions x.out good x.steps) x.stands in
+      let assoc = append_assoc x.actions y.done y.later in
+      record {
+        done = x.actions ++ y.done;
+        later = y.later;
+        all = x.out ++ y.all;
+        last = y.last;
+        whole = subst (λ z. R s z (x.out ++ y.all) y.last) (sym assoc) (follows s x.state y.last x.actions (y.done ++ y.later) x.out y.all good st x.whole x.steps y.whole y.goes);
+        goes = subst (λ z. Steps s z (x.out ++ y.all) y.last) (sym assoc) (steps_then s x.state y.last x.actions (y.done ++ y.later) x.out y.all x.steps y.goes);
+        given = x.out ++ y.given;
+        next = y.next;
+        state = y.state;
+        steps = subst (λ z. Steps s (x.actions ++ y.done) z y.state) (sym (append_assoc x.out y.given (y.next ∷ [])))
+            (steps_then s x.state y.state x.actions y.done x.out (y.given ++ y.next ∷ []) x.steps y.steps);
+        front = y.front;
+        rest = y.rest;
+        parts = parts_then s x.state x.actions x.out y.given y.next (y.front ++ y.rest) good x.steps y.parts;
+        appended = front_then_front s x.state x.actions x.out y.given y.front a b c good x.steps x.grew y.appended;
+      };
+}
+
+-- these actions, and then those
+pub acts_follow : {m : Machine} (xs ys : List Action) → Follows m (Performs xs) (Performs ys) (Performs (xs ++ ys))
+acts_follow xs ys s m t zs ws a b good st f p g q = (ap (λ z. z ++ ws) f.0 ∙ ap (λ z. xs ++ z) g.0, steps_then s m t xs ys a b f.1 g.1)
+
+-- ---- what was cut off
+
+-- what was done could have been gone on with
+abbrev pub GoesOn : Machine → Task → Task → Type 0
+GoesOn m P R =
+    (s u : State) (xs : List Action) (a : List Timed) → IsGood s → StandsFor m s → P s xs a u → Steps s xs a u
+    → (ys : List Action) × (b : List Timed) × (t : State) × R s (xs ++ ys) (a ++ b) t × Steps u ys b t
+
+pub does_cut : {U F V G : Type 0} {P R : Task} {m now last : Machine} {a b : Option (List ℕ)} {k l : ℕ} (q : Result U F) (r : Result V G)
+    → GoesOn m P R → IsErr q → IsErr r → Performed P m now (between a b k l) q → Performed R m last (between a b k l) r
+does_cut (Ok u) r on is was f = let no : ⊥ = grind (arith, is) in absurd no
+does_cut (Err u) (Ok v) on is was f = let no : ⊥ = grind (arith, was) in absurd no
+does_cut {R = R} (Err u) (Err v) on is was f = record {
+  faults = record { cause = record { later = f.faults.cause.later; failed = f.faults.cause.failed }; same = tt };
+  shown = λ s good st.
+      let y = f.shown s good st in
+      let x = on s y.last (y.done ++ y.later) y.all good st y.whole y.goes in
+      let assoc = append_assoc y.done y.later x.0 in
+      record {
+        done = y.done;
+        later = y.later ++ x.0;
+        all = y.all ++ x.1;
+        last = x.2;
+        whole = subst (λ z. R s z (y.all ++ x.1) x.2) assoc x.3;
+        goes = subst (λ z. Steps s z (y.all ++ x.1) x.2) assoc (steps_then s y.last x.2 (y.done ++ y.later) x.0 y.all x.1 y.goes x.4);
+        given = y.given;
+        next = y.next;
+        state = y.state;
+        steps = y.steps;
+        front = y.front;
+        rest = y.rest;
+        parts = y.parts;
+        appended = y.appended;
+      };
+}
+
+-- ---- the machine is ready for what comes next
+
+pub steps_numbers : (s t : State) (xs : List Action) (out : List Timed) → IsGood s → HasNumbers s → Steps s xs out t → HasNumbers t
+steps_numbers s t [] out g b f = subst HasNumbers (sym f.1) b
+steps_numbers s t (x ∷ xs) out g b f = steps_numbers f.2 t xs f.1 (steps_good s f.2 (x ∷ []) f.0 g (one_step s f.2 x f.0 f.3)) (step_numbers s x f.0 f.2 g b f.3) f.5
+
+pub ready_after : {T E : Type 0} {P : Task} {m now : Machine} {a b : Option (List ℕ)} {k l : ℕ} {u : T}
+    → IsReady m → Performed {T = T} {E = E} P m now (between a b k l) (Ok u) → IsReady now
+ready_after r f = let x = f.shown r.state r.good r.stands in record {
+  state = x.state;
+  good = steps_good r.state x.state x.actions x.out r.good x.steps;
+  numbers = steps_numbers r.state x.state x.actions x.out r.good r.numbers x.steps;
+  stands = x.stands;
+}
+
+-- ---- a transaction: its request and its response, before their entries are written
+
+-- the two actions of it
+pub talk_steps : (s mid t : State) (a b : Action) (cycle : ℕ) (e f : Entry) → Step s a (at_cycle cycle e ∷ []) mid → Step mid b (at_cycle cycle f ∷ []) t
+    → Steps s (a ∷ b ∷ []) (at_cycle cycle e ∷ at_cycle cycle f ∷ []) t
+talk_steps s mid t a b cycle e f g h = (at_cycle cycle e ∷ [], at_cycle cycle f ∷ [], mid, g, refl, one_step mid t b (at_cycle cycle f ∷ []) h)
+
+-- the epoch of two entries that are no resets
+abbrev pub IsNoReset : Entry → Type 0
+IsNoReset e = (n : ℕ) → epoch_after n e ≡ n
+
+pub two_epoch : (now : Machine) (s mid t : State) (a b : Action) (cycle : ℕ) (e f : Entry) → IsGood s → Step s a (at_most cycle (Some e)) mid → Step mid b (at_most cycle (Some f)) t
+    → StandsFor now t → IsNoReset e → IsNoReset f → now.devices.epoch ≡ epoch_of s.account.latest
+two_epoch now s mid t a b cycle e f g first last st plain other =
+    let after = step_epoch mid t b (at_most cycle (Some f)) (step_good s a (at_most cycle (Some e)) mid g first) last in
+    let before = step_epoch s mid a (at_most cycle (Some e)) g first in
+    st.devices.epoch ∙ after ∙ other (epoch_of mid.account.latest) ∙ before ∙ plain (epoch_of s.account.latest)
+
+pub two_grew : (s : State) (n cycle : ℕ) (e f : Entry) (held mid after : Option (List ℕ)) → n ≡ epoch_of s.account.latest → IsNoReset e → IsNoReset f
+    → Grows held mid (entry_bytes Two (epoch_after n e) (at_cycle cycle e)) → Grows mid after (entry_bytes Two (epoch_after n f) (at_cycle cycle f))
+    → Grows held after (log_bytes (epoch_of s.account.latest) (at_cycle cycle e ∷ at_cycle cycle f ∷ []))
+two_grew s n cycle e f held mid after is plain other first last =
+    let k : ℕ = epoch_of s.account.latest in
+    let x : List ℕ = entry_bytes Two (epoch_after k e) (at_cycle cycle e) in
+    let y : List ℕ = entry_bytes Two (epoch_after (epoch_after k e) f) (at_cycle cycle f) in
+    let P : ℕ → Type 0 = λ z. Grows held mid (entry_bytes Two (epoch_after z e) (at_cycle cycle e)) in
+    let Q : ℕ → Type 0 = λ z. Grows mid after (entry_bytes Two (epoch_after z f) (at_cycle cycle f)) in
+    subst (λ z. Grows held after (x ++ z)) (sym (append-nil y)) (Grows-Grows held mid after x y (subst P is first) (subst Q (is ∙ sym (plain k)) last))
+
+pub two_front : (s : State) (n cycle : ℕ) (e : Entry) (front : List ℕ) (held mid after : Option (List ℕ)) → n ≡ epoch_of s.account.latest
+    → Grows held mid (entry_bytes Two (epoch_after n e) (at_cycle cycle e)) → Grows mid after front → Grows held after (log_bytes (epoch_of s.account.latest) (at_cycle cycle e ∷ []) ++ front)
+two_front s n cycle e front held mid after is first last =
+    let k : ℕ = epoch_of s.account.latest in
+    let x : List ℕ = entry_bytes Two (epoch_after k e) (at_cycle cycle e) in
+    let P : ℕ → Type 0 = λ z. Grows held mid (entry_bytes Two (epoch_after z e) (at_cycle cycle e)) in
+    subst (λ z. Grows held after (z ++ front)) (sym (append-nil x)) (Grows-Grows held mid after x front (subst P is first) last)

@@ -1,0 +1,11 @@
+pub mod Performing
+pub mod Contending
+pub mod Filling
+pub mod Framing
+pub mod Resetting
+pub mod Transacting
+pub mod Serving
+pub mod Exchanging
+pub mod Cycling
+pub mod Leaving
+pub mod Playing

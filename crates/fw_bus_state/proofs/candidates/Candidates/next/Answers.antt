@@ -1,0 +1,10 @@
+use Rattle.fw_bus_state.proofs.Common.{◌≡◌, Some, candidate_in}
+use Rattle.fw_bus_state.proofs.HeldCandidates.{held_at}
+use Rattle.fw_bus_state.proofs.candidates.Candidates.next.Goals as goal
+
+pub next-requires : goal.next-requires
+next-requires c =
+    let here : candidate_in c.args.self.now c.args.device ≡ Some c.in-Some.candidate =
+    held_at c.args.self.now c.self.inside.list.items c.self.inside.begun c.args.device c.from.result c.index_mut.result.now c.in-Some.candidate
+    c.self.view_is c.requires.device c.from.ensures c.index_mut.ensures.value c.in-Some.is in
+    record { heard = c.requires.heard c.in-Some.candidate here }

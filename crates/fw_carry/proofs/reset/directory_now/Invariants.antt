@@ -1,5 +1,0 @@
-use Rattle.fw_carry.proofs.Told.{IsFilled}
-use Rattle.fw_carry.proofs.reset.directory_now.Given as goal
-
-abbrev pub invariant-loop-device : goal.invariant-loop-device
-invariant-loop-device l = IsFilled l.machine.devices l.device l.node

@@ -1,9 +1,0 @@
-use Rattle.std.proofs.Common.{◌≤◌, ◌<◌, ◌+◌, ℕ, IsTrue}
-use Rattle.fw_cmp.specs.Causes.{IsAtRest}
-use Rattle.fw_machine.specs.Stands.{is_living_in}
-use Rattle.fw_machine.specs.Tables.{states_of}
-use Rattle.fw_carry.proofs.rounds.busy_end.Given as goal
-
--- of those that were passed, none that lives has anything to do
-abbrev pub invariant-loop-passed : goal.invariant-loop-passed
-invariant-loop-passed l = (d : ℕ) → l.end ≤ d + l.passed → d < l.end → IsTrue (is_living_in l.machine d) → IsAtRest (states_of l.machine.controllers d).state

@@ -1,6 +1,0 @@
-use Rattle.fw_carry.proofs.SecondTurns.{second_given}
-use Rattle.fw_carry.proofs.second.end_second.Goals as goal
-
-pub returns-clause-does : goal.returns-clause-does
-returns-clause-does g c =
-    second_given _ _ _ c.requires.runs c.requires.now c.requires.few c.pass_second.ensures (rw c.second_over.ensures.value at c.give.ensures)

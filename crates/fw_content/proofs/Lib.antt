@@ -1,6 +1,0 @@
-pub mod TextLaws
-pub mod LoopLaws
-pub mod LeftLaws
-pub mod LedgerLaws
-pub mod ListLaws
-pub mod SumLaws

@@ -1,8 +1,0 @@
-use Rattle.std.proofs.Common.{◌≡◌}
-use Rattle.fw_account.specs.Account.{Account}
-use Rattle.fw_ledger.specs.Stands.{StandsFor}
-use Rattle.fw_content.specs.Kept.{flows_below}
-use Rattle.fw_content.proofs.kept.put_flows.Given as goal
-
-abbrev pub invariant-loop-channel : goal.invariant-loop-channel
-invariant-loop-channel l = (m : Account) → StandsFor l.ledger m → l.list.items ≡ flows_below m l.channel

@@ -1,8 +1,0 @@
-use Rattle.std.proofs.Common.{◌≡◌, ◌++◌}
-use Rattle.fw_account.specs.Account.{Account}
-use Rattle.fw_ledger.specs.Stands.{StandsFor}
-use Rattle.fw_content.specs.Leaving.{not_taken_below}
-use Rattle.fw_content.proofs.leaving.put_not_taken_in.Given as goal
-
-abbrev pub invariant-loop-channel : goal.invariant-loop-channel
-invariant-loop-channel l = (m : Account) → StandsFor l.ledger m → l.words.items ≡ l.fn.words.items ++ not_taken_below m l.channel

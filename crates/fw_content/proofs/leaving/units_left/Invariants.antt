@@ -1,9 +1,0 @@
-use Rattle.std.proofs.Common.{◌≡◌}
-use Rattle.fw_account.specs.Account.{Account}
-use Rattle.fw_base.specs.Tables.{sum_to}
-use Rattle.fw_ledger.specs.Stands.{StandsFor}
-use Rattle.fw_content.proofs.LeftLaws.{units_at}
-use Rattle.fw_content.proofs.leaving.units_left.Given as goal
-
-abbrev pub invariant-loop-channel : goal.invariant-loop-channel
-invariant-loop-channel l = (m : Account) → StandsFor l.ledger m → l.sum ≡ sum_to l.channel (units_at m l.device)

@@ -1,6 +1,0 @@
-use Rattle.std.proofs.Common.{◌≡◌, ◌-◌}
-use Rattle.fw_content.specs.Sums.{outcomes_to}
-use Rattle.fw_content.proofs.sums.put_outcomes.Given as goal
-
-abbrev pub invariant-loop-code : goal.invariant-loop-code
-invariant-loop-code l = l.list.items ≡ outcomes_to l.counts.outcomes (l.code - 1)

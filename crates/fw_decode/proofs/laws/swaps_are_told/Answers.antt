@@ -1,5 +1,0 @@
-use Rattle.fw_decode.proofs.laws.swaps_are_told.Goals as goal
-use Rattle.fw_decode.proofs.SwapLaws.{swaps_are_told as told}
-
-pub returns : goal.returns
-returns c = told

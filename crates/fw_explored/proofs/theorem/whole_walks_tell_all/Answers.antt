@@ -1,9 +1,0 @@
-use Rattle.fw_run.specs.Desks.{DeskRelations}
-use Rattle.fw_explored.proofs.GoLaws.{whole_told}
-use Rattle.fw_explored.proofs.theorem.whole_walks_tell_all.Given as given
-use Rattle.fw_explored.proofs.theorem.whole_walks_tell_all.Goals as goal
-
-pub returns : goal.returns
-returns g c =
-    let D : DeskRelations = record { blocks = given.F-post g c.args.desk.now.blocks; vendor = given.H-post g c.args.desk.now.vendor } in
-    λ script x rows only whole. whole_told D script x only rows whole

@@ -1,6 +1,0 @@
-use Rattle.std.proofs.lemmas.Result.{on_ok_weaker}
-use Rattle.fw_json_packets.proofs.IsoTexts.{iso_code}
-use Rattle.fw_json.proofs.iso.put_iso_code.Goals as goal
-
-pub returns : goal.returns
-returns c = on_ok_weaker c.put_word.result (λ e. iso_code _ _ e) c.put_word.ensures

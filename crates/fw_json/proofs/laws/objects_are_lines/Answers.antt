@@ -1,5 +1,0 @@
-use Rattle.fw_json.proofs.PlainEntries.{object_is_line}
-use Rattle.fw_json.proofs.laws.objects_are_lines.Goals as goal
-
-pub returns : goal.returns
-returns c = object_is_line

@@ -1,8 +1,0 @@
-use Rattle.std.proofs.lemmas.Result.{on_ok_weaker}
-use Rattle.fw_json_packets.proofs.Joins.{then}
-use Rattle.fw_json.proofs.packet.put_lock.Goals as goal
-
-pub returns : goal.returns
-returns c =
-    let t2 = then _ _ _ _ _ c.in_ok-put_count.ensures c.in_ok-put_function.ensures in
-    on_ok_weaker c.put_data.result (λ piece. then _ _ _ _ _ t2 piece) c.put_data.ensures

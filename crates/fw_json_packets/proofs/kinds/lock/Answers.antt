@@ -1,6 +1,0 @@
-use Rattle.std.proofs.Common.{[], codes, arith, refl}
-use Rattle.fw_json_packets.proofs.Joins.{one_text}
-use Rattle.fw_json_packets.proofs.kinds.lock.Goals as goal
-
-pub returns : goal.returns
-returns c = one_text [] _ (codes ",\"tcode\":") 9 (codes ",\"tcode_name\":") (codes "lock_request") (omega arith) refl

@@ -1,6 +1,0 @@
-use Rattle.std.proofs.Common.{[], refl}
-use Rattle.fw_json_packets.proofs.IsoTexts as Texts
-use Rattle.fw_json_packets.proofs.usual_iso.iso_code.Goals as goal
-
-pub returns : goal.returns
-returns c = Texts.iso_code [] _ refl

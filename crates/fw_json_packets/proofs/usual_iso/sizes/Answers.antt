@@ -1,5 +1,0 @@
-use Rattle.fw_json_packets.proofs.IsoTexts.{usual_pieces}
-use Rattle.fw_json_packets.proofs.usual_iso.sizes.Goals as goal
-
-pub returns : goal.returns
-returns c = usual_pieces

@@ -1,6 +1,0 @@
-use Rattle.std.proofs.Common.{◌≡◌}
-use Rattle.fw_known.specs.Channels.{freshened}
-use Rattle.fw_known.proofs.channels.Channels.freshen_all.Given as goal
-
-abbrev pub invariant-loop-at : goal.invariant-loop-at
-invariant-loop-at l = l.self ≡ freshened l.at l.first l.old l.now l.fn.self

@@ -1,0 +1,15 @@
+pub mod Common
+pub mod Rows
+pub mod Told
+pub mod ToldValues
+pub mod ToldLists
+pub mod ToldIds
+pub mod ToldPackets
+pub mod ToldIso
+pub mod ToldEvents
+pub mod ToldEntries
+pub mod PlainLaws
+pub mod PlainNames
+pub mod PlainIds
+pub mod PlainEntries
+pub mod LaterLaws

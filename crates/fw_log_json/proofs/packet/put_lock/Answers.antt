@@ -1,0 +1,7 @@
+use Rattle.fw_log_json.proofs.Common.{on_ok_weaker, then}
+use Rattle.fw_log_json.proofs.packet.put_lock.Goals as goal
+
+pub returns : goal.returns
+returns c =
+    let t2 = then _ _ _ _ _ c.in_ok-put_count.ensures c.in_ok-put_function.ensures in
+    on_ok_weaker c.put_data.result (λ piece. then _ _ _ _ _ t2 piece) c.put_data.ensures

@@ -1,0 +1,6 @@
+use Rattle.std.proofs.Common.{[], codes, arith, refl}
+use Rattle.fw_log_json_packets.proofs.Joins.{one_text}
+use Rattle.fw_log_json_packets.proofs.fields.address_error.Goals as goal
+
+pub returns : goal.returns
+returns c = one_text [] _ (codes ",\"rcode\":") 7 (codes ",\"rcode_name\":") (codes "address_error") (omega arith) refl

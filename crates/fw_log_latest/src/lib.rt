@@ -1,0 +1,109 @@
+//! The latest bus reset of a log: mostly the next one tells the same, but for its epoch, and then it need not be read again.
+#![tactic(auto)]
+
+ghost use Rattle.std.specs.Prelude.{◌≡◌, IsFalse, IsTrue, OnOk, drop};
+ghost use Rattle.fw_log_entry.specs.Log.{ResetFits, body};
+ghost use Rattle.fw_log_entry.specs.declared.entry.Entry.TheVariants.{Reset};
+ghost use Rattle.fw_log_entry.specs.declared.entry.ResetEntry.{ResetEntry as AReset};
+
+use fw_log_entry::{NodeList, ResetEntry};
+use fw_phy::SelfIds;
+use fw_words::quadlet_at;
+use std::alloc::{AllocError, Global};
+use std::marker::Model;
+
+/// How many bytes of a body the epoch takes, which comes first.
+const EPOCH_SIZE: usize = 4;
+
+/// The latest bus reset, if one is kept, and the bytes of its body after its epoch. Contracts see it as the bus reset.
+#[derive(Drop)]
+pub struct LatestReset {
+    is_kept: bool,
+    later: Vec<u8>,
+    entry: Box<ResetEntry>,
+}
+
+impl Model for LatestReset {
+    ghost use Rattle.std.specs.Prelude.{◌≡◌, IsTrue, drop};
+    ghost use Rattle.fw_log_entry.specs.Log.{ResetFits, body};
+    ghost use Rattle.fw_log_entry.specs.declared.entry.Entry.TheVariants.{Reset};
+    ghost use Rattle.fw_log_entry.specs.declared.entry.ResetEntry.{ResetEntry as AReset};
+
+    ghost Value = { AReset };
+
+    ghost view = { λ l. l.entry.value };
+
+    ghost invariant = { λ l. IsTrue l.is_kept → ResetFits l.entry.value × (drop 4 (body (Reset l.entry.value)) ≡ l.later.items) };
+}
+
+impl LatestReset {
+    /// None is kept. An error says that memory ran out, and comes for nothing else.
+    pub fn new(alloc: Global) -> Result<LatestReset, AllocError> {
+        let entry = ResetEntry {
+            epoch: 0,
+            root: 0,
+            manager: None,
+            initiator: 0,
+            nodes: NodeList::new(),
+            ids: SelfIds::new(),
+        };
+        Ok(LatestReset {
+            is_kept: false,
+            later: Vec::new(alloc),
+            entry: Box::new(alloc, entry)?,
+        })
+    }
+
+    /// Keeps this bus reset, whose body these bytes are, in place of the one before. An error says that memory ran out, and comes for nothing else:
+    /// none is kept then.
+    pub fn keep(&mut self, r: &ResetEntry, bytes: &[u8]) -> Result<(), AllocError>
+        requires fits { ResetFits r.now }
+        requires body { body (Reset r.now) ≡ bytes.now }
+        ensures { OnOk result (self.new ≡ r.now) }
+    {
+        self.is_kept = false;
+        self.later.clear();
+        self.later.extend_from_slice(&bytes[EPOCH_SIZE..])?;
+        self.entry.copy_from(r);
+        self.is_kept = true;
+        Ok(())
+    }
+
+    // These bytes stand after the epoch in the body of the one that is kept.
+    fn has(&self, later: &[u8]) -> bool
+        ensures { IsTrue result → ResetFits self.now × (drop 4 (body (Reset self.now)) ≡ later.now) }
+    {
+        self.is_kept && self.later.as_slice() == later
+    }
+
+    /// Whether a body of these bytes is that of the bus reset which is kept, but for the epoch. If so, that bus reset has the epoch of the bytes
+    /// from then on, and is the one whose body they are; else nothing changes.
+    pub fn renew(&mut self, bytes: &[u8]) -> bool
+        requires { (r : AReset) × ResetFits r × (body (Reset r) ≡ bytes.now) }
+        ensures renewed { IsTrue result → (r : AReset) → ResetFits r → body (Reset r) ≡ bytes.now → self.new ≡ r }
+        ensures same { IsFalse result → self.new ≡ self.old }
+    {
+        if !self.has(&bytes[EPOCH_SIZE..]) {
+            return false;
+        }
+        self.entry.epoch = quadlet_at(bytes, 0).0;
+        true
+    }
+
+    /// Whether a piece of a log seems to begin with an entry of the bus reset which is kept, but for the epoch: worth a closer look.
+    #[inline(always)]
+    pub fn seems_next(&self, piece: &[u8]) -> bool {
+        // The head has 16 bytes in version 2, in which a run writes its log.
+        match piece.get(16 + EPOCH_SIZE..) {
+            Some(later) => later.starts_with(self.later.as_slice()),
+            None => false,
+        }
+    }
+
+    /// The bus reset that is kept.
+    pub fn get(&self) -> &ResetEntry
+        ensures { result.now ≡ self.now }
+    {
+        &self.entry
+    }
+}

@@ -1,0 +1,397 @@
+-- What was read of a log, by the ending.
+use Rattle.std.proofs.Common.{◌≡◌, inl, inr, ℕ, ◌+◌, ◌-◌, ◌≤◌, ◌<◌, List, [], ◌++◌, length, take, drop}
+use Rattle.std.proofs.Common.{Option, Some, None, Ok, Err, arith, refl, ap, sym, subst, ◌∙◌, append_assoc, length-append}
+use Rattle.std.proofs.lemmas.List.{append-nil, take-append-drop, take-take, length-take-le, length-drop}
+use Rattle.fw_outside.specs.Outside.{Takes, Grows, IsAtEnd}
+use Rattle.fw_outside.specs.Stops.{ReadCount}
+use Rattle.fw_outside.specs.declared.stop.Stop.TheVariants.{ReadFault, WriteFault, TooLong, NoMemory}
+use Rattle.fw_outside.proofs.Parts.{Takes-Takes, Takes-nothing, Grows-Grows, then_front}
+use Rattle.fw_log_entry.specs.Log.{header_bytes, entries_bytes}
+use Rattle.fw_log_entry.specs.declared.version.Version.TheVariants.{One}
+use Rattle.fw_log_entry.specs.declared.entry.Timed.{Timed}
+use Rattle.fw_log.specs.Reading.{IsPending}
+use Rattle.fw_log.specs.Reader.{State, finish_of, finish_by, total}
+use Rattle.fw_log.specs.History.{bytes_of, stand_after, HasRead, IsLog, Finishes}
+use Rattle.fw_log.specs.Stands.{Position}
+use Rattle.fw_log.specs.declared.LogFault.{LogFault}
+use Rattle.fw_log_loop.specs.Readings.{Form, Rules, IsEach, written, bare, IsBare}
+use Rattle.fw_log_loop.specs.Turns.{SourceTurn, SinkTurn}
+use Rattle.fw_log_loop.specs.Endings.{opened, limit, piece_size, stop_of, IsRead, Decoded, Faulted, Rejected, RefusedWhole, PassedLimit, Interrupted, PartRead, PartClosed, Reads, ReadsLog}
+use Rattle.fw_log_loop.specs.declared.ending.LogEnd.TheVariants.{Whole}
+use Rattle.fw_log_loop.specs.declared.ending.LogEnding.{LogEnding}
+use Rattle.fw_log_loop.specs.declared.ending.LogEnding.TheVariants.{Done, NoLog, Refused, Stopped}
+use Rattle.fw_log_loop.specs.Pieces.{PrintsMore, PrintsTo, PrintsLast, PrintsFront, StopsAt, DecodedTo, ClosesLog, ClosesPart, EndsLog, taking, ReadsTo}
+use Rattle.fw_log_loop.proofs.Texts.{nothing_grew, grows_due, front_due, front_later, opened_is, none_before, front_of_none, front_of_all}
+use Rattle.fw_log_loop.proofs.Printings.{begins_of}
+
+-- how many bytes a reader has taken
+pub total_of : {entries : List Timed} {bytes : List ℕ} {r : State} → HasRead entries bytes r → total r ≡ length bytes
+total_of {entries} {bytes} {r} h = omega (arith, ap (λ (s : Position). s.start) h.stand, ap length h.same, length-append (bytes_of h.version entries) r.taken)
+
+pub decoded_first : {form : Form} (e : IsEach form.text) (Took : List Timed → Type 0) (left held : Option (List ℕ)) (r : State) → HasRead [] [] r → Took []
+    → DecodedTo form Took left left held held r limit
+decoded_first e Took left held r h t = record { entries = []; bytes = []; taken = Takes-nothing left; read = h; took = t; grew = nothing_grew e [] held; count = omega arith }
+
+-- all of a piece was within the limit
+pub decoded_more : {form : Form} (e : IsEach form.text) {Took Took' : List Timed → Type 0} {left left1 held held1 : Option (List ℕ)} {r : State} {room : ℕ} (left2 held2 : Option (List ℕ))
+    (new : State) (piece : List ℕ) (d : DecodedTo form Took left left1 held held1 r room)
+    → Takes left1 left2 piece → PrintsMore form Took' held1 held2 d.entries d.bytes piece new → length piece ≤ room → DecodedTo form Took' left left2 held held2 new (room - length piece)
+decoded_more {form} e {Took} {Took'} {left} {left1} {held} {held1} {r} {room} left2 held2 new piece d t p within = record {
+  entries = d.entries ++ p.more;
+  bytes = d.bytes ++ piece;
+  taken = Takes-Takes left left1 left2 d.bytes piece d.taken t;
+  read = p.read;
+  took = p.took;
+  grew = grows_due e form.head d.entries p.more (length d.bytes) (length (d.bytes ++ piece)) held held1 held2 (λ h. omega (arith, h, length-append d.bytes piece))
+      (none_before d.read.version d.entries r.taken d.bytes d.read.same) d.grew p.grew;
+  count = omega (arith, d.count, length-append d.bytes piece);
+}
+
+pending_of : {entries : List Timed} {bytes : List ℕ} {r : State} (h : HasRead entries bytes r) → IsPending (stand_after h.version entries) r.taken
+pending_of {entries} {bytes} {r} h = let P : Position → Type 0 = λ s. IsPending s r.taken in subst P h.stand h.pending
+
+-- ---- the end of the input
+
+-- a log has a header
+long_log : (entries : List Timed) (bytes : List ℕ) → IsLog entries bytes → 16 ≤ length bytes
+long_log entries bytes h = omega (arith, ap length h.spells.opens.same, length-append (header_bytes h.version) (entries_bytes h.version 0 entries))
+
+whole_head : (form : Form) (held held1 : Option (List ℕ)) (entries : List Timed) (bytes : List ℕ) → IsLog entries bytes → Grows held held1 (opened form.head (length bytes) ++ form.text [] entries)
+    → Grows held held1 (written (bare form) entries)
+whole_head form held held1 entries bytes log g = let P : List ℕ → Type 0 = λ x. Grows held held1 (x ++ form.text [] entries) in
+    subst P (opened_is form.head (length bytes) (long_log entries bytes log)) g
+
+-- the input was read to its end and is a log
+read_end : {form : Form} {Took : List Timed → Type 0} {left left1 held held1 : Option (List ℕ)} {r : State} {room : ℕ} (left2 : Option (List ℕ)) (d : DecodedTo form Took left left1 held held1 r room)
+    → Takes left1 left2 [] × IsAtEnd left2 → Finishes d.entries d.bytes (Ok tt) → IsRead left left2 d.entries
+read_end {form} {Took} {left} {left1} left2 d e f =
+    let T : List ℕ → Type 0 = Takes left left2 in
+    record { bytes = d.bytes; taken = subst T (append-nil d.bytes) (Takes-Takes left left1 left2 d.bytes [] d.taken e.0); end = e.1; log = f.complete; within = omega (arith, d.count) }
+
+-- and what is written at its end was written
+decoded_end : {R : Type 0} {form : Form} (rules : Rules R) {Took : List Timed → Type 0} {left left1 held held1 : Option (List ℕ)} {r : State} {room : ℕ} (left2 held2 : Option (List ℕ))
+    (d : DecodedTo form Took left left1 held held1 r room)
+    → Takes left1 left2 [] × IsAtEnd left2 → Finishes d.entries d.bytes (Ok tt) → ClosesLog rules d.entries held1 held2 → Decoded (bare form) (taking rules Took) left left2 held held2
+decoded_end {R} {form} rules {Took} {left} {left1} {held} {held1} left2 held2 d e f c = record {
+  entries = d.entries;
+  read = read_end left2 d e f;
+  accepted = d.took;
+  last = c.last;
+  closed = c.closed;
+  grew = Grows-Grows held held1 held2 (written (bare form) d.entries) c.last (whole_head form held held1 d.entries d.bytes f.complete d.grew) c.grew;
+}
+
+-- or a prefix of it
+part_end : {R : Type 0} {form : Form} (rules : Rules R) {Took : List Timed → Type 0} {left left1 held held1 : Option (List ℕ)} {r : State} {room : ℕ} (left2 held2 : Option (List ℕ))
+    (d : DecodedTo form Took left left1 held held1 r room)
+    → ((es : List Timed) → Took es → rules.accepts es) → Takes left1 left2 [] × IsAtEnd left2 → Finishes d.entries d.bytes (Ok tt) → ClosesPart rules d.entries held1 held2
+    → PartClosed (bare form) rules left left2 held held2
+part_end {R} {form} rules {Took} {left} {left1} {held} {held1} left2 held2 d took e f c = record {
+  entries = d.entries;
+  read = read_end left2 d e f;
+  accepted = took d.entries d.took;
+  last = c.last;
+  closed = c.closed;
+  grew = then_front held held1 held2 (written (bare form) d.entries) c.last (whole_head form held held1 d.entries d.bytes f.complete d.grew) c.grew;
+}
+
+-- or the log is refused
+refused_end : {R : Type 0} {form : Form} (rules : Rules R) {Took : List Timed → Type 0} {left left1 held held1 : Option (List ℕ)} {r : State} {room : ℕ} (left2 : Option (List ℕ)) (refusal : R)
+    (d : DecodedTo form Took left left1 held held1 r room)
+    → ((es : List Timed) → Took es → rules.accepts es) → Takes left1 left2 [] × IsAtEnd left2 → Finishes d.entries d.bytes (Ok tt) → rules.refuses d.entries refusal
+    → RefusedWhole (bare form) rules left left2 held held1 refusal
+refused_end {R} {form} rules {Took} {left} {left1} {held} {held1} left2 refusal d took e f u = record {
+  entries = d.entries;
+  read = read_end left2 d e f;
+  accepted = took d.entries d.took;
+  refused = u;
+  grew = whole_head form held held1 d.entries d.bytes f.complete d.grew;
+}
+
+-- or there was no memory for what is written at its end
+all_end : {form : Form} {Took : List Timed → Type 0} {left left1 held held1 : Option (List ℕ)} {r : State} {room : ℕ} (left2 : Option (List ℕ)) (d : DecodedTo form Took left left1 held held1 r room)
+    → Takes left1 left2 [] × IsAtEnd left2 → PartRead (bare form) left left2 held held1
+all_end {form} {Took} {left} {left1} {held} {held1} left2 d e =
+    let T : List ℕ → Type 0 = Takes left left2 in
+    record {
+      entries = d.entries;
+      bytes = d.bytes;
+      taken = subst T (append-nil d.bytes) (Takes-Takes left left1 left2 d.bytes [] d.taken e.0);
+      part = _;
+      begins = begins_of d.read;
+      end = Whole;
+      grew = front_of_all held held1 (opened form.head (length d.bytes) ++ form.text [] d.entries) d.grew;
+    }
+
+no_spelling : (entries : List Timed) (bytes : List ℕ) (f : LogFault) → Finishes entries bytes (Err f) → (all : List Timed) → IsLog all bytes → ⊥
+no_spelling entries bytes f h all s =
+    let P : List Timed → Type 0 = λ x. IsLog x bytes in
+    let wrong : Err f ≡ Ok tt = h.spelled (subst P (h.only all s.version s.spells.opens) s) in
+    cc wrong
+
+faulted_end : {form : Form} {Took : List Timed → Type 0} (accepts : List Timed → Type 0) {left left1 held held1 : Option (List ℕ)} {r : State} {room : ℕ} (left2 : Option (List ℕ)) (f : LogFault)
+    (d : DecodedTo form Took left left1 held held1 r room)
+    → ((es : List Timed) → Took es → accepts es) → Takes left1 left2 [] × IsAtEnd left2 → Finishes d.entries d.bytes (Err f) → Some f ≡ finish_of r
+    → Faulted (bare form) accepts left left2 held held1 f
+faulted_end {form} {Took} accepts {left} {left1} {held} {held1} {r} {room} left2 f d took e h is =
+    let same : finish_of r ≡ finish_by None (stand_after d.read.version d.entries) r.taken =
+    ap (λ (o : Option LogFault). finish_by o r.stand r.taken) d.read.no_fault ∙ ap (λ (s : Position). finish_by None s r.taken) d.read.stand in
+    record {
+      entries = d.entries;
+      bytes = d.bytes;
+      behind = [];
+      taken = Takes-Takes left left1 left2 d.bytes [] d.taken e.0;
+      within = omega (arith, d.count);
+      before = length d.bytes;
+      refused = inr (
+        refl,
+        e.1,
+        record {
+          part = r.taken;
+          begins = begins_of d.read;
+          pending = pending_of d.read;
+          fault_is = sym (is ∙ same);
+          place = h.place;
+          none = no_spelling d.entries d.bytes f h;
+        },
+        refl,
+      );
+      accepted = took d.entries d.took;
+      grew = d.grew;
+    }
+
+-- the input has ended, one way or another
+pub ended : {R : Type 0} {form : Form} (rules : Rules R) {Took : List Timed → Type 0} {left left1 held held1 : Option (List ℕ)} {r : State} {room : ℕ} (left2 held2 : Option (List ℕ))
+    (end : LogEnding R) (d : DecodedTo form Took left left1 held held1 r room)
+    → ((es : List Timed) → Took es → rules.accepts es) → Takes left1 left2 [] × IsAtEnd left2 → EndsLog rules d.entries d.bytes r held1 held2 end
+    → ReadsTo (bare form) rules Took left left2 held held2 end
+ended rules left2 held2 Done d took e f = decoded_end rules left2 held2 d e f.0 f.1
+ended {R} {form} rules {Took} {left} {left1} {held} {held1} left2 held2 (NoLog fault) d took e f =
+    let P : Option (List ℕ) → Type 0 = λ h. Faulted (bare form) Took left left2 held h fault in
+    subst P (sym f.2) (faulted_end Took left2 fault d (λ es t. t) e f.0 f.1)
+ended {R} {form} rules {Took} {left} {left1} {held} {held1} left2 held2 (Refused u) d took e f =
+    let P : Option (List ℕ) → Type 0 = λ h. RefusedWhole (bare form) rules left left2 held h u in
+    inr (subst P (sym f.2) (refused_end rules left2 u d took e f.0 f.1))
+ended rules left2 held2 (Stopped WriteFault) d took e f = inr (part_end rules left2 held2 d took e f.0 f.1)
+ended {R} {form} rules {Took} {left} {left1} {held} {held1} left2 held2 (Stopped NoMemory) d took e f =
+    let P : Option (List ℕ) → Type 0 = λ h. PartRead (bare form) left left2 held h in
+    subst P (sym f.1) (all_end left2 d e)
+ended rules left2 held2 (Stopped ReadFault) d took e f = absurd f
+ended rules left2 held2 (Stopped TooLong) d took e f = absurd f
+
+-- ---- before the end
+
+-- the source failed
+pub interrupted : {form : Form} {Took : List Timed → Type 0} {accepts : List Timed → Type 0} {left left1 held held1 : Option (List ℕ)} {r : State} {room : ℕ}
+    → ((es : List Timed) → Took es → accepts es) → DecodedTo form Took left left1 held held1 r room
+    → Interrupted (bare form) accepts left left1 held held1
+interrupted took d = record {
+  entries = d.entries;
+  bytes = d.bytes;
+  taken = d.taken;
+  within = omega (arith, d.count);
+  part = _;
+  begins = begins_of d.read;
+  pending = pending_of d.read;
+  accepted = took d.entries d.took;
+  grew = d.grew;
+}
+
+-- nothing was read
+pub part_nothing : (form : Form) (left held : Option (List ℕ)) → PartRead form left left held held
+part_nothing form left held = record {
+  entries = [];
+  bytes = [];
+  taken = Takes-nothing left;
+  part = [];
+  begins = record { version = One; order = tt; same = refl };
+  end = Whole;
+  grew = front_of_none held (form.closed [] Whole (form.front ++ (opened form.head 0 ++ form.text [] [])));
+}
+
+-- so a word that finds no memory before it reads promises no less
+pub nothing_read : {S K R : Type 0} (form : Form) (rules : Rules R) (source : SourceTurn S) (sink : SinkTurn K) → source.new ≡ source.old → sink.new ≡ sink.old
+    → ReadsLog form rules source sink (Stopped NoMemory)
+nothing_read {S} {K} {R} form rules source sink same kept = record {
+  reads = let P : S → K → Type 0 = λ s k. PartRead form (source.left source.old) (source.left s) (sink.held sink.old) (sink.held k) in
+      subst (λ s. P s sink.new) (sym same) (subst (P source.old) (sym kept) (part_nothing form (source.left source.old) (sink.held sink.old)));
+  read_count = ap source.faults same;
+  write_count = ap sink.faults kept;
+  complete = λ entries bytes is log short h. tt;
+}
+
+-- a piece of which not all was printed
+stopped_part : {form : Form} (each : IsEach form.text) {Took : List Timed → Type 0} {left left1 held held1 : Option (List ℕ)} {r : State} {room : ℕ} (left2 held2 : Option (List ℕ))
+    (piece behind : List ℕ) (d : DecodedTo form Took left left1 held held1 r room)
+    → Takes left1 left2 (piece ++ behind) → PrintsFront form held1 held2 d.entries (d.bytes ++ piece) (length d.bytes) → PartRead (bare form) left left2 held held2
+stopped_part {form} each {Took} {left} {left1} {held} {held1} {r} {room} left2 held2 piece behind d t p = record {
+  entries = d.entries ++ p.more;
+  bytes = d.bytes ++ (piece ++ behind);
+  taken = Takes-Takes left left1 left2 d.bytes (piece ++ behind) d.taken t;
+  part = p.part ++ behind;
+  begins = record {
+    version = p.begins.version;
+    order = p.begins.order;
+    same = sym (append_assoc (bytes_of p.begins.version (d.entries ++ p.more)) p.part behind) ∙ ap (λ (x : List ℕ). x ++ behind) p.begins.same ∙ append_assoc d.bytes piece behind;
+  };
+  end = Whole;
+  grew = front_later each form.head (d.entries ++ p.more) (length (d.bytes ++ piece)) (length (d.bytes ++ (piece ++ behind))) held held2
+      (omega (arith, length-append d.bytes piece, length-append d.bytes (piece ++ behind), length-append piece behind))
+      (none_before p.begins.version (d.entries ++ p.more) p.part (d.bytes ++ piece) p.begins.same)
+      (front_due each form.head d.entries p.more (length d.bytes) (length (d.bytes ++ piece)) held held1 held2 (λ h. omega (arith, h, length-append d.bytes piece))
+      (none_before d.read.version d.entries r.taken d.bytes d.read.same) d.grew p.grew);
+}
+
+stopped_fault : {form : Form} (each : IsEach form.text) (accepts : List Timed → Type 0) {Took : List Timed → Type 0} {left left1 held held1 : Option (List ℕ)} {r : State} {room : ℕ}
+    (left2 held2 : Option (List ℕ)) (piece behind : List ℕ) (f : LogFault) (d : DecodedTo form Took left left1 held held1 r room)
+    → Takes left1 left2 (piece ++ behind) → length piece ≤ room → length piece + length behind ≤ piece_size → PrintsTo form accepts held1 held2 d.entries d.bytes piece f
+    → Faulted (bare form) accepts left left2 held held2 f
+stopped_fault {form} each accepts {Took} {left} {left1} {held} {held1} {r} {room} left2 held2 piece behind f d t within few p =
+    let T : List ℕ → Type 0 = Takes left left2 in
+    record {
+      entries = d.entries ++ p.more;
+      bytes = d.bytes ++ piece;
+      behind = behind;
+      taken = subst T (sym (append_assoc d.bytes piece behind)) (Takes-Takes left left1 left2 d.bytes (piece ++ behind) d.taken t);
+      within = omega (arith, d.count, length-append d.bytes piece);
+      before = length (bytes_of p.refuses.begins.version (d.entries ++ p.more)) + p.refuses.index;
+      refused = inl (record { refuses = p.refuses; place = refl; soon = omega (arith, p.soon, few) });
+      accepted = p.accepted;
+      grew = grows_due each form.head d.entries p.more (length d.bytes) (length (bytes_of p.refuses.begins.version (d.entries ++ p.more)) + p.refuses.index) held held1 held2
+          (λ h. omega (arith, h, p.soon, ap length p.refuses.begins.same, length-append (bytes_of p.refuses.begins.version (d.entries ++ p.more)) p.refuses.part, length-append d.bytes piece))
+          (none_before d.read.version d.entries r.taken d.bytes d.read.same) d.grew p.grew;
+    }
+
+-- the log is refused at an entry
+stopped_last : {R : Type 0} {form : Form} (each : IsEach form.text) (rules : Rules R) {Took : List Timed → Type 0} {left left1 held held1 : Option (List ℕ)} {r : State} {room : ℕ}
+    (left2 held2 : Option (List ℕ)) (piece behind : List ℕ) (refusal : R) (d : DecodedTo form Took left left1 held held1 r room)
+    → Takes left1 left2 (piece ++ behind) → length piece ≤ room → length piece + length behind ≤ piece_size → PrintsLast form rules held1 held2 d.entries d.bytes piece refusal
+    → Rejected (bare form) rules left left2 held held2 refusal
+stopped_last {R} {form} each rules {Took} {left} {left1} {held} {held1} {r} {room} left2 held2 piece behind refusal d t within few p =
+    let T : List ℕ → Type 0 = Takes left left2 in
+    let line : d.bytes ++ (piece ++ behind) ≡ (d.bytes ++ p.done) ++ (p.rest ++ behind) =
+    ap (λ (x : List ℕ). d.bytes ++ x) (ap (λ (x : List ℕ). x ++ behind) (sym p.parts) ∙ append_assoc p.done p.rest behind) ∙ sym (append_assoc d.bytes p.done (p.rest ++ behind)) in
+    let size : length p.done + length p.rest ≡ length piece = omega (arith, ap length p.parts, length-append p.done p.rest) in
+    let P : List ℕ → Type 0 = λ x. Grows held held2 (x ++ form.text [] (d.entries ++ p.more)) in
+    record {
+      before = d.entries ++ p.more;
+      last = p.last;
+      bytes = d.bytes ++ p.done;
+      behind = p.rest ++ behind;
+      taken = subst T line (Takes-Takes left left1 left2 d.bytes (piece ++ behind) d.taken t);
+      within = omega (arith, d.count, within, size, length-append d.bytes p.done);
+      few = omega (arith, few, size, length-append p.rest behind);
+      begins = p.begins;
+      accepted = p.accepted;
+      rejected = p.rejected;
+      grew = subst P (opened_is form.head 16 (omega arith))
+          (grows_due each form.head d.entries p.more (length d.bytes) 16 held held1 held2 (λ h. omega arith) (none_before d.read.version d.entries r.taken d.bytes d.read.same) d.grew p.grew);
+    }
+
+stopped : {R : Type 0} {form : Form} (each : IsEach form.text) (rules : Rules R)
+    (Took' : List Timed → Type 0) {Took : List Timed → Type 0} {left left1 held held1 : Option (List ℕ)} {r : State} {room : ℕ} (left2 held2 : Option (List ℕ)) (piece behind : List ℕ)
+    (e : LogEnding R) (d : DecodedTo form Took left left1 held held1 r room)
+    → Takes left1 left2 (piece ++ behind) → length piece ≤ room → length piece + length behind ≤ piece_size → StopsAt form rules Took' held1 held2 d.entries d.bytes piece e
+    → ReadsTo (bare form) rules Took' left left2 held held2 e
+stopped each rules Took' left2 held2 piece behind (NoLog f) d t within few s = stopped_fault each Took' left2 held2 piece behind f d t within few s
+stopped each rules Took' left2 held2 piece behind (Refused u) d t within few s = inl (stopped_last each rules left2 held2 piece behind u d t within few s)
+stopped each rules Took' left2 held2 piece behind (Stopped WriteFault) d t within few s = inl (stopped_part each left2 held2 piece behind d t s)
+stopped each rules Took' left2 held2 piece behind (Stopped NoMemory) d t within few s = stopped_part each left2 held2 piece behind d t s
+stopped each rules Took' left2 held2 piece behind (Stopped ReadFault) d t within few s = absurd s
+stopped each rules Took' left2 held2 piece behind (Stopped TooLong) d t within few s = absurd s
+stopped each rules Took' left2 held2 piece behind Done d t within few s = absurd s
+
+-- some of the bytes were looked at
+pub stopped_in : {R : Type 0} {form : Form} (each : IsEach form.text) (rules : Rules R)
+    (Took' : List Timed → Type 0) {Took : List Timed → Type 0} {left left1 held held1 : Option (List ℕ)} {r : State} {room : ℕ} (left2 held2 : Option (List ℕ)) (piece behind : List ℕ)
+    (e : LogEnding R) (d : DecodedTo form Took left left1 held held1 r room)
+    → Takes left1 left2 (piece ++ behind) → length piece ≤ room → length piece + length behind ≤ piece_size → (front rest : List ℕ) × (front ++ rest ≡ piece)
+    × StopsAt form rules Took' held1 held2 d.entries d.bytes front e → ReadsTo (bare form) rules Took' left left2 held held2 e
+stopped_in each rules Took' {left1 = left1} left2 held2 piece behind e d t within few s =
+    let T : List ℕ → Type 0 = Takes left1 left2 in
+    stopped each rules Took' left2 held2 s.0 (s.1 ++ behind) e d (subst T (ap (λ (x : List ℕ). x ++ behind) (sym s.2) ∙ append_assoc s.0 s.1 behind) t)
+    (omega (arith, within, ap length s.2, length-append s.0 s.1))
+    (omega (arith, few, ap length s.2, length-append s.0 s.1, length-append s.1 behind)) s.3
+
+-- more bytes came than the limit
+pub passed : {form : Form} (each : IsEach form.text) {accepts : List Timed → Type 0} {Took Took' : List Timed → Type 0} {left left1 held held1 : Option (List ℕ)} {r : State} {room : ℕ}
+    → ((es : List Timed) → Took' es → accepts es) → (left2 held2 : Option (List ℕ)) (new : State) (piece behind : List ℕ)
+    (d : DecodedTo form Took left left1 held held1 r room) → Takes left1 left2 (piece ++ behind) → length piece ≡ room → 0 < length behind → length behind ≤ piece_size
+    → PrintsMore form Took' held1 held2 d.entries d.bytes piece new → PassedLimit (bare form) accepts left left2 held held2
+passed {form} each {accepts} {Took} {Took'} {left} {left1} {held} {held1} {r} {room} took left2 held2 new piece behind d t full some few p =
+    let T : List ℕ → Type 0 = Takes left left2 in
+    record {
+      entries = d.entries ++ p.more;
+      bytes = d.bytes ++ piece;
+      behind = behind;
+      taken = subst T (sym (append_assoc d.bytes piece behind)) (Takes-Takes left left1 left2 d.bytes (piece ++ behind) d.taken t);
+      full = omega (arith, d.count, full, length-append d.bytes piece);
+      more = some;
+      few = few;
+      part = new.taken;
+      begins = begins_of p.read;
+      pending = pending_of p.read;
+      accepted = took (d.entries ++ p.more) p.took;
+      grew =
+          let size : length (d.bytes ++ piece) ≡ limit = omega (arith, d.count, full, length-append d.bytes piece) in
+          let P : List ℕ → Type 0 = λ x. Grows held held2 (x ++ form.text [] (d.entries ++ p.more)) in
+          subst P (opened_is form.head (length (d.bytes ++ piece)) (omega (arith, size)))
+          (grows_due each form.head d.entries p.more (length d.bytes) (length (d.bytes ++ piece)) held held1 held2 (λ h. omega (arith, h, length-append d.bytes piece))
+          (none_before d.read.version d.entries r.taken d.bytes d.read.same) d.grew p.grew);
+    }
+
+-- what is read of entries that were taken, by a word that goes on after those that it takes
+pub read_by : {R : Type 0} (form : Form) (rules : Rules R) (Took : List Timed → Type 0) (left left' held held' : Option (List ℕ)) (e : LogEnding R) → ((es : List Timed) → Took es → rules.accepts es)
+    → ReadsTo form rules Took left left' held held' e → Reads form rules left left' held held' e
+read_by form rules Took left left' held held' Done took d = record { entries = d.entries; read = d.read; accepted = took d.entries d.accepted; last = d.last; closed = d.closed; grew = d.grew }
+read_by form rules Took left left' held held' (NoLog f) took d =
+    record { entries = d.entries; bytes = d.bytes; behind = d.behind; taken = d.taken; within = d.within; before = d.before; refused = d.refused; accepted = took d.entries d.accepted; grew = d.grew }
+read_by form rules Took left left' held held' (Refused u) took d = d
+read_by form rules Took left left' held held' (Stopped ReadFault) took d =
+    record { entries = d.entries; bytes = d.bytes; taken = d.taken; within = d.within; part = d.part; begins = d.begins; pending = d.pending; accepted = took d.entries d.accepted; grew = d.grew }
+read_by form rules Took left left' held held' (Stopped WriteFault) took d = d
+read_by form rules Took left left' held held' (Stopped TooLong) took d = record {
+  entries = d.entries;
+  bytes = d.bytes;
+  behind = d.behind;
+  taken = d.taken;
+  full = d.full;
+  more = d.more;
+  few = d.few;
+  part = d.part;
+  begins = d.begins;
+  pending = d.pending;
+  accepted = took d.entries d.accepted;
+  grew = d.grew;
+}
+read_by form rules Took left left' held held' (Stopped NoMemory) took d = d
+
+-- and that writes nothing before anything is read, and nothing at the end of what was read
+pub read_bare : {R : Type 0} (form : Form) (rules : Rules R) (Took : List Timed → Type 0) (left left' held held' : Option (List ℕ)) (e : LogEnding R) → IsBare form
+    → ((es : List Timed) → Took es → rules.accepts es) → ReadsTo (bare form) rules Took left left' held held' e
+    → Reads form rules left left' held held' e
+read_bare form rules Took left left' held held' e is took d =
+    let P : Form → Type 0 = λ f. Reads f rules left left' held held' e in
+    subst P (sym is) (read_by (bare form) rules Took left left' held held' e took d)
+
+-- what was read is what is within the limit, and what is after it
+pub cut_at : (n m : ℕ) (xs : List ℕ) → n ≤ m → take n xs ++ drop n (take m xs) ≡ take m xs
+cut_at n m xs within = ap (λ (x : List ℕ). x ++ drop n (take m xs)) (sym (take-take n m xs within)) ∙ take-append-drop n (take m xs)
+
+pub few_taken : (n m : ℕ) (xs : List ℕ) → n ≤ m → m ≤ length xs → length xs ≤ piece_size → length (take n xs) + length (drop n (take m xs)) ≤ piece_size
+few_taken n m xs less fits size = omega (arith, less, fits, size, length-take-le n xs (omega (arith, less, fits)), length-take-le m xs fits, length-drop n (take m xs))
+
+pub few_behind : {k : ℕ} (n : ℕ) → n + k ≤ piece_size → k ≤ piece_size
+few_behind n h = omega (arith, h)
+
+-- ---- the end of the input meets no fault of the source
+
+pub end_read : {R : Type 0} (rules : Rules R) (entries : List Timed) (bytes : List ℕ) (r : State) (held held' : Option (List ℕ)) (e : LogEnding R) (old new : ℕ)
+    → EndsLog rules entries bytes r held held' e → new ≡ old → ReadCount old new (stop_of e)
+end_read rules entries bytes r held held' Done old new s is = is
+end_read rules entries bytes r held held' (NoLog f) old new s is = is
+end_read rules entries bytes r held held' (Refused u) old new s is = is
+end_read rules entries bytes r held held' (Stopped ReadFault) old new s is = absurd s
+end_read rules entries bytes r held held' (Stopped WriteFault) old new s is = is
+end_read rules entries bytes r held held' (Stopped TooLong) old new s is = is
+end_read rules entries bytes r held held' (Stopped NoMemory) old new s is = is

@@ -1,0 +1,179 @@
+//! `holders`: who holds what, each time that it changes, and at the log's end.
+
+ghost use Rattle.std.specs.Prelude.{◌≡◌, ◌+◌, ◌<◌, ◌^◌, [], List, length, IfOk, IsTrue, IsFalse};
+ghost use Rattle.fw_async.specs.Reader.{IsPacket, Spells};
+ghost use Rattle.fw_async.specs.declared.packet.Packet.{Packet as APacket};
+ghost use Rattle.fw_log_entry.specs.Log.{ResetFits, body};
+ghost use Rattle.fw_log_entry.specs.declared.entry.Entry.{Entry as AnEntry};
+ghost use Rattle.fw_log_entry.specs.declared.entry.Entry.TheVariants.{Async, Reset};
+ghost use Rattle.fw_log_entry.specs.declared.entry.ResetEntry.{ResetEntry as AReset};
+ghost use Rattle.fw_log_entry.specs.declared.entry.Timed.{Timed as TimedEntry};
+ghost use Rattle.fw_log.specs.Passing.{HasBody};
+ghost use Rattle.fw_log_loop.specs.Endings.{ReadsLog};
+ghost use Rattle.fw_log_reports.specs.Holdings.{holders_form, holders_rules, Takes, TakesText};
+ghost use Rattle.fw_log_text.specs.Resets.{IsResetBody};
+
+use crate::passing::{is_passed_body, may_pass};
+use crate::whole_bus::read_whole_bus;
+use crate::whole_reset::no_reset;
+use crate::{LogRefusal, Unsound};
+use fw_holders::Holders;
+use fw_log::{LogReader, PlainBody, Room, Timed};
+use fw_log_loop::{Closing, LogEnding, Reading, Stop, read_log};
+use fw_outside::{Failed, Sink, Source};
+use std::alloc::{AllocError, Global};
+
+// Who holds what after the entries that were taken, and how many they are.
+#[derive(Drop)]
+struct Holding {
+    holders: Holders,
+    count: u64,
+}
+
+impl Holding {
+    fn new(alloc: Global) -> Result<Holding, AllocError>
+        ensures text { IfOk result (λ h. h.holders.text ≡ []) }
+        ensures took { IfOk result (λ h. Takes h []) }
+    {
+        Ok(Holding {
+            holders: Holders::new(alloc)?,
+            count: 0,
+        })
+    }
+
+    // Takes the packet of this cycle that these bytes are, if a short look finds that it has no fault. If it does not, nothing
+    // is changed.
+    #[inline(always)]
+    fn pass_packet(&mut self, cycle: u64, bytes: &[u8]) -> Result<bool, AllocError>
+        requires { IsPacket bytes.now }
+        ensures passed { (entries : List TimedEntry) (t : TimedEntry) (p : APacket) → t.cycle ≡ cycle → t.what ≡ Async p → Spells p bytes.now
+            → length entries + 1 < 2 ^ 64 → Takes self.old entries → IfOk result (λ passed. IsTrue passed → TakesText entries t self.old self.new) }
+        ensures kept { IfOk result (λ passed. IsFalse passed → self.new ≡ self.old) }
+    {
+        if !self.holders.pass_packet(cycle, bytes)? {
+            return Ok(false);
+        }
+        self.count = self.count.saturating_add(1);
+        Ok(true)
+    }
+
+    // The same of the bus reset whose body these bytes are. Not in line: it is long, and would slow the packets down.
+    #[inline(never)]
+    fn pass_reset(&mut self, cycle: u64, bytes: &[u8]) -> Result<bool, AllocError>
+        requires { IsResetBody bytes.now }
+        ensures passed { (entries : List TimedEntry) (t : TimedEntry) (r : AReset) → t.cycle ≡ cycle → t.what ≡ Reset r → ResetFits r → body (Reset r) ≡ bytes.now
+            → length entries + 1 < 2 ^ 64 → Takes self.old entries → IfOk result (λ passed. IsTrue passed → TakesText entries t self.old self.new) }
+        ensures kept { IfOk result (λ passed. IsFalse passed → self.new ≡ self.old) }
+    {
+        let mut bus = no_reset();
+        read_whole_bus(&mut bus, bytes);
+        if !self.holders.pass_reset(cycle, &bus)? {
+            return Ok(false);
+        }
+        self.count = self.count.saturating_add(1);
+        Ok(true)
+    }
+
+    // The same of the entry that has this body. One that no audit looks at has no line.
+    #[inline(always)]
+    fn pass_body(&mut self, cycle: u64, body: &PlainBody) -> Result<bool, AllocError>
+        requires { (e : AnEntry) × HasBody body.now e }
+        ensures passed { (entries : List TimedEntry) (t : TimedEntry) → t.cycle ≡ cycle → HasBody body.now t.what
+            → length entries + 1 < 2 ^ 64 → Takes self.old entries → IfOk result (λ passed. IsTrue passed → TakesText entries t self.old self.new) }
+        ensures kept { IfOk result (λ passed. IsFalse passed → self.new ≡ self.old) }
+    {
+        if is_passed_body(body) {
+            self.count = self.count.saturating_add(1);
+            return Ok(true);
+        }
+        match body {
+            PlainBody::Packet(bytes) => self.pass_packet(cycle, bytes.as_slice()),
+            PlainBody::Reset(bytes) => self.pass_reset(cycle, bytes.as_slice()),
+            PlainBody::Iso(_) => Ok(false),
+        }
+    }
+}
+
+impl Reading for Holding {
+    type Refusal = LogRefusal;
+
+    ghost use Rattle.fw_log_reports.specs.Holdings.{holders_each, takes_accepted, held_unrefused};
+
+    ghost form = { λ v. holders_form };
+
+    ghost rules = { holders_rules };
+
+    ghost took = { λ v entries. Takes v entries };
+
+    ghost gathered = { λ v. v.holders.text };
+
+    fn open<K: Sink>(&self, _sink: &mut K) -> Result<(), Failed> {
+        Ok(())
+    }
+
+    fn take(&mut self, entry: &Timed, _bytes: &[u8]) -> Result<Option<LogRefusal>, AllocError> {
+        match self.holders.take(entry)? {
+            Some(fault) => Ok(Some(LogRefusal::Audit(Unsound {
+                entry: self.count,
+                fault,
+            }))),
+            None => {
+                self.count = self.count.saturating_add(1);
+                Ok(None)
+            }
+        }
+    }
+
+    // No fault of a packet of a usual form is looked for twice.
+    fn pass(
+        &mut self,
+        reader: &mut LogReader,
+        room: &mut Room,
+        piece: &[u8],
+    ) -> Result<Option<usize>, AllocError> {
+        if !may_pass(reader.next_kind(piece)) {
+            return Ok(None);
+        }
+        let Some(next) = reader.next_body(piece, room) else {
+            return Ok(None);
+        };
+        if !self.pass_body(next.passed.cycle, &next.body)? {
+            return Ok(None);
+        }
+        Ok(Some(reader.go_past(piece, &next.passed)))
+    }
+
+    fn gathered(&self) -> &[u8] {
+        self.holders.as_slice()
+    }
+
+    fn clear(&mut self) {
+        self.holders.clear();
+    }
+
+    fn close(&self, alloc: Global) -> Result<Closing<LogRefusal>, AllocError> {
+        Ok(Closing::Bytes(self.holders.table(alloc)?))
+    }
+
+    ghost each = { λ v. holders_each };
+
+    ghost accepted = { λ v entries a. takes_accepted v entries a };
+
+    ghost unrefused = { held_unrefused };
+}
+
+/// Reads a log, and writes a line each time that an allocation or a connection changes, with what is left and who holds what, and at
+/// the log's end a table of all that is held. It refuses what `audit` refuses.
+pub fn holders<S: Source, K: Sink>(
+    alloc: Global,
+    source: &mut S,
+    sink: &mut K,
+) -> LogEnding<LogRefusal>
+    ensures { ReadsLog holders_form holders_rules (record { left = S.left; faults = S.faults; old = source.old; new = source.new })
+        (record { held = K.held; faults = K.faults; old = sink.old; new = sink.new }) result }
+{
+    match Holding::new(alloc) {
+        Ok(holding) => read_log(alloc, holding, source, sink),
+        Err(_) => LogEnding::Stopped(Stop::NoMemory),
+    }
+}

@@ -1,0 +1,196 @@
+//! `audit`: whether the registers of a log ran as a sound account.
+
+ghost use Rattle.std.specs.Prelude.{◌≡◌, ◌+◌, ◌<◌, ◌^◌, ◌++◌, ◌∷◌, [], List, length, IfOk, IsTrue, IsFalse, string_bytes};
+ghost use Rattle.fw_async.specs.Reader.{IsPacket, Spells};
+ghost use Rattle.fw_async.specs.declared.packet.Packet.{Packet as APacket};
+ghost use Rattle.fw_log_entry.specs.Log.{Fits, ResetFits, body};
+ghost use Rattle.fw_log_entry.specs.declared.entry.Entry.{Entry as AnEntry};
+ghost use Rattle.fw_log_entry.specs.declared.entry.Entry.TheVariants.{Async, Reset};
+ghost use Rattle.fw_log_entry.specs.declared.entry.ResetEntry.{ResetEntry as AReset};
+ghost use Rattle.fw_log_entry.specs.declared.entry.Timed.{Timed as TimedEntry};
+ghost use Rattle.fw_log.specs.Passing.{HasBody};
+ghost use Rattle.fw_log_loop.specs.Endings.{ReadsLog};
+ghost use Rattle.fw_log_reports.specs.Texts.{silent_form, count_text};
+ghost use Rattle.fw_log_reports.specs.Verdicts.{audit_rules, Audits, Judges};
+ghost use Rattle.fw_log_text.specs.Resets.{IsResetBody};
+
+use crate::passing::{is_passed_body, may_pass};
+use crate::whole_bus::read_whole_bus;
+use crate::whole_reset::no_reset;
+use crate::{LogRefusal, Unsound};
+use fw_audit::Audit;
+use fw_log::{LogReader, PlainBody, Room, Timed};
+use fw_log_loop::{Closing, LogEnding, Reading, Stop, read_log};
+use fw_outside::{Failed, Sink, Source};
+use std::alloc::{AllocError, Global};
+
+// An audit, and how many entries it took.
+#[derive(Drop)]
+struct Verdict {
+    audit: Audit,
+    count: u64,
+}
+
+// The text of a log in which no entry has a fault.
+fn sound_text(alloc: Global, count: u64) -> Result<String, AllocError>
+    ensures { IfOk result (λ s. string_bytes s ≡ count_text count) }
+{
+    let mut text = String::new(alloc);
+    write!(text, "sound {count}\n")?;
+    Ok(text)
+}
+
+impl Verdict {
+    // The verdict on no entries. All memory is taken here.
+    fn new(alloc: Global) -> Result<Verdict, AllocError>
+        ensures { IfOk result (λ v. Audits v []) }
+    {
+        Ok(Verdict {
+            audit: Audit::new(alloc)?,
+            count: 0,
+        })
+    }
+
+    // Takes an entry more, and answers its fault, if any, as what the log is refused with.
+    fn judge(&mut self, entry: &Timed) -> Result<Option<LogRefusal>, AllocError>
+        requires { Fits entry.now.what }
+        ensures { (entries : List TimedEntry) → length entries + 1 < 2 ^ 64 → Audits self.old entries
+            → IfOk result (λ refusal. Judges self.new (entries ++ entry.now ∷ []) refusal) }
+    {
+        match self.audit.take(entry)? {
+            Some(fault) => Ok(Some(LogRefusal::Audit(Unsound {
+                entry: self.count,
+                fault,
+            }))),
+            None => {
+                self.count = self.count.saturating_add(1);
+                Ok(None)
+            }
+        }
+    }
+
+    // Takes the packet that these bytes are, if a short look finds that it has no fault. If it does not, nothing is changed.
+    #[inline(always)]
+    fn pass_packet(&mut self, bytes: &[u8]) -> bool
+        requires { IsPacket bytes.now }
+        ensures passed { IsTrue result → (entries : List TimedEntry) (t : TimedEntry) (p : APacket) → t.what ≡ Async p → Spells p bytes.now
+            → length entries + 1 < 2 ^ 64 → Audits self.old entries → Audits self.new (entries ++ t ∷ []) }
+        ensures kept { IsFalse result → self.new ≡ self.old }
+    {
+        if !self.audit.pass_packet(bytes) {
+            return false;
+        }
+        self.count = self.count.saturating_add(1);
+        true
+    }
+
+    // The same of the bus reset whose body these bytes are. Not in line: it is long, and would slow the packets down.
+    #[inline(never)]
+    fn pass_reset(&mut self, bytes: &[u8]) -> bool
+        requires { IsResetBody bytes.now }
+        ensures passed { IsTrue result → (entries : List TimedEntry) (t : TimedEntry) (r : AReset) → t.what ≡ Reset r → ResetFits r → body (Reset r) ≡ bytes.now
+            → length entries + 1 < 2 ^ 64 → Audits self.old entries → Audits self.new (entries ++ t ∷ []) }
+        ensures kept { IsFalse result → self.new ≡ self.old }
+    {
+        let mut bus = no_reset();
+        read_whole_bus(&mut bus, bytes);
+        if !self.audit.pass_reset(bus.manager, bus.nodes.as_slice()) {
+            return false;
+        }
+        self.count = self.count.saturating_add(1);
+        true
+    }
+
+    // The same of the entry that has this body.
+    #[inline(always)]
+    fn pass_body(&mut self, body: &PlainBody) -> bool
+        requires { (e : AnEntry) × HasBody body.now e }
+        ensures passed { IsTrue result → (entries : List TimedEntry) (t : TimedEntry) → HasBody body.now t.what
+            → length entries + 1 < 2 ^ 64 → Audits self.old entries → Audits self.new (entries ++ t ∷ []) }
+        ensures kept { IsFalse result → self.new ≡ self.old }
+    {
+        if is_passed_body(body) {
+            self.count = self.count.saturating_add(1);
+            return true;
+        }
+        match body {
+            PlainBody::Packet(bytes) => self.pass_packet(bytes.as_slice()),
+            PlainBody::Reset(bytes) => self.pass_reset(bytes.as_slice()),
+            PlainBody::Iso(_) => false,
+        }
+    }
+}
+
+impl Reading for Verdict {
+    type Refusal = LogRefusal;
+
+    ghost use Rattle.fw_log_reports.specs.Texts.{silent_each};
+    ghost use Rattle.fw_log_reports.specs.Verdicts.{audits_accepted, sound_unrefused};
+
+    ghost form = { λ v. silent_form };
+
+    ghost rules = { audit_rules };
+
+    ghost took = { λ v entries. Audits v entries };
+
+    ghost gathered = { λ v. [] };
+
+    fn open<K: Sink>(&self, _sink: &mut K) -> Result<(), Failed> {
+        Ok(())
+    }
+
+    fn take(&mut self, entry: &Timed, _bytes: &[u8]) -> Result<Option<LogRefusal>, AllocError> {
+        self.judge(entry)
+    }
+
+    // No fault of a packet of a usual form is looked for twice.
+    fn pass(
+        &mut self,
+        reader: &mut LogReader,
+        room: &mut Room,
+        piece: &[u8],
+    ) -> Result<Option<usize>, AllocError> {
+        if !may_pass(reader.next_kind(piece)) {
+            return Ok(None);
+        }
+        let Some(next) = reader.next_body(piece, room) else {
+            return Ok(None);
+        };
+        if !self.pass_body(&next.body) {
+            return Ok(None);
+        }
+        Ok(Some(reader.go_past(piece, &next.passed)))
+    }
+
+    fn gathered(&self) -> &[u8] {
+        &[]
+    }
+
+    fn clear(&mut self) {}
+
+    fn close(&self, alloc: Global) -> Result<Closing<LogRefusal>, AllocError> {
+        Ok(Closing::Text(sound_text(alloc, self.count)?))
+    }
+
+    ghost each = { λ v. silent_each };
+
+    ghost accepted = { λ v entries a. audits_accepted v entries a };
+
+    ghost unrefused = { sound_unrefused };
+}
+
+/// Reads a log, and writes how many entries it has if none of them has a fault. The first that has one ends the call as soon as
+/// it was read; nothing is written then.
+pub fn audit<S: Source, K: Sink>(
+    alloc: Global,
+    source: &mut S,
+    sink: &mut K,
+) -> LogEnding<LogRefusal>
+    ensures { ReadsLog silent_form audit_rules (record { left = S.left; faults = S.faults; old = source.old; new = source.new })
+        (record { held = K.held; faults = K.faults; old = sink.old; new = sink.new }) result }
+{
+    match Verdict::new(alloc) {
+        Ok(verdict) => read_log(alloc, verdict, source, sink),
+        Err(_) => LogEnding::Stopped(Stop::NoMemory),
+    }
+}

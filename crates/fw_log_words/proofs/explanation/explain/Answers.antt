@@ -1,0 +1,6 @@
+use Rattle.std.proofs.Common.{refl}
+use Rattle.fw_log_loop.proofs.Decodings.{nothing_read}
+use Rattle.fw_log_words.proofs.explanation.explain.Goals as goal
+
+pub returns-in-Err : goal.returns-in-Err
+returns-in-Err g c = nothing_read _ _ _ _ refl refl

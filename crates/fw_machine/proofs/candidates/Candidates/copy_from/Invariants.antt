@@ -1,8 +1,0 @@
-use Rattle.std.proofs.Common.{◌≡◌, ◌≤◌, vec_capacity, take}
-use Rattle.fw_machine.proofs.candidates.Candidates.copy_from.Given as goal
-
-abbrev pub invariant-loop-candidate : goal.invariant-loop-candidate
-invariant-loop-candidate l = record {
-  items : l.self-inside.list.items ≡ take l.candidate-index l.other.list;
-  room : 63 ≤ vec_capacity l.self-inside.list;
-}

@@ -1,9 +1,0 @@
-use Rattle.std.proofs.Common.{◌≡◌, ◌≤◌, vec_capacity, take}
-use Rattle.fw_machine.specs.Copies.{controllers_at}
-use Rattle.fw_machine.proofs.copies.copy_controllers.Given as goal
-
-abbrev pub invariant-loop-number : goal.invariant-loop-number
-invariant-loop-number l = record {
-  controllers : l.list.items ≡ controllers_at l.kept (take l.number-index l.numbers);
-  room : 63 ≤ vec_capacity l.list;
-}

@@ -1,6 +1,0 @@
-use Rattle.std.proofs.Common.{sym}
-use Rattle.fw_machine.proofs.Listening.{recording_codes}
-use Rattle.fw_machine.proofs.recording.is_recording.Goals as goal
-
-pub returns-in_default : goal.returns-in_default
-returns-in_default c = sym (recording_codes c.args.transport c.in_default.not-Record)

@@ -1,0 +1,5 @@
+pub mod Done
+pub mod ToDeeds
+pub mod FromDeeds
+pub mod Decided
+pub mod OneFound

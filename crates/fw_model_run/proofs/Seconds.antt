@@ -1,0 +1,256 @@
+-- Each end of a second in a log is one of a second of the run.
+use Rattle.fw_model_run.proofs.Common.{◌≡◌, ◌⊎◌, inl, inr, ℕ, ◌==◌, List, [], ◌∷◌, ◌++◌, Bool, true, false, Option}
+use Rattle.fw_model_run.proofs.Common.{Some, None, refl, ap, sym, subst, ◌∙◌, IsTrue, Entry, Reset, Async, Iso, Event, Outcome}
+use Rattle.fw_model_run.proofs.Common.{Shown, EndEntry, Timed, Account, at_cycle, at_most, second_over, State, first_state, Action, EndSecond, Step, Steps, IsGood}
+use Rattle.fw_log_entry.specs.declared.codes.event.TheConstants.{SECOND_OVER}
+use Rattle.fw_model_run.specs.Reclaiming.{IsBusReset, GoesOn, IsSecond, EndsAreSeconds}
+use Rattle.fw_model_run.proofs.Along.{step_led}
+use Rattle.fw_model_run.proofs.Led.{Led}
+use Rattle.fw_model_run.proofs.Settling.{half_turn}
+use Rattle.fw_model_run.proofs.Steps.{step_good}
+use Rattle.fw_model_run.proofs.Times.{first_good, second_ends}
+use Rattle.fw_model_run.proofs.Withholds.{withholding_keeps}
+use Rattle.fw_model_run.proofs.Alterations.{Allows, Alteration, Halved, Over, Withheld, altered, marked, told_by}
+use Rattle.fw_model_run.proofs.Effects.{Effect, altering, effect, resetting}
+use Rattle.fw_model_run.proofs.Marks.{Ends, Marks, Neither, closes, ends, event_mark, mark, nothing}
+
+-- ---- which action begins a second
+
+-- a bus reset, or the second ran before
+as_before : (s u t : State) → t ≡ u → u.account.reclaiming ≡ s.account.reclaiming → IsTrue t.account.reclaiming → IsTrue s.account.reclaiming
+as_before s u t is same runs = sym (ap (λ (z : State). z.account.reclaiming) is ∙ same) ∙ runs
+
+begins : (s : State) (a : Action) (out : List Timed) (t : State) → IsGood s → Step s a out t → IsBusReset s a t ⊎ (IsTrue t.account.reclaiming → IsTrue s.account.reclaiming)
+begins s a out t g x = go (effect s a out t x)
+  where
+    before : (y : Alteration) → Allows s a y → (altered s y).account.reclaiming ≡ true → IsTrue s.account.reclaiming
+    before (Halved d lost resets half_steps) ok runs = sym (half_turn s d g ok.2).1.reclaiming ∙ runs
+    before Over ok runs = ok.1
+    before Withheld ok runs = sym (withholding_keeps (λ (l : Account). l.reclaiming) s.account refl) ∙ runs
+    before _ ok runs = runs
+
+    go : Effect s a out t → IsBusReset s a t ⊎ (IsTrue t.account.reclaiming → IsTrue s.account.reclaiming)
+    go (resetting resets half_steps n initiator free may_begin may r) = inl (record { entry = r.entry; step = subst (λ o. Step s a o t) r.out_is x })
+    go (altering y waits out_is is ok) = inr (λ runs. before y ok (subst (λ (z : State). IsTrue z.account.reclaiming) is runs))
+
+-- ---- the bus reset after a state in which a second runs
+
+-- the second does not run after an action that ends it
+goes_on : (s : State) (a : Action) (xs : List Action) (out : List Timed) (t : State) → Step s a out t → IsTrue t.account.reclaiming
+    → GoesOn xs → GoesOn (a ∷ xs)
+goes_on s EndSecond xs out t x runs on =
+    let ended : t.account.reclaiming ≡ false = ap (λ (z : State). z.account.reclaiming) x.1.4 ∙ ap (λ (l : Account). l.reclaiming) (second_ends s.account x.1.1) in
+    let wrong : true ≡ false = sym runs ∙ ended in
+    cc wrong
+goes_on s _ xs out t x runs on = on
+
+-- actions with a bus reset among them, since which no second ended
+record Opened (s t : State) (xs : List Action) : Type 0 where
+  early : List Action
+  front : List Timed
+  before : State
+  run : Steps s early front before
+  reset : Action
+  opened : State
+  opens : IsBusReset before reset opened
+  during : List Action
+  out : List Timed
+  steps : Steps opened during out t
+  all : xs ≡ early ++ reset ∷ during
+  on : IsTrue t.account.reclaiming → GoesOn during
+
+-- the second ran before the actions, and does not end in them
+abbrev Runs : State → State → List Action → Type 0
+Runs s t xs = IsTrue t.account.reclaiming → IsTrue s.account.reclaiming × GoesOn xs
+
+opened_of : (s t : State) (xs : List Action) (out : List Timed) → IsGood s → Steps s xs out t → Opened s t xs ⊎ Runs s t xs
+opened_of s t [] out g f = inr (λ runs. (as_before s s t f.1 refl runs, tt))
+opened_of s t (a ∷ xs) out g f = go (opened_of f.2 t xs f.1 (step_good s a f.0 f.2 g f.3) f.5) (begins s a f.0 f.2 g f.3)
+  where
+    go : Opened f.2 t xs ⊎ Runs f.2 t xs
+        → IsBusReset s a f.2 ⊎ (IsTrue f.2.account.reclaiming → IsTrue s.account.reclaiming) → Opened s t (a ∷ xs) ⊎ Runs s t (a ∷ xs)
+    go (inl o) b = inl (record {
+      early = a ∷ o.early;
+      front = f.0 ++ o.front;
+      before = o.before;
+      run = (f.0, o.front, f.2, f.3, refl, o.run);
+      reset = o.reset;
+      opened = o.opened;
+      opens = o.opens;
+      during = o.during;
+      out = o.out;
+      steps = o.steps;
+      all = ap (λ z. a ∷ z) o.all;
+      on = o.on;
+    })
+    go (inr on) (inl r) = inl (record {
+      early = [];
+      front = [];
+      before = s;
+      run = (refl, refl);
+      reset = a;
+      opened = f.2;
+      opens = r;
+      during = xs;
+      out = f.1;
+      steps = f.5;
+      all = refl;
+      on = λ runs. (on runs).1;
+    })
+    go (inr on) (inr earlier) = inr (λ runs. let y = on runs in (earlier y.0, goes_on s a xs f.0 f.2 f.3 y.0 y.1))
+
+-- ---- which action ends one
+
+abbrev pub is_over : Entry → Bool
+is_over (Event e) = e.code == SECOND_OVER
+is_over (Reset r) = false
+is_over (Async p) = false
+is_over (Iso p) = false
+is_over (Outcome o) = false
+is_over (Shown s) = false
+is_over EndEntry = false
+
+-- the first entry ends a second
+abbrev pub opens_over : List Timed → Bool
+opens_over [] = false
+opens_over (e ∷ es) = is_over e.what
+
+-- an entry that ends none
+no_over : (c : ℕ) (o : Option Entry) → mark o ≡ Neither → opens_over (at_most c o) ≡ false
+no_over c (Some (Event e)) is = go (e.code == SECOND_OVER) is
+  where
+    go : (b : Bool) → event_mark b ≡ Neither → b ≡ false
+    go true f = let clash : Ends ≡ Neither = f in absurd (cc clash)
+    go false f = refl
+no_over c _ is = refl
+
+never : (out others : List Timed) → opens_over out ≡ true → out ≡ others → opens_over others ≡ false → ⊥
+never out others over is f = let clash : true ≡ false = sym over ∙ (ap opens_over is ∙ f) in cc clash
+
+-- it is the end of the second
+ends_it : (s : State) (a : Action) (out : List Timed) (t : State) → Step s a out t → opens_over out ≡ true → Step s EndSecond out t
+ends_it s a out t x over = go (effect s a out t x)
+  where
+    by : (c : ℕ) (o : Option Entry) → out ≡ at_most c o → Marks a o → Step s EndSecond out t
+    by c o is (nothing f) = absurd (never out (at_most c o) over is (no_over c o f))
+    by c o is (ends e f) = subst (λ b. Step s b out t) e x
+    by c (Some EndEntry) is (closes e f) = absurd (never out (at_most c (Some EndEntry)) over is refl)
+    by c _ is (closes e f) = absurd (cc f)
+
+    go : Effect s a out t → Step s EndSecond out t
+    go (resetting resets half_steps n initiator free begins may r) = absurd (never out (at_most s.clock.cycle (Some (Reset r.entry))) over r.out_is refl)
+    go (altering y waits out_is is ok) = by _ (told_by s y) out_is (marked s a y ok)
+
+-- ---- if a log has the end of a second
+
+record Ended (s : State) (xs : List Action) (front : List Timed) : Type 0 where
+  done : List Action
+  after : State
+  run : Steps s done front after
+  last : List Timed
+  end : State
+  ends : Step after EndSecond last end
+  later : List Action
+  all : xs ≡ done ++ later
+
+-- the action that writes the first entry is the end of the second, or writes nothing
+ended_of : (s t : State) (xs : List Action) (out front rest : List Timed) (e : Timed) → IsGood s → Steps s xs out t → out ≡ front ++ e ∷ rest → e.what ≡ second_over → Ended s xs front
+ended_of s t [] out front rest e g f is over = absurd (none front (sym f.0 ∙ is))
+  where
+    none : (front : List Timed) → [] ≡ front ++ e ∷ rest → ⊥
+    none [] x = cc x
+    none (y ∷ front) x = cc x
+ended_of s t (a ∷ xs) out front rest e g f is over = go front (λ front same. ended_of f.2 t xs f.1 front rest e (step_good s a f.0 f.2 g f.3) f.5 same over) led.entry led.is (sym f.4 ∙ is)
+  where
+    led : Led s f.0 f.2
+    led = step_led s f.2 a f.0 g f.3
+
+    after : (front : List Timed) → Ended f.2 xs front → (all : List Timed) → all ≡ f.0 ++ front → Ended s (a ∷ xs) all
+    after front h all same = record {
+      done = a ∷ h.done;
+      after = h.after;
+      run = (f.0, front, f.2, f.3, same, h.run);
+      last = h.last;
+      end = h.end;
+      ends = h.ends;
+      later = h.later;
+      all = ap (λ z. a ∷ z) h.all;
+    }
+
+    go : (front : List Timed) → ((front : List Timed) → f.1 ≡ front ++ e ∷ rest → Ended f.2 xs front)
+        → (o : Option Entry) → f.0 ≡ at_most f.2.clock.cycle o → f.0 ++ f.1 ≡ front ++ e ∷ rest → Ended s (a ∷ xs) front
+    go front later None empty same = after front (later front (sym (ap (λ z. z ++ f.1) empty) ∙ same)) front (sym (ap (λ z. z ++ front) empty))
+    go [] later (Some y) one same =
+        let both : at_cycle f.2.clock.cycle y ∷ f.1 ≡ e ∷ rest = sym (ap (λ z. z ++ f.1) one) ∙ same in
+        let first : at_cycle f.2.clock.cycle y ≡ e = cc in
+        let what : y ≡ second_over = ap (λ (z : Timed). z.what) first ∙ over in
+        let is_it : opens_over f.0 ≡ true = ap opens_over one ∙ ap is_over what in
+        record {
+          done = [];
+          after = s;
+          run = (refl, refl);
+          last = f.0;
+          end = f.2;
+          ends = ends_it s a f.0 f.2 f.3 is_it;
+          later = a ∷ xs;
+          all = refl;
+        }
+    go (x ∷ front) later (Some y) one same =
+        let both : at_cycle f.2.clock.cycle y ∷ f.1 ≡ x ∷ (front ++ e ∷ rest) = sym (ap (λ z. z ++ f.1) one) ∙ same in
+        let first : at_cycle f.2.clock.cycle y ≡ x = cc in
+        let tail : f.1 ≡ front ++ e ∷ rest = cc in
+        after front (later front tail) (x ∷ front) (sym (ap (λ z. z ++ front) one ∙ ap (λ z. z ∷ front) first))
+
+-- The second that ends after a prefix of a log, and the actions up to its end: those up to the bus reset that opened it, that reset,
+-- and those since, in which no second ends.
+pub record EndsAt (actions : List Action) (front : List Timed) : Type 0 where
+  pub before : State
+  pub during : List Action
+  pub after : State
+  pub second : IsSecond before during after
+  pub done : List Action
+  pub run : Steps first_state done front after
+  pub all : done ≡ second.actions ++ second.reset ∷ during
+  pub on : GoesOn during
+  pub later : List Action
+  pub first : actions ≡ done ++ later
+
+-- each end of a second in a log has its second
+pub second_at : (actions : List Action) (log front rest : List Timed) (s : State) (t : Timed) → Steps first_state actions log s
+    → log ≡ front ++ t ∷ rest → t.what ≡ second_over → EndsAt actions front
+second_at actions log front rest s t f is over = go (opened_of first_state w.after w.done front first_good w.run)
+  where
+    w : Ended first_state actions front
+    w = ended_of first_state s actions log front rest t first_good f is over
+
+    go : Opened first_state w.after w.done ⊎ Runs first_state w.after w.done → EndsAt actions front
+    go (inl o) = record {
+      before = o.before;
+      during = o.during;
+      after = w.after;
+      second = record {
+        actions = o.early;
+        log = o.front;
+        run = o.run;
+        reset = o.reset;
+        opened = o.opened;
+        opens = o.opens;
+        out = o.out;
+        steps = o.steps;
+        last = w.last;
+        end = w.end;
+        ends = w.ends;
+      };
+      done = w.done;
+      run = w.run;
+      all = o.all;
+      on = o.on w.ends.1.1;
+      later = w.later;
+      first = w.all;
+    }
+    go (inr none) = absurd (let wrong : false ≡ true = (none w.ends.1.1).0 in cc wrong)
+
+pub ends_are_seconds : EndsAreSeconds
+ends_are_seconds actions log front rest s t f is over =
+    let x = second_at actions log front rest s t f is over in
+    (x.before, x.during, x.after, x.second, (x.done, x.run), x.all, x.on, (x.later, x.first))

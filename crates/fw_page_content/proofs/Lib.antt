@@ -1,0 +1,7 @@
+pub mod Common
+pub mod TextLaws
+pub mod LoopLaws
+pub mod LeftLaws
+pub mod LedgerLaws
+pub mod ListLaws
+pub mod SumLaws

@@ -1,0 +1,114 @@
+//! Shapes of SVG.
+
+ghost use Rattle.std.specs.Prelude.{◌≡◌, ◌++◌, OnOk};
+ghost use Rattle.fw_page_marks.specs.Shapes.{path_front, path, mark, level_line, there_and_back, rect, symbol_at, halves};
+
+use crate::small::put_part;
+use fw_log_names::put_word;
+use std::alloc::AllocError;
+
+// Begins a path of a class.
+#[tactic(auto, unfolding(crate::specs::Shapes::path_front))]
+fn put_front(text: &mut Vec<u8>, class: &str) -> Result<(), AllocError>
+    ensures { OnOk result (text.new.items ≡ text.old.items ++ path_front class.now) }
+{
+    put_word(text, r#"<path class=""#)?;
+    put_word(text, class)?;
+    put_word(text, r#"" d=""#)
+}
+
+/// Appends a path of a class with this for its shapes, or nothing if there are none.
+#[tactic(auto, unfolding(crate::specs::Shapes::path))]
+pub fn put_path(text: &mut Vec<u8>, class: &str, shapes: &[u8]) -> Result<(), AllocError>
+    ensures { OnOk result (text.new.items ≡ text.old.items ++ path class.now shapes.now) }
+{
+    if shapes.is_empty() {
+        return Ok(());
+    }
+    put_front(text, class)?;
+    text.extend_from_slice(shapes)?;
+    put_word(text, r#""/>"#)
+}
+
+/// Appends a path of a class that begins at a place, and goes on like this.
+#[tactic(auto, unfolding(crate::specs::Shapes::mark))]
+pub fn put_mark(text: &mut Vec<u8>, class: &str, x: u64, shape: &str) -> Result<(), AllocError>
+    ensures { OnOk result (text.new.items ≡ text.old.items ++ mark class.now x shape.now) }
+{
+    put_front(text, class)?;
+    put_part(text, "M", x)?;
+    put_word(text, shape)?;
+    put_word(text, r#""/>"#)
+}
+
+/// Appends a path of a class that goes level from a place, at this height, to another.
+#[tactic(auto, unfolding(crate::specs::Shapes::level_line))]
+pub fn put_line(
+    text: &mut Vec<u8>,
+    class: &str,
+    from: u64,
+    height: &str,
+    to: u64,
+) -> Result<(), AllocError>
+    ensures { OnOk result (text.new.items ≡ text.old.items ++ level_line class.now from height.now to) }
+{
+    put_front(text, class)?;
+    put_part(text, "M", from)?;
+    put_part(text, height, to)?;
+    put_word(text, r#""/>"#)
+}
+
+// Appends a path that goes level to a place, down, and back to another.
+#[tactic(auto, unfolding(crate::specs::Shapes::there_and_back))]
+pub(crate) fn put_there_and_back(
+    text: &mut Vec<u8>,
+    from: u64,
+    to: u64,
+    back: u64,
+) -> Result<(), AllocError>
+    ensures { OnOk result (text.new.items ≡ text.old.items ++ there_and_back from to back) }
+{
+    put_front(text, "l")?;
+    put_part(text, "M", from)?;
+    put_part(text, " 7H", to)?;
+    put_part(text, "V17H", back)?;
+    put_word(text, r#""/>"#)
+}
+
+/// Appends a shape of this width over the whole height of a row.
+#[tactic(auto, unfolding(crate::specs::Shapes::rect))]
+pub fn put_rect(shapes: &mut Vec<u8>, x: u64, width: u64) -> Result<(), AllocError>
+    ensures { OnOk result (shapes.new.items ≡ shapes.old.items ++ rect x width) }
+{
+    put_part(shapes, "M", x)?;
+    put_part(shapes, " 0h", width)?;
+    put_part(shapes, "v999h-", width)?;
+    put_word(shapes, "z")
+}
+
+/// Appends a symbol of the head at a place.
+#[tactic(auto, unfolding(crate::specs::Shapes::symbol_at))]
+pub fn put_use(text: &mut Vec<u8>, symbol: &str, x: u64, y: u64) -> Result<(), AllocError>
+    ensures { OnOk result (text.new.items ≡ text.old.items ++ symbol_at symbol.now x y) }
+{
+    put_word(text, r##"<use href="#"##)?;
+    put_word(text, symbol)?;
+    put_part(text, r#"" x=""#, x)?;
+    put_part(text, r#"" y=""#, y)?;
+    put_word(text, r#""/>"#)
+}
+
+/// Appends what stands in a row to its middle, and from there on.
+#[tactic(auto, unfolding(crate::specs::Shapes::halves))]
+pub fn put_halves(text: &mut Vec<u8>, before: &[u8], now: &[u8]) -> Result<(), AllocError>
+    ensures { OnOk result (text.new.items ≡ text.old.items ++ halves before.now now.now) }
+{
+    if before == now {
+        return text.extend_from_slice(now);
+    }
+    put_word(text, r#"<g class="up">"#)?;
+    text.extend_from_slice(before)?;
+    put_word(text, r#"</g><g class="dn">"#)?;
+    text.extend_from_slice(now)?;
+    put_word(text, "</g>")
+}

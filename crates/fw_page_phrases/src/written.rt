@@ -1,0 +1,64 @@
+//! What a write request brings, in words.
+
+ghost use Rattle.std.specs.Prelude.{◌≡◌, ◌++◌, OnOk};
+ghost use Rattle.fw_log_explain.specs.Lines.{takes_frames};
+ghost use Rattle.fw_page_phrases.specs.Asks.{framed, quadlet_written, block_written};
+
+use crate::asks::{put_code, put_sized};
+use fw_log_frames::put_frame;
+use fw_log_names::{Pairs, put_word};
+use fw_log_registers::{Place, Register};
+use std::alloc::AllocError;
+
+// Frames are written there.
+#[tactic(auto, unfolding(fw_log_explain::specs::Lines::takes_frames))]
+fn takes_frames(place: Place) -> bool
+    ensures { result ≡ takes_frames place }
+{
+    matches!(
+        place,
+        Place::Named(Register::FcpCommand | Register::FcpResponse, _)
+    )
+}
+
+// Appends a frame.
+fn put_framed(text: &mut Vec<u8>, pairs: &Pairs, bytes: &[u8]) -> Result<(), AllocError>
+    ensures { OnOk result (text.new.items ≡ text.old.items ++ framed bytes.now) }
+{
+    put_word(text, "<em>")?;
+    put_frame(text, pairs, bytes)?;
+    put_word(text, "</em>")
+}
+
+/// Appends a quadlet that is written.
+#[tactic(auto, unfolding(crate::specs::Asks::quadlet_written))]
+pub(crate) fn put_quadlet_written(
+    text: &mut Vec<u8>,
+    pairs: &Pairs,
+    place: Place,
+    value: u32,
+) -> Result<(), AllocError>
+    ensures { OnOk result (text.new.items ≡ text.old.items ++ quadlet_written place value) }
+{
+    if takes_frames(place) {
+        return put_framed(text, pairs, &value.to_be_bytes());
+    }
+    put_word(text, " ")?;
+    put_code(text, pairs, place, value)
+}
+
+/// Appends a block that is written.
+#[tactic(auto, unfolding(crate::specs::Asks::block_written))]
+pub(crate) fn put_block_written(
+    text: &mut Vec<u8>,
+    pairs: &Pairs,
+    place: Place,
+    bytes: &[u8],
+) -> Result<(), AllocError>
+    ensures { OnOk result (text.new.items ≡ text.old.items ++ block_written place bytes.now) }
+{
+    if takes_frames(place) {
+        return put_framed(text, pairs, bytes);
+    }
+    put_sized(text, pairs, ", data_length ", bytes)
+}

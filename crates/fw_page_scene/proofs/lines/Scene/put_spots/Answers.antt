@@ -1,0 +1,10 @@
+use Rattle.fw_page_strip.proofs.LaneLaws.{begun, stepped}
+use Rattle.fw_page_scene.proofs.BarLaws.{no_spots, more_spots}
+use Rattle.fw_page_scene.proofs.lines.Scene.put_spots.Goals as goal
+
+pub loop-node-init : goal.loop-node-init
+loop-node-init c = λ m h. begun _ _ (no_spots c.args.spot c.args.self.now.lives.now m c.args.self.now.columns.now)
+
+pub loop-node-preserved : goal.loop-node-preserved
+loop-node-preserved c = λ m h. stepped _ _ _ _ _ _ (c.loop-node.invariant m h) (c.in_ok-put_spot.ensures m h)
+    (more_spots c.args.spot c.args.self.now.lives.now m c.args.self.now.columns.now c.loop-node.node)

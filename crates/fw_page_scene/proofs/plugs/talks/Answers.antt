@@ -1,0 +1,18 @@
+use Rattle.std.proofs.Common.{◌≡◌, ◌∙◌, sym, arith, below_more}
+use Rattle.fw_model_account.specs.Account.{has_connection}
+use Rattle.fw_page_strip.proofs.SumLaws.{one_passes, none_passes}
+use Rattle.fw_page_scene.specs.Lines.{plug}
+use Rattle.fw_page_scene.proofs.plugs.talks.Goals as goal
+
+pub loop-plug-init : goal.loop-plug-init
+loop-plug-init c = λ m h k lt. absurd (omega arith)
+
+pub loop-plug-preserved : goal.loop-plug-preserved
+loop-plug-preserved c = λ m h. below_more _ _ (c.loop-plug.invariant m h) (sym (c.has_output.ensures m h) ∙ c.if-has_output.false)
+
+pub returns-then-has_output : goal.returns-then-has_output
+returns-then-has_output c = λ m h. sym (one_passes c.args.row.now.outs c.loop-plug.plug (λ k. has_connection (m.outputs (plug c.args.row.now.device k))) (omega arith)
+    (sym (c.has_output.ensures m h) ∙ c.if-has_output.true))
+
+pub returns : goal.returns
+returns c = λ m h. sym (none_passes c.args.row.now.outs (λ k. has_connection (m.outputs (plug c.args.row.now.device k))) (λ k lt. c.loop-plug.invariant m h k (omega arith)))

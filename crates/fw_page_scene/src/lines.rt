@@ -1,0 +1,242 @@
+//! What each row draws over the columns: who talks, hears, lingers, is dead or deaf, and which requests wait.
+
+ghost use Rattle.std.specs.Prelude.{◌≡◌, ◌<◌, ◌≤◌, ◌++◌, ◌∷◌, [], OnOk, Option, Some, None, codes};
+ghost use Rattle.std.specs.Option.{option_copied};
+ghost use Rattle.fw_model_account.specs.Account.{Account};
+ghost use Rattle.fw_ledger.specs.Stands.{StandsFor};
+ghost use Rattle.fw_page_strip.specs.Drawing.{LedgerFor};
+ghost use Rattle.fw_page_marks.specs.Shapes.{mark};
+ghost use Rattle.fw_page_phrases.specs.Asking.{bar_class};
+ghost use Rattle.fw_page_scene.specs.Lines.{talks, lingers, hears_by, by_account, holds, spot_shape, bar_at};
+
+use crate::lives::Lives;
+use crate::plugs::{hears, lingers, talks};
+use fw_ledger::Ledger;
+use fw_log_entry::NodeRow;
+use fw_page_marks::{Columns, put_mark, put_path, put_rect};
+use fw_page_phrases::{Kind, Standing};
+use std::alloc::AllocError;
+
+/// What is drawn of the nodes that something holds for.
+#[derive(Clone, Copy)]
+pub enum Spot {
+    /// Its controller is dead.
+    Dead,
+    /// Its controller lost an answer.
+    Deaf,
+    /// It talks.
+    Talks,
+    /// It hears.
+    Hears,
+    /// It only goes on talking.
+    Lingers,
+}
+
+// A node talks by an account, if there is one.
+fn talks_by(ledger: Option<&Ledger>, row: &NodeRow) -> bool
+    ensures { (l : Option Account) → LedgerFor (option_copied ledger.entry) l → result ≡ by_account (λ a. talks a row.now) l }
+{
+    match ledger {
+        Some(ledger) => talks(ledger, row),
+        None => false,
+    }
+}
+
+// It hears.
+fn hears_by(ledger: Option<&Ledger>, row: &NodeRow) -> bool
+    ensures { (l : Option Account) → LedgerFor (option_copied ledger.entry) l → result ≡ by_account (λ a. hears_by a None row.now) l }
+{
+    match ledger {
+        Some(ledger) => hears(ledger, row, None),
+        None => false,
+    }
+}
+
+// It only goes on talking.
+fn only_lingers(ledger: &Ledger, row: &NodeRow) -> bool
+    ensures { (l : Account) → StandsFor ledger.now l → result ≡ lingers l row.now }
+{
+    lingers(ledger, row) && !talks(ledger, row)
+}
+
+fn lingers_by(ledger: Option<&Ledger>, row: &NodeRow) -> bool
+    ensures { (l : Option Account) → LedgerFor (option_copied ledger.entry) l → result ≡ by_account (λ a. lingers a row.now) l }
+{
+    match ledger {
+        Some(ledger) => only_lingers(ledger, row),
+        None => false,
+    }
+}
+
+// Whether that holds for a node.
+fn holds(spot: Spot, lives: &Lives, ledger: Option<&Ledger>, row: &NodeRow) -> bool
+    ensures { (l : Option Account) → LedgerFor (option_copied ledger.entry) l → result ≡ holds spot lives.now l row.now }
+{
+    match spot {
+        Spot::Dead => lives.dead.has(row.device),
+        Spot::Deaf => lives.deaf.has(row.device),
+        Spot::Talks => talks_by(ledger, row),
+        Spot::Hears => hears_by(ledger, row),
+        Spot::Lingers => lingers_by(ledger, row),
+    }
+}
+
+// Appends its shape at a place.
+fn put_shape(shapes: &mut Vec<u8>, spot: Spot, x: u64) -> Result<(), AllocError>
+    requires low { 8 ≤ x }
+    requires high { x ≤ 1100 }
+    ensures { OnOk result (shapes.new.items ≡ shapes.old.items ++ spot_shape spot x) }
+{
+    match spot {
+        Spot::Dead | Spot::Deaf => put_rect(shapes, x - 4, 8),
+        Spot::Talks | Spot::Lingers => put_rect(shapes, x + 3, 3),
+        Spot::Hears => put_rect(shapes, x - 6, 3),
+    }
+}
+
+// The last two letters of the class of a bar.
+#[inline(always)]
+fn bar_letters(kind: Kind) -> (u8, u8)
+    ensures { codes "v " ++ result.0 ∷ result.1 ∷ [] ≡ bar_class kind }
+{
+    match kind {
+        Kind::Read => (b'r', b'd'),
+        Kind::Lock => (b'l', b'k'),
+        Kind::Bid => (b'c', b'd'),
+        Kind::Write => (b'w', b'r'),
+    }
+}
+
+// Appends a bar at a place of three digits, in one piece: a row may have a hundred bars.
+fn put_bar_row(text: &mut Vec<u8>, kind: Kind, x: u64) -> Result<(), AllocError>
+    requires low { 100 ≤ x }
+    requires high { x < 1000 }
+    ensures { OnOk result (text.new.items ≡ text.old.items ++ mark (bar_class kind) x (codes " 0v999")) }
+{
+    let (first, second) = bar_letters(kind);
+    let mut bar = *br#"<path class="v rd" d="M000 0v999"/>"#;
+    bar[15] = first;
+    bar[16] = second;
+    bar[23] = b'0' + (x / 100) as u8;
+    bar[24] = b'0' + (x / 10 % 10) as u8;
+    bar[25] = b'0' + (x % 10) as u8;
+    text.extend_from_slice(&bar)
+}
+
+// Appends a bar at a place.
+fn put_bar_at(text: &mut Vec<u8>, kind: Kind, x: u64) -> Result<(), AllocError>
+    ensures { OnOk result (text.new.items ≡ text.old.items ++ mark (bar_class kind) x (codes " 0v999")) }
+{
+    if 100 <= x && x < 1000 {
+        put_bar_row(text, kind, x)
+    } else {
+        put_mark(text, kind.bar(), x, " 0v999")
+    }
+}
+
+// Appends the bar of a request after so many of the same node: there is none for the fourth and further ones.
+fn put_bar(text: &mut Vec<u8>, kind: Kind, x: u64, before: u8) -> Result<(), AllocError>
+    requires low { 8 ≤ x }
+    requires high { x ≤ 1100 }
+    ensures { OnOk result (text.new.items ≡ text.old.items ++ bar_at (bar_class kind) x before) }
+{
+    match before {
+        0 => put_bar_at(text, kind, x),
+        1 => put_bar_at(text, kind, x + 8),
+        2 => put_bar_at(text, kind, x - 8),
+        _ => Ok(()),
+    }
+}
+
+/// What the lines are drawn of.
+#[derive(Clone, Copy)]
+pub struct Scene<'a> {
+    pub columns: &'a Columns,
+    pub lives: &'a Lives,
+    pub ledger: Option<&'a Ledger>,
+    pub standing: &'a [Standing],
+}
+
+impl<'a> Scene<'a> {
+    ghost use Rattle.std.specs.Prelude.{◌≡◌, ◌∷◌, ◌++◌, [], List, slice_get, OnOk, Option};
+    ghost use Rattle.std.specs.Option.{option_copied};
+    ghost use Rattle.fw_model_account.specs.Account.{Account};
+    ghost use Rattle.fw_page_marks.specs.Places.{place_of};
+    ghost use Rattle.fw_page_phrases.specs.declared.standing.Standing.{Standing as AStanding};
+    ghost use Rattle.fw_page_strip.specs.Drawing.{LedgerFor};
+    ghost use Rattle.fw_page_scene.specs.Lines.{spot_of, spots, nodes_text, bar_of, CountsFor, bars};
+
+    // Appends the shape of a node, if it is one for which something holds.
+    fn put_spot(&self, shapes: &mut Vec<u8>, spot: Spot, node: usize) -> Result<(), AllocError>
+        ensures { (l : Option Account) → LedgerFor (option_copied self.now.ledger) l → OnOk result (shapes.new.items ≡ shapes.old.items ++ spot_of spot self.now.lives.now l (place_of self.now.columns.now node) (slice_get self.now.columns.now node)) }
+    {
+        let Some(row) = self.columns.nodes().get(node) else {
+            return Ok(());
+        };
+        if holds(spot, self.lives, self.ledger, row) {
+            put_shape(shapes, spot, self.columns.x(node))
+        } else {
+            Ok(())
+        }
+    }
+
+    // Appends the shapes of all nodes for which something holds.
+    fn put_spots(&self, shapes: &mut Vec<u8>, spot: Spot) -> Result<(), AllocError>
+        ensures { (l : Option Account) → LedgerFor (option_copied self.now.ledger) l → OnOk result (shapes.new.items ≡ shapes.old.items ++ spots spot self.now.lives.now l self.now.columns.now) }
+    {
+        for node in 0..self.columns.nodes().len() {
+            self.put_spot(shapes, spot, node)?;
+        }
+        Ok(())
+    }
+
+    /// Appends what is drawn of the nodes, with a list for the shapes of a path.
+    pub fn put_nodes(&self, text: &mut Vec<u8>, shapes: &mut Vec<u8>) -> Result<(), AllocError>
+        ensures { (l : Option Account) → LedgerFor (option_copied self.now.ledger) l → OnOk result (text.new.items ≡ text.old.items ++ nodes_text self.now.lives.now l self.now.columns.now) }
+    {
+        shapes.clear();
+        self.put_spots(shapes, Spot::Dead)?;
+        put_path(text, "x", shapes)?;
+        shapes.clear();
+        self.put_spots(shapes, Spot::Deaf)?;
+        put_path(text, "z", shapes)?;
+        shapes.clear();
+        self.put_spots(shapes, Spot::Talks)?;
+        self.put_spots(shapes, Spot::Hears)?;
+        put_path(text, "u2", shapes)?;
+        shapes.clear();
+        self.put_spots(shapes, Spot::Lingers)?;
+        put_path(text, "u4", shapes)
+    }
+
+    // Appends the bar of a request that waits, after as many of each node as are counted, and counts it.
+    fn put_waiting(
+        &self,
+        text: &mut Vec<u8>,
+        counts: &mut [u8; 63],
+        s: &Standing,
+    ) -> Result<(), AllocError>
+        ensures { (before : List AStanding) → CountsFor self.now.columns.now before counts.old → OnOk result ((text.new.items ≡ text.old.items ++ bar_of self.now.columns.now before s.now) × CountsFor self.now.columns.now (before ++ s.now ∷ []) counts.new) }
+    {
+        let Some(node) = self.columns.number(s.request.asked.source) else {
+            return Ok(());
+        };
+        if !s.waits {
+            return Ok(());
+        }
+        put_bar(text, s.request.kind(), self.columns.x(node), counts[node])?;
+        counts[node] = counts[node].saturating_add(1);
+        Ok(())
+    }
+
+    /// Appends the bars of the requests that wait, the first three of each node.
+    pub fn put_bars(&self, text: &mut Vec<u8>) -> Result<(), AllocError>
+        ensures { OnOk result (text.new.items ≡ text.old.items ++ bars self.now.columns.now [] self.now.standing.now) }
+    {
+        let mut counts = [0u8; 63];
+        for s in self.standing {
+            self.put_waiting(text, &mut counts, s)?;
+        }
+        Ok(())
+    }
+}

@@ -1,0 +1,17 @@
+use Rattle.std.proofs.Common.{◌≡◌, ◌++◌, ap, ◌∙◌, arith}
+use Rattle.fw_page_strip.specs.Lanes.{channels_below}
+use Rattle.fw_page_strip.proofs.LaneLaws.{begun, stepped, no_lanes, more_lanes}
+use Rattle.fw_page_strip.proofs.lanes.put_channels.Goals as goal
+
+pub loop-channel-init : goal.loop-channel-init
+loop-channel-init c = λ m e. begun _ _ (no_lanes m c.args.class)
+
+pub loop-channel-preserved : goal.loop-channel-preserved
+loop-channel-preserved c = λ m e.
+    stepped _ _ _ _ _ _ (c.loop-channel.invariant m e) c.in_ok-put_lane.ensures
+    (more_lanes m c.args.class c.loop-channel.channel c.args.owners.now c.owner_in.result e (omega arith) (c.owner_in.ensures ∙ cc))
+
+pub returns : goal.returns
+returns c = λ m e.
+    let all : c.loop-channel.channel ≡ 64 = omega arith in
+    c.loop-channel.invariant m e ∙ ap (λ n. c.args.shapes.now.items ++ channels_below m c.args.class n) all

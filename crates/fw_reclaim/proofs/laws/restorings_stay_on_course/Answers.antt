@@ -1,6 +1,0 @@
--- Each clause is a lemma.
-use Rattle.fw_reclaim.proofs.Heard.{heard}
-use Rattle.fw_reclaim.proofs.laws.restorings_stay_on_course.Goals as goal
-
-pub returns : goal.returns
-returns c = heard

@@ -1,6 +1,0 @@
--- The clause is a lemma.
-use Rattle.fw_reclaim.proofs.Wholes.{whole_connected}
-use Rattle.fw_reclaim.proofs.laws.whole_connections_are_there.Goals as goal
-
-pub returns : goal.returns
-returns c = whole_connected

@@ -1,6 +1,0 @@
-use Rattle.std.proofs.Common.{◌≡◌, ◌++◌}
-use Rattle.fw_registers.specs.Words.{first_channels}
-use Rattle.fw_registers.proofs.channels.put_channels.Given as goal
-
-abbrev pub invariant-loop-bit : goal.invariant-loop-bit
-invariant-loop-bit l = l.text.items ≡ l.fn.text.items ++ first_channels l.first l.set l.bit

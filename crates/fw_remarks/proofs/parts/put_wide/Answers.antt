@@ -1,8 +1,0 @@
-use Rattle.std.proofs.Common.{◌≡◌, ◌++◌, ℕ, OnOk, subst}
-use Rattle.fw_remarks.specs.Parts.{part}
-use Rattle.fw_remarks.proofs.parts.put_wide.Goals as goal
-
-pub returns : goal.returns
-returns c =
-    let P : ℕ → Type 0 = λ k. OnOk c.put_part.result (c.put_part.new.text.items ≡ c.args.text.now.items ++ part c.args.word.now k) in
-    subst P c.from.ensures c.put_part.ensures

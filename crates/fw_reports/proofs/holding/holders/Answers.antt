@@ -1,6 +1,0 @@
-use Rattle.std.proofs.Common.{refl}
-use Rattle.fw_reading.proofs.Decodings.{nothing_read}
-use Rattle.fw_reports.proofs.holding.holders.Goals as goal
-
-pub returns-in-Err : goal.returns-in-Err
-returns-in-Err g c = nothing_read _ _ _ _ refl refl

@@ -1,0 +1,33 @@
+-- Bytes separated by a separator.
+use Rattle.std.specs.Prelude.{◌≡◌, ◌≢◌, ℕ, ◌<◌, ◌==◌, List, [], ◌∷◌, ◌++◌, length, slice_index, if◌then◌else◌}
+
+-- no byte of the word is the separator
+abbrev pub IsFree : ℕ → List ℕ → Type 0
+IsFree separator w = (k : ℕ) → k < length w → slice_index w k ≢ separator
+
+-- the first separator stands at i
+pub record IsFirstAt (separator : ℕ) (w : List ℕ) (i : ℕ) : Type 0 where
+  pub within : i < length w
+  pub here : slice_index w i ≡ separator
+  pub before : (k : ℕ) → k < i → slice_index w k ≢ separator
+
+-- a byte before the first piece
+abbrev pub onto : ℕ → List (List ℕ) → List (List ℕ)
+onto b [] = (b ∷ []) ∷ []
+onto b (w ∷ ws) = (b ∷ w) ∷ ws
+
+-- the pieces between the separators, one more than there are separators
+abbrev pub pieces : ℕ → List ℕ → List (List ℕ)
+pieces separator [] = [] ∷ []
+pieces separator (b ∷ bs) = if b == separator then [] ∷ pieces separator bs else onto b (pieces separator bs)
+
+-- the pieces with one separator between each and the next
+abbrev pub parted : ℕ → List (List ℕ) → List ℕ
+parted separator [] = []
+parted separator (w ∷ []) = w
+parted separator (w ∷ v ∷ ws) = w ++ separator ∷ parted separator (v ∷ ws)
+
+-- no piece has a separator
+abbrev pub AreFree : ℕ → List (List ℕ) → Type 0
+AreFree separator [] = Unit {0}
+AreFree separator (w ∷ ws) = IsFree separator w × AreFree separator ws

@@ -1,0 +1,15 @@
+pub mod Common
+pub mod Givings
+pub mod Takings
+pub mod Calls
+pub mod Goings
+pub mod Endings
+pub mod Faults
+pub mod Passings
+pub mod Steps
+pub mod Completions
+pub mod Countings
+pub mod Dubbings
+pub mod OneRun
+pub mod Checkings
+pub mod Refusings

@@ -1,6 +1,0 @@
-pub mod LoopLaws
-pub mod DepthLaws
-pub mod ChainLaws
-pub mod ApartLaws
-pub mod CableLaws
-pub mod SignLaws

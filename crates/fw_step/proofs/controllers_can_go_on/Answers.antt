@@ -1,6 +1,0 @@
--- The clause is a lemma.
-use Rattle.fw_step.proofs.Together.{goes_on}
-use Rattle.fw_step.proofs.controllers_can_go_on.Goals as goal
-
-pub returns : goal.returns
-returns c = goes_on

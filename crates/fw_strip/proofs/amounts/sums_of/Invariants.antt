@@ -1,7 +1,0 @@
-use Rattle.fw_account.specs.Account.{Account}
-use Rattle.fw_ledger.specs.Stands.{StandsFor}
-use Rattle.fw_strip.proofs.SumLaws.{AreSums}
-use Rattle.fw_strip.proofs.amounts.sums_of.Given as goal
-
-abbrev pub invariant-loop-channel : goal.invariant-loop-channel
-invariant-loop-channel l = (m : Account) → StandsFor l.ledger m → AreSums l.sums m l.channel

@@ -1,4 +1,0 @@
-pub mod LoopLaws
-pub mod JobLaws
-pub mod RequestLaws
-pub mod CountLaws

@@ -1,7 +1,0 @@
-use Rattle.std.proofs.Common.{◌≡◌, ◌++◌}
-use Rattle.fw_tracer.specs.Caused.{caused_text}
-use Rattle.fw_tracer.specs.Commands.{first_streams}
-use Rattle.fw_tracer.proofs.streams.put_lines.Given as goal
-
-abbrev pub invariant-loop-channel : goal.invariant-loop-channel
-invariant-loop-channel l = l.text.items ≡ l.fn.text.items ++ caused_text (first_streams l.names l.cycle l.rows l.channel)
