@@ -37,7 +37,7 @@ pub(crate) fn check<P: Program>(program: &P, rt: &HostRuntime, row: &Row<'_>) ->
     };
     let input = fs::read(rt, input)?;
     let output = fs::read(rt, output)?;
-    match Due::of(row.behind, &output) {
+    match Due::of(row.following, &output) {
         Some(due) => end_so(program, rt.alloc(), row.what, &input, (&due, output.len())),
         None => Err(Miss::NoRow("a status")),
     }

@@ -29,7 +29,7 @@ fn converted<'a>(log: &'a [u8], note: &'a str) -> Due<'a> {
         output: if note.is_empty() {
             Written::Whole(log)
         } else {
-            Written::Front(log)
+            Written::Prefix(log)
         },
     }
 }
@@ -135,6 +135,6 @@ pub(crate) fn check<P: Program>(program: &P, rt: &HostRuntime, row: &Row<'_>) ->
         return Err(Miss::NoRow("a log"));
     };
     let log = fs::read(rt, log)?;
-    let note = row.behind.unwrap_or("");
+    let note = row.following.unwrap_or("");
     is_so(program, rt.alloc(), &log, row.what, note)
 }

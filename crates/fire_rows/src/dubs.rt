@@ -80,7 +80,7 @@ fn sum_of(bytes: &[u8]) -> u64 {
 
 /// A row is `SCRIPT : BYTES FIRST SUM`, with the first bytes in hexadecimal, or `-` if there are none.
 pub(crate) fn check<P: Program>(program: &P, rt: &HostRuntime, row: &Row<'_>) -> Result<(), Miss> {
-    let Some(reel) = row.behind.and_then(Reel::of) else {
+    let Some(reel) = row.following.and_then(Reel::of) else {
         return Err(Miss::NoRow("a reel"));
     };
     let script = fs::read(rt, row.what)?;

@@ -14,7 +14,7 @@ pub(crate) enum Written<'a> {
     /// These bytes.
     Whole(&'a [u8]),
     /// The first of these bytes, however many.
-    Front(&'a [u8]),
+    Prefix(&'a [u8]),
     /// Whatever it is.
     Any,
 }
@@ -60,7 +60,7 @@ impl Written<'_> {
     pub(crate) fn is(self, bytes: &[u8]) -> bool {
         match self {
             Written::Whole(due) => bytes == due,
-            Written::Front(due) => due.starts_with(bytes),
+            Written::Prefix(due) => due.starts_with(bytes),
             Written::Any => true,
         }
     }
@@ -68,7 +68,7 @@ impl Written<'_> {
     /// The first place at which bytes differ from these, with the byte that is to stand there. None if one is a prefix of the other.
     pub(crate) fn first_other(self, bytes: &[u8]) -> Option<(usize, u8)> {
         let due = match self {
-            Written::Whole(due) | Written::Front(due) => due,
+            Written::Whole(due) | Written::Prefix(due) => due,
             Written::Any => return None,
         };
         for (at, (one, other)) in due.iter().zip(bytes).enumerate() {

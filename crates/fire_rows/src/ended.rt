@@ -85,7 +85,7 @@ fn expected(alloc: Global, due: &Due<'_>) -> Result<String, AllocError> {
     let expected = format!(in alloc; "status {status}, note {note:?}")?;
     match due.output {
         Written::Whole(bytes) => format!(in alloc; "{expected}, {} bytes", bytes.len()),
-        Written::Front(bytes) => format!(in alloc; "{expected}, a front of {} bytes", bytes.len()),
+        Written::Prefix(bytes) => format!(in alloc; "{expected}, a front of {} bytes", bytes.len()),
         Written::Any => Ok(expected),
     }
 }

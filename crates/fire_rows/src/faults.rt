@@ -12,7 +12,7 @@ use crate::{Portions, Program};
 use std::alloc::Global;
 use std::fs;
 
-/// A call, what it reads and what it writes if nothing fails, and the parts of both. `behind` says how many parts of the output are
+/// A call, what it reads and what it writes if nothing fails, and the parts of both. `following` says how many parts of the output are
 /// written after none of the input's parts, after the first, and so on; without it, one for each entry of a log. `before` says how many are
 /// written before the first write, before the second, and so on; without it each part is a write.
 #[derive(Clone, Copy)]
@@ -23,23 +23,27 @@ struct Case<'a> {
     read: Parts,
     written: Parts,
     before: Option<&'a str>,
-    behind: Option<&'a str>,
+    following: Option<&'a str>,
 }
 
 impl Case<'_> {
     /// How many parts are written after so many that were read.
-    fn count_behind(&self, parts: usize) -> Option<usize> {
-        match self.behind {
-            Some(behind) => behind.split_whitespace().nth(parts)?.parse::<usize>().ok(),
+    fn count_after(&self, parts: usize) -> Option<usize> {
+        match self.following {
+            Some(following) => following
+                .split_whitespace()
+                .nth(parts)?
+                .parse::<usize>()
+                .ok(),
             None => Some(parts.saturating_sub(1)),
         }
     }
 
     /// What stands after so many parts that were read.
-    fn front_behind(&self, parts: usize) -> Option<&[u8]> {
+    fn prefix_behind(&self, parts: usize) -> Option<&[u8]> {
         let end = self
             .written
-            .end_behind(self.output, self.count_behind(parts)?)?;
+            .end_after(self.output, self.count_after(parts)?)?;
         self.output.get(..end)
     }
 
@@ -47,12 +51,12 @@ impl Case<'_> {
     /// ends there.
     fn is_within_a_write(&self, parts: usize) -> bool {
         for line in 0..self.input.len() {
-            let before = self.count_behind(line);
-            let behind = self.count_behind(line.saturating_add(1));
-            let (Some(before), Some(behind)) = (before, behind) else {
+            let before = self.count_after(line);
+            let following = self.count_after(line.saturating_add(1));
+            let (Some(before), Some(following)) = (before, following) else {
                 return false;
             };
-            if parts < behind {
+            if parts < following {
                 return before < parts && self.is_cycles(line);
             }
         }
@@ -60,7 +64,7 @@ impl Case<'_> {
     }
 
     fn is_cycles(&self, line: usize) -> bool {
-        match self.read.end_behind(self.input, line) {
+        match self.read.end_after(self.input, line) {
             Some(start) => self
                 .input
                 .get(start..)
@@ -71,11 +75,11 @@ impl Case<'_> {
 
     /// That the read after these bytes fails, leaves what their parts give, and tells a read fault.
     fn read_fails<P: Program>(&self, program: &P, alloc: Global, taken: &[u8]) -> Result<(), Miss> {
-        let Some(front) = self.front_behind(self.read.count_in(taken)) else {
+        let Some(prefix) = self.prefix_behind(self.read.count_in(taken)) else {
             return Err(Miss::NoRow("a number for each part that is read"));
         };
         let call = Call::failing_after(self.words, taken, self.output.len());
-        call.ends(program, alloc, &Due::exactly(5, "read fault", front))?;
+        call.ends(program, alloc, &Due::exactly(5, "read fault", prefix))?;
         Ok(())
     }
 
@@ -94,7 +98,7 @@ impl Case<'_> {
         program: &P,
         alloc: Global,
         write: u32,
-        front: &[u8],
+        prefix: &[u8],
     ) -> Result<(), Miss> {
         let writes = &[write];
         let call = Call {
@@ -103,7 +107,7 @@ impl Case<'_> {
             room: self.output.len(),
             failing: Failing { writes, ..NONE },
         };
-        call.ends(program, alloc, &Due::exactly(6, "write fault", front))?;
+        call.ends(program, alloc, &Due::exactly(6, "write fault", prefix))?;
         Ok(())
     }
 
@@ -117,11 +121,11 @@ impl Case<'_> {
         let mut write: u32 = 0;
         for parts in &numbers_of(alloc, before)? {
             write = write.saturating_add(1);
-            let Some(end) = self.written.end_behind(self.output, *parts as usize) else {
+            let Some(end) = self.written.end_after(self.output, *parts as usize) else {
                 return Err(Miss::NoRow("parts that are written before each write"));
             };
-            let front = self.output.get(..end).unwrap_or(&[]);
-            let result = self.write_fails(program, alloc, write, front);
+            let prefix = self.output.get(..end).unwrap_or(&[]);
+            let result = self.write_fails(program, alloc, write, prefix);
             at(
                 alloc,
                 "with a write that fails, of number",
@@ -143,9 +147,9 @@ impl Case<'_> {
                 continue;
             }
             write = write.saturating_add(1);
-            let end = self.written.end_behind(self.output, parts).unwrap_or(0);
-            let front = self.output.get(..end).unwrap_or(&[]);
-            let result = self.write_fails(program, alloc, write, front);
+            let end = self.written.end_after(self.output, parts).unwrap_or(0);
+            let prefix = self.output.get(..end).unwrap_or(&[]);
+            let result = self.write_fails(program, alloc, write, prefix);
             at(
                 alloc,
                 "with a write that fails, of number",
@@ -172,7 +176,7 @@ pub(crate) fn check<P: Program>(program: &P, rt: &HostRuntime, row: &Row<'_>) ->
         read: Parts::of(input),
         written: Parts::of(output),
         before: row.lines,
-        behind: row.behind,
+        following: row.following,
     };
     case.reads_fail(program, rt.alloc())?;
     case.writes_fail(program, rt.alloc())

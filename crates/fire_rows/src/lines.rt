@@ -94,5 +94,5 @@ pub(crate) fn check<P: Program>(program: &P, rt: &HostRuntime, row: &Row<'_>) ->
     };
     let script = text_of(rt, row.what)?;
     let told = text_of(rt, told)?;
-    are_told(program, rt.alloc(), row.behind, (&script, &told))
+    are_told(program, rt.alloc(), row.following, (&script, &told))
 }

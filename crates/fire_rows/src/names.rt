@@ -3,13 +3,13 @@
 /// Whether a text has a name in it, with no letter, digit or `_` right before or after it.
 fn has_name(text: &str, name: &str) -> bool {
     let mut rest = text;
-    let mut is_behind_a_letter = false;
+    let mut is_after_a_letter = false;
     for _ in 0..text.len() {
         let Some((before, after)) = rest.split_once(name) else {
             return false;
         };
         let begins = match before.as_bytes() {
-            [] => !is_behind_a_letter,
+            [] => !is_after_a_letter,
             [.., last] => !is_letter(*last),
         };
         if begins
@@ -20,7 +20,7 @@ fn has_name(text: &str, name: &str) -> bool {
         {
             return true;
         }
-        is_behind_a_letter = name.as_bytes().last().is_some_and(|byte| is_letter(*byte));
+        is_after_a_letter = name.as_bytes().last().is_some_and(|byte| is_letter(*byte));
         rest = after;
     }
     false

@@ -41,7 +41,7 @@ impl Parts {
     }
 
     /// Where the first so many parts end. None if there are fewer.
-    pub(crate) fn end_behind(self, bytes: &[u8], count: usize) -> Option<usize> {
+    pub(crate) fn end_after(self, bytes: &[u8], count: usize) -> Option<usize> {
         let mut end = 0;
         for _ in 0..count {
             end = self.end_of(bytes, end)?;

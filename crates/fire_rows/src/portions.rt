@@ -2,7 +2,7 @@
 
 ghost use Rattle.std.specs.Prelude.{None};
 
-use fw_outside::{Failed, Source, copy_front};
+use fw_outside::{Failed, Source, copy_prefix};
 
 /// A source that gives at most so many bytes at a time. If it is to fail, the read after its last byte does.
 #[derive(Drop)]
@@ -50,7 +50,7 @@ impl Source for Portions<'_> {
             self.faults = self.faults.saturating_add(1);
             return Err(Failed);
         }
-        let count = copy_front(&self.left[..self.left.len().min(self.most)], into);
+        let count = copy_prefix(&self.left[..self.left.len().min(self.most)], into);
         self.left = &self.left[count..];
         Ok(count)
     }

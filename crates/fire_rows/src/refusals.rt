@@ -60,8 +60,8 @@ fn is_same_untold<P: Program>(
 }
 
 /// That what was written is the beginning of a log, `LOG LENGTH`: so many of its first bytes.
-fn is_front(rt: &HostRuntime, told: &Ended, note: &str, front: &str) -> Result<(), Miss> {
-    let Some((log, length)) = front.split_once(" ") else {
+fn is_prefix(rt: &HostRuntime, told: &Ended, note: &str, prefix: &str) -> Result<(), Miss> {
+    let Some((log, length)) = prefix.split_once(" ") else {
         return Err(Miss::NoRow("a log and how many of its bytes"));
     };
     let Ok(length) = length.parse::<usize>() else {
@@ -69,7 +69,7 @@ fn is_front(rt: &HostRuntime, told: &Ended, note: &str, front: &str) -> Result<(
     };
     let log = fs::read(rt, log)?;
     match log.get(..length) {
-        Some(front) => told.check(rt.alloc(), &Due::exactly(3, note, front)),
+        Some(prefix) => told.check(rt.alloc(), &Due::exactly(3, note, prefix)),
         None => Err(Miss::NoRow("a log with so many bytes")),
     }
 }
@@ -77,13 +77,13 @@ fn is_front(rt: &HostRuntime, told: &Ended, note: &str, front: &str) -> Result<(
 /// A row is `PIECES ; LINE ; LINE > LOG LENGTH : NOTE`, the pieces of a script and the lines after them; then the log and the number of
 /// its first bytes that are written, if that is known; and the note.
 pub(crate) fn check<P: Program>(program: &P, rt: &HostRuntime, row: &Row<'_>) -> Result<(), Miss> {
-    let Some(note) = row.behind else {
+    let Some(note) = row.following else {
         return Err(Miss::NoRow("a note"));
     };
     let script = script_of(rt, row)?;
     let told = refused(program, rt.alloc(), &script, note)?;
     match row.output {
-        Some(front) => is_front(rt, &told, note, front),
+        Some(prefix) => is_prefix(rt, &told, note, prefix),
         None => Ok(()),
     }
 }

@@ -1,18 +1,18 @@
 //! The parts of a row.
 
-/// A row `WHAT ; LINES < INPUT > OUTPUT : BEHIND`. Each part but the first may be missing, with the mark before it.
+/// A row `WHAT ; LINES < INPUT > OUTPUT : AFTER`. Each part but the first may be missing, with the mark before it.
 #[derive(Clone, Copy)]
 pub(crate) struct Row<'a> {
     pub(crate) what: &'a str,
     pub(crate) lines: Option<&'a str>,
     pub(crate) input: Option<&'a str>,
     pub(crate) output: Option<&'a str>,
-    pub(crate) behind: Option<&'a str>,
+    pub(crate) following: Option<&'a str>,
 }
 
 impl<'a> Row<'a> {
     pub(crate) fn of(line: &'a str) -> Row<'a> {
-        let (rest, behind) = cut(line, " : ");
+        let (rest, following) = cut(line, " : ");
         let (rest, output) = cut(rest, " > ");
         let (rest, input) = cut(rest, " < ");
         let (what, lines) = cut(rest, " ; ");
@@ -21,7 +21,7 @@ impl<'a> Row<'a> {
             lines,
             input,
             output,
-            behind,
+            following,
         }
     }
 }

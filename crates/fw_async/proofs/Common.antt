@@ -1,11 +1,12 @@
 -- What most files of proofs import.
-pub use Rattle.fw_async.specs.Async.{AreBytes, Fits, HeadFits, head_fields, is_lock_size, is_reply_size, padded, padding, size, spelling}
+pub use Rattle.fw_async.specs.Async.{Fits, HeadFits, head_fields, padded, size, spelling}
+pub use Rattle.fw_async_fields.specs.Data.{AreBytes, is_lock_size, is_reply_size, padding}
 pub use Rattle.fw_async.specs.Reader.{ShowsFault, Spells, State}
-pub use Rattle.fw_async.specs.Reading.{IsPending, end_of_data, fault_of, need, tcode_of}
-unfoldable pub use Rattle.fw_async.specs.Reading.{fault_in_padding, fault_in_quadlet_0, fault_in_quadlet_1, fault_in_quadlet_2, fault_in_quadlet_3}
-pub use Rattle.fw_async.specs.Tcode.{has_data}
+pub use Rattle.fw_async_fields.specs.Reading.{IsPending, end_of_data, fault_of, need, tcode_of}
+unfoldable pub use Rattle.fw_async_fields.specs.Reading.{fault_in_padding, fault_in_quadlet_0, fault_in_quadlet_1, fault_in_quadlet_2, fault_in_quadlet_3}
+pub use Rattle.fw_async_fields.specs.Tcode.{has_data}
 pub use Rattle.fw_async.specs.Wire.{IsKept, bytes_from}
-pub use Rattle.fw_async.specs.declared.PacketFault.{PacketFault}
+pub use Rattle.fw_async_fields.specs.declared.PacketFault.{PacketFault}
 pub use Rattle.fw_async.specs.declared.packet.Head.{Head}
 pub use Rattle.fw_async.specs.declared.packet.Packet.{Packet}
 pub use Rattle.fw_async.specs.declared.packet.Packet.TheVariants.{CycleStart, Lock, LockReply, ReadQuadlet, ReadQuadletReply, WriteBlock, WriteQuadlet, WriteReply}

@@ -5,9 +5,9 @@ use Rattle.std.proofs.Common.{Result, Ok, Err, IfErr, append-nil}
 use Rattle.std.proofs.lemmas.List.{take_all}
 use Rattle.fw_async.specs.Reader.{Feeds, FeedsTo, EndsPacket, EndsNothing, IsRefused}
 use Rattle.fw_async.specs.declared.reader.Fed.{Fed}
-use Rattle.fw_async.proofs.NeedLaws.{need_done, no_whole_front, fault_stays}
+use Rattle.fw_async_fields.proofs.NeedLaws.{need_done, no_whole_prefix, fault_stays}
 use Rattle.fw_async.proofs.FeedLaws.{further, stays}
-use Rattle.fw_async.proofs.SpelledLaws.{spelled_none, spelled_need, no_proper_front}
+use Rattle.fw_async.proofs.SpelledLaws.{spelled_none, spelled_need, no_proper_prefix}
 use Rattle.fw_async.proofs.SameLaws.{same_packet}
 
 pub whole_from_spells : (p : Packet) (bytes : List ℕ) → Spells p bytes → length bytes ≡ need bytes
@@ -31,7 +31,7 @@ whole_once old piece i k le within a b =
 never_whole : {A : Type 0} (old piece : List ℕ) (i k : ℕ) → i ≤ k → length (old ++ take i piece) ≡ need (old ++ take i piece) → IsPending (old ++ take k piece) → A
 never_whole old piece i k le a pending =
     let P : List ℕ → Type 0 = IsPending in
-    absurd (no_whole_front (old ++ take i piece) (between piece i k) (subst P (further old piece i k le) pending) a)
+    absurd (no_whole_prefix (old ++ take i piece) (between piece i k) (subst P (further old piece i k le) pending) a)
 
 all_of : (old piece : List ℕ) (k : ℕ) → k ≡ length piece → IsPending (old ++ piece) → IsPending (old ++ take k piece)
 all_of old piece k e h = let P : List ℕ → Type 0 = λ t. IsPending (old ++ t) in subst P (sym (take_all k piece (omega arith))) h
@@ -111,5 +111,5 @@ gives_no_packet old piece (Err f) new h = record {
 -- no packet's spelling begins with another's
 pub spelled_alone : (p q : Packet) (more : List ℕ) → Fits p → Fits q → spelling q ≡ spelling p ++ more → (q ≡ p) × (more ≡ [])
 spelled_alone p q more f g e =
-    let none : more ≡ [] = no_proper_front p q more f g e in
+    let none : more ≡ [] = no_proper_prefix p q more f g e in
     (same_packet q p g f (e ∙ ap (λ t. spelling p ++ t) none ∙ append-nil (spelling p)), none)

@@ -3,7 +3,7 @@ use Rattle.fw_async.proofs.Common.{◌≡◌, ℕ, zero, suc, ◌+◌, ◌-◌, 
 use Rattle.fw_async.proofs.Common.{fault_of, need, State, ShowsFault, PacketFault}
 use Rattle.std.proofs.Common.{IfNone, append_assoc, take-add}
 use Rattle.fw_async.specs.Reader.{HoldsPending}
-use Rattle.fw_async.proofs.NeedLaws.{need_grows, fault_stays}
+use Rattle.fw_async_fields.proofs.NeedLaws.{need_grows, fault_stays}
 
 pub pending_of : (taken : List ℕ) (fault : Option PacketFault) → fault ≡ None → HoldsPending taken fault → IsPending taken
 pending_of taken None e h = h

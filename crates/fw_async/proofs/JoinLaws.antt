@@ -5,7 +5,7 @@ use Rattle.std.proofs.Common.{length-take}
 use Rattle.std.proofs.lemmas.List.{take_all, take-take, take-append-le, take-append-drop}
 use Rattle.std.proofs.Math.Seq.{take-append-add, drop-append_seam}
 use Rattle.fw_async.specs.Reader.{HoldsPending, EndsPacket, ReadsTo}
-use Rattle.fw_async.proofs.NeedLaws.{need_most, fault_stays, no_whole_front}
+use Rattle.fw_async_fields.proofs.NeedLaws.{need_most, fault_stays, no_whole_prefix}
 use Rattle.fw_async.proofs.FeedLaws.{stays}
 use Rattle.fw_async.proofs.ExactLaws.{whole_from_spells}
 
@@ -59,8 +59,8 @@ is_joined old piece bytes e = record {
     ]
 
 -- a prefix of what is pending shows no fault, and is not whole
-pending_front : (old piece : List ℕ) (m k : ℕ) → IsPending old → k ≤ length old → IsPending (take k (old ++ take m piece) ++ drop k old)
-pending_front old piece m k pending within =
+pending_prefix : (old piece : List ℕ) (m k : ℕ) → IsPending old → k ≤ length old → IsPending (take k (old ++ take m piece) ++ drop k old)
+pending_prefix old piece m k pending within =
     let P : List ℕ → Type 0 = IsPending in
     subst P (sym (ap (λ t. t ++ drop k old) (take-append-le k old (take m piece) within) ∙ take-append-drop k old)) pending
 
@@ -69,7 +69,7 @@ shown_in : (old piece : List ℕ) (m j : ℕ) (f : PacketFault) → IsPending ol
 shown_in old piece m j f pending within h =
     let size = length_joined old piece m within in
     elim (cases_lt j (length old)) [
-      | inl less ↦ cc (fault_stays (take (j + 1) (old ++ take m piece)) (drop (j + 1) old) f h.shown, (pending_front old piece m (j + 1) pending (omega arith)).no_fault)
+      | inl less ↦ cc (fault_stays (take (j + 1) (old ++ take m piece)) (drop (j + 1) old) f h.shown, (pending_prefix old piece m (j + 1) pending (omega arith)).no_fault)
       | inr more ↦
           let P : List ℕ → Type 0 = IsPending in
           let next : j + 1 - length old ≡ j - length old + 1 = omega arith in (
@@ -101,7 +101,7 @@ packet_in : (old piece : List ℕ) (m used : ℕ) (p : Packet) → IsPending old
 packet_in old piece m used p pending within h =
     let size = length_joined old piece m within in
     let past : length old ≤ used = elim (cases_lt used (length old)) [
-      | inl less ↦ absurd (no_whole_front (take used (old ++ take m piece)) (drop used old) (pending_front old piece m used pending (omega arith)) (whole_from_spells p _ h.spells))
+      | inl less ↦ absurd (no_whole_prefix (take used (old ++ take m piece)) (drop used old) (pending_prefix old piece m used pending (omega arith)) (whole_from_spells p _ h.spells))
       | inr more ↦ more
     ] in
     let P : List ℕ → Type 0 = Spells p in
@@ -129,9 +129,9 @@ kept_part old piece bytes joint pending =
 -- what was kept, and what stands after it in the bytes
 pub kept_all : (old piece bytes : List ℕ) (n : ℕ) → n ≡ length old → IsJoined old piece bytes → old ++ take (length bytes - n) (drop n bytes) ≡ bytes
 kept_all old piece bytes n count joint =
-    let behind : drop n bytes ≡ take joint.count piece = ap (λ (k : ℕ). drop k bytes) count ∙ ap (drop (length old)) joint.same ∙ drop-append_seam old (take joint.count piece) in
+    let following : drop n bytes ≡ take joint.count piece = ap (λ (k : ℕ). drop k bytes) count ∙ ap (drop (length old)) joint.same ∙ drop-append_seam old (take joint.count piece) in
     let size : length bytes - n ≡ length (take joint.count piece) = omega (arith, ap length joint.same, length-append old (take joint.count piece), count) in
-    ap (λ t. old ++ take (length bytes - n) t) behind ∙ ap (λ t. old ++ t) (take_all (length bytes - n) (take joint.count piece) (omega (arith, size))) ∙ sym joint.same
+    ap (λ t. old ++ take (length bytes - n) t) following ∙ ap (λ t. old ++ t) (take_all (length bytes - n) (take joint.count piece) (omega (arith, size))) ∙ sym joint.same
 
 -- what was read, by its two cases
 pub reads_packet_at : (bytes : List ℕ) (used : ℕ) (o : Option Packet) (p : Packet) → o ≡ Some p → ReadsTo bytes used o → EndsPacket [] bytes used p

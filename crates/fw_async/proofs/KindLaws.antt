@@ -2,7 +2,7 @@
 use Rattle.fw_async.proofs.Common.{◌≡◌, ℕ, ◌+◌, ◌/◌, ◌%◌, ◌^◌, ◌≤◌, ◌<◌, List, [], ◌∷◌, arith, ap, sym, ◌∙◌, nat_tests, field, quadlet_at, packed, head_fields, size, padding, is_lock_size}
 use Rattle.fw_async.proofs.Common.{is_reply_size, AreBytes, tcode_of, Head}
 use Rattle.std.specs.Prelude.{IsTrue, if◌then◌else◌, nat_lt}
-use Rattle.fw_async.proofs.WholeLaws.{below}
+use Rattle.fw_async_fields.proofs.SoundLaws.{below}
 
 first_at : (t : ℕ) (bytes : List ℕ) (h : Head) → tcode_of bytes ≡ t → packed (head_fields (tcode_of bytes) h) 0 ≡ quadlet_at bytes 0 → packed (head_fields t h) 0 ≡ quadlet_at bytes 0
 first_at t bytes h kind first = ap (λ k. packed (head_fields k h) 0) (sym kind) ∙ first

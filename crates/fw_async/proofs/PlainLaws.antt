@@ -8,7 +8,8 @@ use Rattle.std.proofs.lemmas.List.{append-nil, drop_all, get_or-drop}
 use Rattle.fw_async.specs.Async.{request, response}
 use Rattle.fw_async.specs.Reader.{IsPacket}
 use Rattle.fw_async.proofs.KindLaws.{request_at, response_at}
-use Rattle.fw_async.proofs.WholeLaws.{peel, below}
+use Rattle.fw_async.proofs.WholeLaws.{peel}
+use Rattle.fw_async_fields.proofs.SoundLaws.{below}
 use Rattle.fw_async.specs.Plain.{has_zeros, is_whole_block, is_plain_packet}
 use Rattle.fw_async.proofs.TestLaws.{equal, at_most, both, either}
 
@@ -72,35 +73,35 @@ response_quads t bytes more fit kind zeros =
     response_at t bytes (head_at bytes) (rcode_at bytes) more fit kind (first_at bytes fit) refl refl (zeros_of bytes zeros)
 
 -- the bytes are their quadlets
-front_3 : (bytes : List ℕ) → AreBytes bytes → 12 ≤ length bytes → quads (from_2 bytes []) ++ drop 12 bytes ≡ bytes
-front_3 bytes fit enough =
+prefix_3 : (bytes : List ℕ) → AreBytes bytes → 12 ≤ length bytes → quads (from_2 bytes []) ++ drop 12 bytes ≡ bytes
+prefix_3 bytes fit enough =
     let a : List ℕ = to_be_bytes w32 (quadlet_at bytes 0) in
     let b : List ℕ = to_be_bytes w32 (quadlet_at bytes 4) in
     let second : drop 4 bytes ≡ b ++ (to_be_bytes w32 (quadlet_at bytes 8) ++ drop 12 bytes) =
     peel bytes 4 fit (omega arith) ∙ ap (λ t. b ++ t) (peel bytes 8 fit enough) in
     sym (peel bytes 0 fit (omega arith) ∙ ap (λ t. a ++ t) second)
 
-front_4 : (bytes : List ℕ) → AreBytes bytes → 16 ≤ length bytes → quads (four bytes) ++ drop 16 bytes ≡ bytes
-front_4 bytes fit enough =
-    ap (λ t. quads (from_2 bytes []) ++ t) (sym (peel bytes 12 fit enough)) ∙ front_3 bytes fit (omega arith)
+prefix_4 : (bytes : List ℕ) → AreBytes bytes → 16 ≤ length bytes → quads (four bytes) ++ drop 16 bytes ≡ bytes
+prefix_4 bytes fit enough =
+    ap (λ t. quads (from_2 bytes []) ++ t) (sym (peel bytes 12 fit enough)) ∙ prefix_3 bytes fit (omega arith)
 
 -- what has no data, in three quadlets and in four
 spells_3 : (bytes : List ℕ) (qs : List ℕ) → AreBytes bytes → length bytes ≡ 12 → qs ≡ from_2 bytes [] → quads qs ++ padded [] ≡ bytes
 spells_3 bytes qs fit count e =
     let rest : drop 12 bytes ≡ [] = drop_all 12 bytes (omega arith) in
-    ap (λ x. quads x ++ []) e ∙ ap (λ t. quads (from_2 bytes []) ++ t) (sym rest) ∙ front_3 bytes fit (omega arith)
+    ap (λ x. quads x ++ []) e ∙ ap (λ t. quads (from_2 bytes []) ++ t) (sym rest) ∙ prefix_3 bytes fit (omega arith)
 
 spells_4 : (bytes : List ℕ) (qs : List ℕ) → AreBytes bytes → length bytes ≡ 16 → qs ≡ four bytes → quads qs ++ padded [] ≡ bytes
 spells_4 bytes qs fit count e =
     let rest : drop 16 bytes ≡ [] = drop_all 16 bytes (omega arith) in
-    ap (λ x. quads x ++ []) e ∙ ap (λ t. quads (four bytes) ++ t) (sym rest) ∙ front_4 bytes fit (omega arith)
+    ap (λ x. quads x ++ []) e ∙ ap (λ t. quads (four bytes) ++ t) (sym rest) ∙ prefix_4 bytes fit (omega arith)
 
 -- data of whole quadlets has no padding
 spells_data : (bytes : List ℕ) (qs : List ℕ) → AreBytes bytes → 16 ≤ length bytes → padding (length (drop 16 bytes)) ≡ 0 → qs ≡ four bytes
     → quads qs ++ padded (drop 16 bytes) ≡ bytes
 spells_data bytes qs fit enough none e =
     let unpadded : padded (drop 16 bytes) ≡ drop 16 bytes = ap (λ n. drop 16 bytes ++ replicate n 0) none ∙ append-nil (drop 16 bytes) in
-    ap (λ x. quads x ++ padded (drop 16 bytes)) e ∙ ap (λ t. quads (four bytes) ++ t) unpadded ∙ front_4 bytes fit enough
+    ap (λ x. quads x ++ padded (drop 16 bytes)) e ∙ ap (λ t. quads (four bytes) ++ t) unpadded ∙ prefix_4 bytes fit enough
 
 -- quadlet 3
 fourth : (bytes qs : List ℕ) (n : ℕ) → n ≡ quadlet_at bytes 12 → qs ≡ from_2 bytes (n ∷ []) → qs ≡ four bytes

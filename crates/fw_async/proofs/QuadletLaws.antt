@@ -3,12 +3,13 @@ use Rattle.fw_async.proofs.Common.{◌≡◌, ℕ, ◌+◌, ◌≤◌, List, ◌
 use Rattle.fw_async.proofs.Common.{quadlet_at, AreBytes, is_lock_size, padding, tcode_of, Spells, Packet}
 use Rattle.std.proofs.Math.Seq.{take-add}
 use Rattle.std.proofs.lemmas.List.{drop-drop, length-drop}
-use Rattle.fw_async.specs.Reading.{IsComplete, ReadsAs}
+use Rattle.fw_async.specs.Whole.{IsComplete, ReadsAs}
 use Rattle.fw_async.proofs.ExactLaws.{whole_from_spells, clear_from_spells}
-use Rattle.fw_async.proofs.NeedLaws.{need_least}
-use Rattle.fw_async.proofs.ReadingLaws.{are_bytes_part}
+use Rattle.fw_async_fields.proofs.NeedLaws.{need_least}
+use Rattle.fw_async_fields.proofs.ReadingLaws.{are_bytes_part}
 use Rattle.fw_async.proofs.SameLaws.{same_packet}
-use Rattle.fw_async.proofs.WholeLaws.{is_whole, need_fourth, spells_whole}
+use Rattle.fw_async.proofs.WholeLaws.{is_whole, spells_whole}
+use Rattle.fw_async_fields.proofs.SoundLaws.{need_fourth}
 
 pub least : (p : Packet) (bytes : List ℕ) → Spells p bytes → 12 ≤ length bytes
 least p bytes s = omega (arith, need_least bytes, whole_from_spells p bytes s)

@@ -58,23 +58,23 @@ first_gone q xs n d less e =
     let all : others q (drop n xs) ≡ drop 1 (drop n xs) = one_gone q (drop n xs) 0 d size here in
     sym (all ∙ drop-drop 1 n xs)
 
-gone_behind : (q : ℕ) (xs : List ℕ) (n k : ℕ) → IsDistinct eqb (drop n xs) → n + k < length xs → get_or xs (n + k) 0 ≡ q → drop n (take (n + k) xs ++ drop (suc (n + k)) xs) ≡ others q (drop n xs)
-gone_behind q xs n k d less e =
+gone_after : (q : ℕ) (xs : List ℕ) (n k : ℕ) → IsDistinct eqb (drop n xs) → n + k < length xs → get_or xs (n + k) 0 ≡ q → drop n (take (n + k) xs ++ drop (suc (n + k)) xs) ≡ others q (drop n xs)
+gone_after q xs n k d less e =
     let size : k < length (drop n xs) = grind (arith, common_steps) in
     let here : get_or (drop n xs) k 0 ≡ q = get_or-drop n xs k 0 ∙ e in
     let all : others q (drop n xs) ≡ take k (drop n xs) ++ drop (suc k) (drop n xs) = one_gone q (drop n xs) k d size here in
     let long : n ≤ length (take (n + k) xs) = grind (arith, common_steps) in
     let split : drop n (take (n + k) xs ++ drop (suc (n + k)) xs) ≡ drop n (take (n + k) xs) ++ drop (suc (n + k)) xs = drop-append-le n (take (n + k) xs) (drop (suc (n + k)) xs) long in
-    let front : drop n (take (n + k) xs) ≡ take k (drop n xs) = drop-take n k xs in
+    let prefix : drop n (take (n + k) xs) ≡ take k (drop n xs) = drop-take n k xs in
     let sum : n + suc k ≡ suc (n + k) = omega arith in
     let rest : drop (suc k) (drop n xs) ≡ drop (suc (n + k)) xs = drop-drop (suc k) n xs ∙ ap (λ (t : ℕ). drop t xs) sum in
-    split ∙ ap (λ t. t ++ drop (suc (n + k)) xs) front ∙ ap (λ t. take k (drop n xs) ++ t) (sym rest) ∙ sym all
+    split ∙ ap (λ t. t ++ drop (suc (n + k)) xs) prefix ∙ ap (λ t. take k (drop n xs) ++ t) (sym rest) ∙ sym all
 
 pub later_gone : (q : ℕ) (xs : List ℕ) (n at : ℕ) → IsDistinct eqb (drop n xs) → n ≤ at → at < length xs → get_or xs at 0 ≡ q → drop n (remove xs at) ≡ others q (drop n xs)
 later_gone q xs n at d from less e =
     let k : n + (at - n) ≡ at = omega arith in
-    let behind = gone_behind q xs n (at - n) d (omega arith) (ap (λ (t : ℕ). get_or xs t 0) k ∙ e) in
-    ap (λ (t : ℕ). drop n (take t xs ++ drop (suc t) xs)) (sym k) ∙ behind
+    let following = gone_after q xs n (at - n) d (omega arith) (ap (λ (t : ℕ). get_or xs t 0) k ∙ e) in
+    ap (λ (t : ℕ). drop n (take t xs ++ drop (suc t) xs)) (sym k) ∙ following
 
 pub none_gone : (q : ℕ) (xs : List ℕ) (n : ℕ) → n ≤ length xs → ((i : ℕ) → n ≤ i → i < length xs → get_or xs i 0 ≢ q) → drop n xs ≡ others q (drop n xs)
 none_gone q xs n few h =

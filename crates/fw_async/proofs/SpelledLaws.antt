@@ -10,12 +10,12 @@ use Rattle.std.proofs.lemmas.Nat.{from_be_bytes-to_be_bytes_4}
 use Rattle.std.specs.Option.{option_map}
 use Rattle.fw_words.specs.Quadlet.{first_set}
 use Rattle.fw_words.proofs.FirstSet.{first_set_zero}
-use Rattle.fw_async.specs.Tcode.{has_quadlet_3, is_response, is_block, is_lock}
-use Rattle.fw_async.specs.Reading.{or_else}
-use Rattle.fw_async.specs.declared.PacketFault.TheVariants.{Reserved, TooLong, BadLength}
+use Rattle.fw_async_fields.specs.Tcode.{has_quadlet_3, is_response, is_block, is_lock}
+use Rattle.fw_async_fields.specs.Reading.{or_else}
+use Rattle.fw_async_fields.specs.declared.PacketFault.TheVariants.{Reserved, TooLong, BadLength}
 use Rattle.fw_async.specs.declared.packet.Packet.TheVariants.{ReadBlock, ReadBlockReply}
-use Rattle.fw_async.proofs.ReadingLaws.{padding_next}
-use Rattle.fw_async.proofs.NeedLaws.{need_of, need_done, need_most}
+use Rattle.fw_async_fields.proofs.ReadingLaws.{padding_next}
+use Rattle.fw_async_fields.proofs.NeedLaws.{need_of, need_done, need_most}
 
 pub back : (a : ℕ) (rest : List ℕ) → a < 2 ^ 32 → quadlet_at (to_be_bytes w32 a ++ rest) 0 ≡ a
 back a rest h = from_be_bytes-to_be_bytes_4 a h
@@ -122,14 +122,14 @@ zeros_clear bytes at (suc n) h =
     padding_next bytes at (suc n) (omega arith) here ∙ ap (fault_in_padding bytes (at + 1)) less
     ∙ zeros_clear bytes (at + 1) n (λ i in_rest. subst (λ (k : ℕ). get_or bytes k 0 ≡ 0) (sym (add_assoc at 1 i)) (h (1 + i) (omega arith)))
 
-after_zeros : (front : List ℕ) (k at i n : ℕ) → at ≡ length front → n ≡ length (front ++ replicate k 0) - at → i < n → get_or (front ++ replicate k 0) (at + i) 0 ≡ 0
-after_zeros front k at i n e m less =
-    let inside : i < k = omega (arith, length-append front (replicate k 0), length-replicate {A = ℕ} k 0) in
-    ap (λ (j : ℕ). get_or (front ++ replicate k 0) (j + i) 0) e ∙ get_or-append-add front (replicate k 0) i 0 ∙ get_or-replicate k i 0 0 inside
+after_zeros : (prefix : List ℕ) (k at i n : ℕ) → at ≡ length prefix → n ≡ length (prefix ++ replicate k 0) - at → i < n → get_or (prefix ++ replicate k 0) (at + i) 0 ≡ 0
+after_zeros prefix k at i n e m less =
+    let inside : i < k = omega (arith, length-append prefix (replicate k 0), length-replicate {A = ℕ} k 0) in
+    ap (λ (j : ℕ). get_or (prefix ++ replicate k 0) (j + i) 0) e ∙ get_or-append-add prefix (replicate k 0) i 0 ∙ get_or-replicate k i 0 0 inside
 
 -- what stands after the bytes of a packet with data shows no fault
-padding_clear : (front : List ℕ) (k at : ℕ) → at ≡ length front → fault_in_padding (front ++ replicate k 0) at (length (front ++ replicate k 0) - at) ≡ None
-padding_clear front k at e = zeros_clear (front ++ replicate k 0) at (length (front ++ replicate k 0) - at) (λ i less. after_zeros front k at i (length (front ++ replicate k 0) - at) e refl less)
+padding_clear : (prefix : List ℕ) (k at : ℕ) → at ≡ length prefix → fault_in_padding (prefix ++ replicate k 0) at (length (prefix ++ replicate k 0) - at) ≡ None
+padding_clear prefix k at e = zeros_clear (prefix ++ replicate k 0) at (length (prefix ++ replicate k 0) - at) (λ i less. after_zeros prefix k at i (length (prefix ++ replicate k 0) - at) e refl less)
 
 -- four quadlets, bytes and their padding
 abbrev with_data : ℕ → ℕ → ℕ → ℕ → List ℕ → List ℕ
@@ -255,8 +255,8 @@ no_more : (n : ℕ) (more : List ℕ) → n + length more ≡ n → more ≡ []
 no_more n more e = nil_from_length more (omega arith)
 
 -- No spelling is a proper prefix of another.
-pub no_proper_front : (p q : Packet) (more : List ℕ) → Fits p → Fits q → spelling q ≡ spelling p ++ more → more ≡ []
-no_proper_front p q more f g e =
+pub no_proper_prefix : (p q : Packet) (more : List ℕ) → Fits p → Fits q → spelling q ≡ spelling p ++ more → more ≡ []
+no_proper_prefix p q more f g e =
     let done : need (spelling p ++ more) ≡ length (spelling p) = need_done (spelling p) more (sym (spelled_need p f)) in
     let all : need (spelling p ++ more) ≡ length (spelling p ++ more) = let P : List ℕ → Type 0 = λ s. need s ≡ length s in subst P e (spelled_need q g) in
     no_more (length (spelling p)) more (sym (length-append (spelling p) more) ∙ sym all ∙ done)

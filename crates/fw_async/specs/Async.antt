@@ -1,7 +1,8 @@
 -- Asynchronous packets and the bytes that they are (IEEE 1394-1995, clause 6.2, without the CRCs).
-use Rattle.std.specs.Prelude.{ℕ, ◌*◌, ◌/◌, ◌%◌, ◌^◌, ◌≤◌, ◌<◌, ◌==◌, ◌||◌, List, [], ◌∷◌, ◌++◌, Bool, length, slice_index, replicate, if◌then◌else◌, flat_map, IsTrue}
+use Rattle.std.specs.Prelude.{ℕ, ◌/◌, ◌%◌, ◌^◌, ◌≤◌, ◌<◌, List, [], ◌∷◌, ◌++◌, length, replicate, flat_map, IsTrue}
 use Rattle.std.specs.Int.{to_be_bytes, w32}
 use Rattle.fw_words.specs.Layout.{packed}
+use Rattle.fw_async_fields.specs.Data.{AreBytes, is_lock_size, is_reply_size, padding}
 use Rattle.fw_async.specs.declared.packet.Head.{Head}
 use Rattle.fw_async.specs.declared.packet.Packet.{Packet}
 use Rattle.fw_async.specs.declared.packet.Packet.TheVariants.{WriteQuadlet, WriteBlock, WriteReply, ReadQuadlet, ReadBlock, ReadQuadletReply, ReadBlockReply, CycleStart, Lock, LockReply}
@@ -43,10 +44,6 @@ parts (CycleStart h offset time) = request 8 h offset (time ∷ []) []
 parts (Lock h offset function bytes) = request 9 h offset (size (length bytes) function ∷ []) bytes
 parts (LockReply h rcode function bytes) = response 11 h rcode (size (length bytes) function ∷ []) bytes
 
--- how many zero bytes fill the last quadlet of data
-abbrev pub padding : ℕ → ℕ
-padding len = 3 * len % 4
-
 -- data and its padding
 abbrev pub padded : List ℕ → List ℕ
 padded bytes = bytes ++ replicate (padding (length bytes)) 0
@@ -58,22 +55,6 @@ bytes_of p = flat_map (to_be_bytes w32) p.quadlets ++ padded p.bytes
 -- the one list of bytes that the packet is
 abbrev pub spelling : Packet → List ℕ
 spelling p = bytes_of (parts p)
-
--- How many bytes of data a lock request of this extended_tcode has: argument and data value of 4 or 8 bytes each;
--- fetch_add (3) and little_add (4) have no argument; the sizes of a vendor-dependent lock (7) are own.
-abbrev pub is_lock_size : ℕ → ℕ → Bool
-is_lock_size function len =
-    if (function == 3) || (function == 4) then (len == 4) || (len == 8)
-    else if function == 7 then (len == 4) || (len == 8) || (len == 16)
-    else (len == 8) || (len == 16)
-
--- how many bytes of old value a lock response has
-abbrev pub is_reply_size : ℕ → Bool
-is_reply_size len = (len == 0) || (len == 4) || (len == 8)
-
--- each element is a byte
-abbrev pub AreBytes : List ℕ → Type 0
-AreBytes bytes = (i : ℕ) → slice_index bytes i < 256
 
 -- the numbers of a head fit their fields
 abbrev pub HeadFits : Head → Type 0

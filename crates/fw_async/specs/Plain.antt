@@ -1,7 +1,7 @@
 -- Packets that are right at the first look.
 use Rattle.std.specs.Prelude.{ℕ, ◌-◌, ◌*◌, ◌==◌, ◌||◌, ◌&&◌, nat_le, List, Bool, false, length, if◌then◌else◌}
 use Rattle.fw_words.specs.Quadlet.{field, quadlet_at}
-use Rattle.fw_async.specs.Reading.{tcode_of}
+use Rattle.fw_async_fields.specs.Reading.{tcode_of}
 
 -- the zeros after the response code
 abbrev pub has_zeros : List ℕ → Bool

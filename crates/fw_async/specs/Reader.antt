@@ -1,8 +1,8 @@
 -- What a reader of packets keeps, and what it makes of the bytes that come.
 use Rattle.std.specs.Prelude.{◌≡◌, ◌≢◌, ℕ, ◌+◌, ◌≤◌, ◌<◌, List, [], ◌++◌, length, take, Option, Some, None, Result, Ok, Err}
 use Rattle.fw_async.specs.Async.{spelling, Fits}
-use Rattle.fw_async.specs.Reading.{fault_of, IsPending}
-use Rattle.fw_async.specs.declared.PacketFault.{PacketFault}
+use Rattle.fw_async_fields.specs.Reading.{fault_of, IsPending}
+use Rattle.fw_async_fields.specs.declared.PacketFault.{PacketFault}
 use Rattle.fw_async.specs.declared.packet.Packet.{Packet}
 use Rattle.fw_async.specs.declared.reader.Fed.{Fed}
 

@@ -1,9 +1,10 @@
 //! Cycle starts, read from whole packets.
 
-ghost use Rattle.fw_async.specs.Reading.{IsComplete, ReadsAs};
+ghost use Rattle.fw_async.specs.Whole.{IsComplete, ReadsAs};
 
-use crate::header::{head_at, offset_at};
+use crate::header::head_at;
 use crate::packet::Packet;
+use fw_async_fields::offset_at;
 use fw_words::quadlet_at;
 
 pub fn cycle_start_at<'a>(bytes: &'a [u8]) -> Packet<'a>

@@ -1,15 +1,15 @@
 //! Quadlets 0 to 2, written before all others and read from there.
 
-ghost use Rattle.std.specs.Prelude.{◌≡◌, ◌≤◌, ◌<◌, ◌+◌, ◌/◌, ◌%◌, ◌^◌, ◌++◌, [], ◌∷◌, length, flat_map};
+ghost use Rattle.std.specs.Prelude.{◌≡◌, ◌≤◌, ◌<◌, ◌+◌, ◌/◌, ◌^◌, ◌++◌, [], ◌∷◌, length, flat_map};
 ghost use Rattle.std.specs.Int.{to_be_bytes, w32};
 ghost use Rattle.fw_words.specs.Quadlet.{field, quadlet_at};
 ghost use Rattle.fw_words.specs.Layout.{packed};
 ghost use Rattle.fw_async.specs.Async.{request, response, head_fields, HeadFits};
-ghost use Rattle.fw_async.specs.Tcode.{code_of};
-ghost use Rattle.fw_async.specs.Reading.{tcode_of};
+ghost use Rattle.fw_async_fields.specs.Tcode.{code_of};
+ghost use Rattle.fw_async_fields.specs.Reading.{tcode_of};
 
 use crate::packet::Head;
-use crate::tcode::Tcode;
+use fw_async_fields::Tcode;
 use fw_words::{Bytes16, Quadlet, put_quadlet, quadlet_at, with_field};
 
 /// Appends a quadlet.
@@ -89,22 +89,4 @@ pub fn head_at(bytes: &[u8]) -> Head
         pri: first.field(28, 31) as u8,
         source: quadlet_at(bytes, 4).field(0, 15) as u16,
     }
-}
-
-/// The destination_offset of a request.
-pub fn offset_at(bytes: &[u8]) -> u64
-    requires { 12 ≤ length bytes.now }
-    ensures small { result < 2 ^ 48 }
-    ensures high { result / 2 ^ 32 ≡ field (quadlet_at bytes.now 4) 16 31 }
-    ensures low { result % 2 ^ 32 ≡ quadlet_at bytes.now 8 }
-{
-    ((quadlet_at(bytes, 4).field(16, 31) as u64) << 32) + quadlet_at(bytes, 8).0 as u64
-}
-
-/// The response code of a response.
-pub fn rcode_at(bytes: &[u8]) -> u8
-    requires { 8 ≤ length bytes.now }
-    ensures { result ≡ field (quadlet_at bytes.now 4) 16 19 }
-{
-    quadlet_at(bytes, 4).field(16, 19) as u8
 }

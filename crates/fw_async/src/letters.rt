@@ -5,8 +5,8 @@ ghost use Rattle.std.specs.Option.{option_map};
 ghost use Rattle.fw_async.specs.Letters.{HasLetters};
 ghost use Rattle.fw_async.specs.Wire.{bytes_from};
 
-use crate::node_ids::MOST_NODES;
 use crate::wire::Wire;
+use fw_async_fields::MOST_NODES;
 use fw_kept_parts::{Part, mixed};
 use std::alloc::{AllocError, Global};
 use std::marker::Model;
@@ -158,8 +158,8 @@ impl Part for Letters {
 }
 
 // A mark with bytes.
-fn bytes_mark(front: u64, bytes: &[u8]) -> u64 {
-    let mut mark = front;
+fn bytes_mark(prefix: u64, bytes: &[u8]) -> u64 {
+    let mut mark = prefix;
     for byte in bytes {
         mark = mixed(mark, u32::from(*byte));
     }

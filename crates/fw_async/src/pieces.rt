@@ -1,9 +1,9 @@
 //! Packets from bytes that come in any pieces.
 
 ghost use Rattle.std.specs.Prelude.{ℕ, ◌≡◌, ◌≤◌, ◌<◌, ◌+◌, ◌++◌, [], length, take, IsTrue, ◌↔◌, IfSome, IfNone, IfErr};
-ghost use Rattle.fw_async.specs.Reading.{IsPending, fault_of};
+ghost use Rattle.fw_async_fields.specs.Reading.{IsPending, fault_of};
 ghost use Rattle.fw_async.specs.Reader.{Spells, Feeds, EndsNothing, IsRefused};
-ghost use Rattle.fw_async.specs.declared.PacketFault.{PacketFault};
+ghost use Rattle.fw_async_fields.specs.declared.PacketFault.{PacketFault};
 ghost use Rattle.fw_async.specs.declared.packet.Packet.{Packet};
 
 use crate::{Fed, PacketFault, read_packet};

@@ -3,11 +3,10 @@
 ghost use Rattle.std.specs.Prelude.{◌≡◌, ◌≤◌, ◌%◌, IsTrue, length};
 ghost use Rattle.fw_async.specs.Plain.{has_zeros, is_whole_block, is_plain_form, is_plain_packet};
 ghost use Rattle.fw_async.specs.Reader.{IsPacket};
-ghost use Rattle.fw_async.specs.Tcode.{code_of};
+ghost use Rattle.fw_async_fields.specs.Tcode.{code_of};
 
-use crate::faults::tcode_at;
 use crate::quadlets::{OLD_SIZE, SWAP_SIZE};
-use crate::tcode::Tcode;
+use fw_async_fields::{Tcode, tcode_at};
 use fw_words::quadlet_at;
 
 // The zeros that a response has after its rcode.

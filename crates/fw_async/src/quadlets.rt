@@ -4,15 +4,14 @@ ghost use Rattle.std.specs.Prelude.{◌≡◌, ◌<◌, ◌^◌, IfSome};
 ghost use Rattle.fw_words.specs.Quadlet.{quadlet_at};
 ghost use Rattle.fw_async.specs.Async.{spelling, HeadFits};
 ghost use Rattle.fw_async.specs.Reader.{Spells, IsPacket};
-ghost use Rattle.fw_async.specs.Reading.{IsComplete, ReadsAs};
+ghost use Rattle.fw_async.specs.Whole.{IsComplete, ReadsAs};
 ghost use Rattle.fw_async.specs.Quadlets.{request_packet, read_reply, swap_reply};
 ghost use Rattle.fw_async.specs.declared.packet.Packet.{Packet as PacketRecord};
 
-use crate::faults::tcode_at;
-use crate::header::{head_at, offset_at};
+use crate::header::head_at;
 use crate::packet::Head;
 use crate::room::PacketRoom;
-use crate::tcode::Tcode;
+use fw_async_fields::{Tcode, offset_at, tcode_at};
 use fw_words::{Swap, quadlet_at};
 
 /// Quadlet 3 of a compare_swap of quadlets: eight bytes of data, and its extended_tcode.

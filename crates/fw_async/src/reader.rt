@@ -1,19 +1,19 @@
 ghost use Rattle.std.specs.Prelude.{ℕ, ◌≡◌, ◌≤◌, ◌<◌, ◌+◌, ◌-◌, length, take};
-ghost use Rattle.fw_async.specs.Tcode.{code_of};
-ghost use Rattle.fw_async.specs.Reading.{IsComplete, ReadsAs, IsPending, fault_of, need};
+ghost use Rattle.fw_async_fields.specs.Tcode.{code_of};
+ghost use Rattle.fw_async.specs.Whole.{IsComplete, ReadsAs};
+ghost use Rattle.fw_async_fields.specs.Reading.{IsPending, fault_of, need};
 ghost use Rattle.fw_async.specs.Heads.{head_of};
 ghost use Rattle.fw_async.specs.Reader.{Spells, Reads, IsPacket};
-ghost use Rattle.fw_async.specs.declared.PacketFault.{PacketFault};
+ghost use Rattle.fw_async_fields.specs.declared.PacketFault.{PacketFault};
 ghost use Rattle.fw_async.specs.declared.packet.Packet.{Packet};
 
 use crate::PacketFault;
 use crate::cycle_start::cycle_start_at;
-use crate::faults::{least_length, tcode_at};
 use crate::lock::{lock_at, lock_reply_at};
 use crate::packet::Packet;
 use crate::read::{read_block_at, read_block_reply_at, read_quadlet_at, read_quadlet_reply_at};
-use crate::tcode::Tcode;
 use crate::write::{write_block_at, write_quadlet_at, write_reply_at};
+use fw_async_fields::{Tcode, least_length, tcode_at};
 use fw_words::quadlet_at;
 
 /// What a piece gave.
@@ -62,22 +62,22 @@ fn at_most(count: usize, limit: usize) -> usize
 }
 
 // A packet that ends in the bytes, a part of one, or the first fault.
-fn read_front<'a>(bytes: &'a [u8]) -> Result<Fed<'a>, PacketFault>
+fn read_prefix<'a>(bytes: &'a [u8]) -> Result<Fed<'a>, PacketFault>
     ensures { Reads bytes.now result }
 {
     let mut end = 0;
     let mut need = 12;
     while end < bytes.len() {
         let next = at_most(need, bytes.len());
-        let front = &bytes[..next];
-        let least = match least_length(front) {
+        let prefix = &bytes[..next];
+        let least = match least_length(prefix) {
             Ok(least) => least,
             Err(fault) => return Err(fault),
         };
         if least <= next {
             return Ok(Fed {
                 used: next,
-                packet: Some(packet_at(front)),
+                packet: Some(packet_at(prefix)),
             });
         }
         end = next;
@@ -96,7 +96,7 @@ pub fn read_packet<'a>(bytes: &'a [u8]) -> Result<Fed<'a>, PacketFault>
     ensures packet { (k : ℕ) → (p : Packet) → k ≤ length bytes.now → Spells p (take k bytes.now) → result ≡ Ok (record { used = k; packet = Some p }) }
     ensures fault { (k : ℕ) → (f : PacketFault) → k < length bytes.now → IsPending (take k bytes.now) → fault_of (take (k + 1) bytes.now) ≡ Some f → result ≡ Err f }
 {
-    read_front(bytes)
+    read_prefix(bytes)
 }
 
 /// The destination_ID of the packet that these bytes are, 16 bits.

@@ -3,17 +3,17 @@
 ghost use Rattle.std.specs.Prelude.{◌≡◌, ◌≤◌, ◌<◌, ◌+◌, ◌^◌, [], ◌++◌, length, take, drop, flat_map};
 ghost use Rattle.std.specs.Int.{to_be_bytes, w32};
 ghost use Rattle.fw_async.specs.Async.{spelling, parts, Fits, HeadFits, request, response};
-ghost use Rattle.fw_async.specs.Tcode.{code_of};
+ghost use Rattle.fw_async_fields.specs.Tcode.{code_of};
 
 use crate::header::{first_quadlet, rcode_quadlet, source_quadlet};
 use crate::packet::{Head, Packet};
-use crate::tcode::Tcode;
-use crate::writer::{data_of, padding_of, quadlet_3, write_over};
+use crate::writer::{data_of, quadlet_3, write_over};
+use fw_async_fields::{Tcode, padding_of};
 use fw_words::{Quadlet, put_quadlet};
 use std::marker::Model;
 
 /// How many bytes stand before a packet.
-const FRONT: usize = 16;
+const PREFIX: usize = 16;
 
 /// How many bytes the request and the response of a transaction of one quadlet have at most, and some more.
 const SHORT: usize = 32;
@@ -22,7 +22,7 @@ const SHORT: usize = 32;
 const ALL: usize = 544;
 
 /// Room for the bytes of one packet. It is made once and used again for each. The sixteen bytes before the packet are
-/// those of `behind`, so that a packet that something stands before, as in an entry of a log, is not copied for it.
+/// those of `following`, so that a packet that something stands before, as in an entry of a log, is not copied for it.
 #[derive(Drop)]
 pub struct PacketRoom {
     bytes: [u8; ALL],
@@ -55,7 +55,7 @@ impl PacketRoom {
     pub fn as_slice(&self) -> &[u8]
         ensures { result.now ≡ self.now }
     {
-        &self.bytes[FRONT..FRONT + self.length]
+        &self.bytes[PREFIX..PREFIX + self.length]
     }
 
     /// Copies the packet's bytes over the beginning of `row`, and answers how many they are.
@@ -67,7 +67,7 @@ impl PacketRoom {
     {
         // Most packets are short. A copy of a fixed size takes a few moves.
         if self.length <= SHORT {
-            copy_short(&self.bytes[FRONT..FRONT + SHORT], row);
+            copy_short(&self.bytes[PREFIX..PREFIX + SHORT], row);
         } else {
             copy_over(self.as_slice(), row);
         }
@@ -75,20 +75,20 @@ impl PacketRoom {
     }
 
     /// The packet's bytes after sixteen others. What the room has then does not matter.
-    pub fn behind<'a>(&'a mut self, front: [u8; 16]) -> &'a [u8]
-        ensures { result.now ≡ front ++ self.old }
+    pub fn following_bytes<'a>(&'a mut self, prefix: [u8; 16]) -> &'a [u8]
+        ensures { result.now ≡ prefix ++ self.old }
     {
-        self.bytes[..FRONT].copy_from_slice(&front);
-        &self.bytes[..FRONT + self.length]
+        self.bytes[..PREFIX].copy_from_slice(&prefix);
+        &self.bytes[..PREFIX + self.length]
     }
 
-    /// As `behind`, of a short packet, and with what stands in the room after it.
+    /// As `following`, of a short packet, and with what stands in the room after it.
     #[inline(always)]
-    pub fn row_behind<'a>(&'a mut self, front: [u8; 16]) -> &'a [u8; 48]
+    pub fn row_following<'a>(&'a mut self, prefix: [u8; 16]) -> &'a [u8; 48]
         requires { length self.old ≤ 32 }
-        ensures { take (16 + length self.old) result.now ≡ front ++ self.old }
+        ensures { take (16 + length self.old) result.now ≡ prefix ++ self.old }
     {
-        self.bytes[..FRONT].copy_from_slice(&front);
+        self.bytes[..PREFIX].copy_from_slice(&prefix);
         row_of(&self.bytes)
     }
 
@@ -186,7 +186,7 @@ impl PacketRoom {
         requires { length self.old + length more.now ≤ 528 }
         ensures { self.new ≡ self.old ++ more.now }
     {
-        let end = FRONT + self.length;
+        let end = PREFIX + self.length;
         write_over(&mut self.bytes, end, more);
         self.length += more.len();
     }
@@ -218,7 +218,7 @@ fn copy_short(short: &[u8], row: &mut [u8; 528])
     ensures { take 32 row.new ≡ short.now }
 {
     match (short.as_array::<SHORT>(), row.first_chunk_mut::<SHORT>()) {
-        (Some(whole), Some(front)) => *front = *whole,
+        (Some(whole), Some(prefix)) => *prefix = *whole,
         _ => unreachable!(),
     }
 }

@@ -1,4 +1,4 @@
-//! The requests that stand on the bus between two half steps.
+//! The outstanding requests on the bus between two half steps.
 
 ghost use Rattle.std.specs.Prelude.{◌≡◌, ◌<◌, ◌≤◌, [], ◌∷◌, ◌++◌, length, take, None, IfNone, IfSome};
 ghost use Rattle.std.specs.Option.{option_map};
@@ -7,11 +7,11 @@ ghost use Rattle.fw_async.specs.Reader.{IsPacket};
 ghost use Rattle.fw_async.specs.Wire.{bytes_from, without};
 
 use crate::letters::Letter;
-use crate::node_ids::MOST_NODES;
 use crate::packet::Packet;
 use crate::room::PacketRoom;
 use crate::senders::Senders;
 use crate::writer::spell_over;
+use fw_async_fields::MOST_NODES;
 use fw_words::Bytes;
 use std::marker::Model;
 

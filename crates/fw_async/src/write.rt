@@ -1,10 +1,10 @@
 //! Write requests and their response, read from whole packets.
 
-ghost use Rattle.fw_async.specs.Reading.{IsComplete, ReadsAs};
+ghost use Rattle.fw_async.specs.Whole.{IsComplete, ReadsAs};
 
-use crate::data::block_at;
-use crate::header::{head_at, offset_at, rcode_at};
+use crate::header::head_at;
 use crate::packet::Packet;
+use fw_async_fields::{block_at, offset_at, rcode_at};
 use fw_words::quadlet_at;
 
 pub fn write_quadlet_at<'a>(bytes: &'a [u8]) -> Packet<'a>

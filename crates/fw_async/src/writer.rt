@@ -1,13 +1,13 @@
 //! Packets as bytes: the quadlets at the beginning, the data, and zeros up to a whole quadlet.
 
-ghost use Rattle.std.specs.Prelude.{◌≡◌, ◌≤◌, ◌+◌, ◌++◌, ◌∷◌, IfSome, IfNone, List, ℕ, [], length, take, drop, flat_map, replicate};
+ghost use Rattle.std.specs.Prelude.{◌≡◌, ◌≤◌, ◌+◌, ◌++◌, ◌∷◌, IfSome, IfNone, List, ℕ, [], length, take, drop, flat_map};
 ghost use Rattle.std.specs.Int.{to_be_bytes, w32};
-ghost use Rattle.fw_async.specs.Async.{parts, padding, size, spelling, Fits};
+ghost use Rattle.fw_async.specs.Async.{parts, size, spelling, Fits};
 
 use crate::header::{begin_request, begin_response, push_quadlet};
 use crate::packet::Packet;
-use crate::tcode::Tcode;
 use arrayvec::ArrayVec;
+use fw_async_fields::{Tcode, padding_of};
 use fw_words::{Bytes16, with_field};
 
 // Quadlets 0 to 2, in place of what `out` held.
@@ -83,14 +83,14 @@ fn push_quadlet_3(p: &Packet, out: &mut Bytes16)
 }
 
 // The quadlets at the packet's beginning.
-pub(crate) fn front_of(p: &Packet) -> Bytes16
+pub(crate) fn prefix_of(p: &Packet) -> Bytes16
     requires { Fits p.now }
     ensures { result ≡ flat_map (to_be_bytes w32) (parts p.now).quadlets }
 {
-    let mut front = Bytes16::new();
-    begin_packet(p, &mut front);
-    push_quadlet_3(p, &mut front);
-    front
+    let mut prefix = Bytes16::new();
+    begin_packet(p, &mut prefix);
+    push_quadlet_3(p, &mut prefix);
+    prefix
 }
 
 // The data after the quadlets.
@@ -114,26 +114,18 @@ pub(crate) fn data_of<'a>(p: &'a Packet) -> &'a [u8]
     }
 }
 
-// The zeros after so many bytes of data.
-pub(crate) fn padding_of(count: usize) -> &'static [u8]
-    requires { count ≤ 512 }
-    ensures { result.now ≡ replicate (padding count) 0 }
-{
-    &[0; 3][..3 * count % 4]
-}
-
 /// How many bytes the packet takes: 12 to 528, a multiple of four.
 pub fn packet_length(p: &Packet) -> usize
     requires { Fits p.now }
     ensures { result ≡ length (spelling p.now) }
 {
     let data = data_of(p).len();
-    let front = match p {
+    let prefix = match p {
         Packet::WriteReply { .. } => 12,
         Packet::ReadQuadlet { .. } => 12,
         _ => 16,
     };
-    front + data + 3 * data % 4
+    prefix + data + 3 * data % 4
 }
 
 fn extend(out: &mut ArrayVec<u8, 528>, more: &[u8])
@@ -148,10 +140,10 @@ fn spell(p: &Packet, out: &mut ArrayVec<u8, 528>)
     requires { Fits p.now }
     ensures { out.new.items ≡ spelling p.now }
 {
-    let front = front_of(p);
+    let prefix = prefix_of(p);
     let data = data_of(p);
     out.clear();
-    extend(out, front.as_slice());
+    extend(out, prefix.as_slice());
     if !data.is_empty() {
         extend(out, data);
         extend(out, padding_of(data.len()));
@@ -185,11 +177,11 @@ pub fn write_packet_at(p: &Packet, out: &mut [u8], at: usize) -> usize
     ensures bytes { take result out.new ≡ take at out.old ++ spelling p.now }
     ensures end { result ≡ at + length (spelling p.now) }
 {
-    let front = front_of(p);
-    let front = front.as_slice();
+    let prefix = prefix_of(p);
+    let prefix = prefix.as_slice();
     let data = data_of(p);
-    write_over(out, at, front);
-    let end = at + front.len();
+    write_over(out, at, prefix);
+    let end = at + prefix.len();
     if data.is_empty() {
         return end;
     }

@@ -6,17 +6,18 @@ use Rattle.fw_words.specs.Quadlet.{field, quadlet_at}
 use Rattle.fw_words.specs.Layout.{packed}
 use Rattle.fw_words.specs.Swaps.{swap_bytes}
 use Rattle.fw_words.specs.declared.swap.Swap.{Swap as SwapWords}
-use Rattle.fw_async.specs.Async.{AreBytes, HeadFits, head_fields, size, is_reply_size}
+use Rattle.fw_async.specs.Async.{HeadFits, head_fields, size}
+use Rattle.fw_async_fields.specs.Data.{AreBytes, is_reply_size}
 use Rattle.fw_async.specs.Reader.{Spells}
-use Rattle.fw_async.specs.Reading.{tcode_of}
+use Rattle.fw_async_fields.specs.Reading.{tcode_of}
 use Rattle.fw_async.specs.declared.packet.Head.{Head}
 use Rattle.fw_async.specs.declared.packet.Packet.{Packet}
 use Rattle.fw_async.specs.declared.packet.Packet.TheVariants.{WriteQuadlet, WriteBlock, WriteReply, ReadQuadlet, ReadQuadletReply, CycleStart, Lock as LockRequest, LockReply}
 use Rattle.fw_async.proofs.KindLaws.{request_at, response_at, size_at, all_there}
 use Rattle.fw_async.proofs.QuadletLaws.{complete_of, read_back, swap_end, swap_data, swap_fits}
-use Rattle.fw_async.proofs.ReadingLaws.{are_bytes_part}
-use Rattle.fw_async.proofs.WholeLaws.{below, need_fourth}
-use Rattle.fw_async.specs.Tcode.{has_quadlet_3, has_data}
+use Rattle.fw_async_fields.proofs.ReadingLaws.{are_bytes_part}
+use Rattle.fw_async_fields.proofs.SoundLaws.{below, need_fourth}
+use Rattle.fw_async_fields.specs.Tcode.{has_quadlet_3, has_data}
 
 -- what was read of the first two quadlets of a packet with this transaction code
 pub record HasHead (t : ℕ) (bytes : List ℕ) (h : Head) : Type 0 where
@@ -112,7 +113,7 @@ cycle_start_is p bytes h o v fit s x y value =
       rest = refl;
     })
 
--- a block of eight bytes has them behind quadlet 3
+-- a block of eight bytes has them after quadlet 3
 pub pair_end : (p : Packet) (bytes : List ℕ) → AreBytes bytes → Spells p bytes → tcode_of bytes ≡ 1 → quadlet_at bytes 12 ≡ 524288 → 24 ≤ length bytes
 pair_end p bytes fit s kind e =
     let complete = complete_of 1 p bytes fit s kind in

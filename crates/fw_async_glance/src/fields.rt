@@ -5,7 +5,7 @@ ghost use Rattle.std.specs.Int.{to_be_bytes, w32};
 ghost use Rattle.fw_words.specs.Quadlet.{field, quadlet_at};
 ghost use Rattle.fw_words.specs.Layout.{packed};
 ghost use Rattle.fw_async.specs.Async.{head_fields, HeadFits};
-ghost use Rattle.fw_async.specs.Reading.{tcode_of};
+ghost use Rattle.fw_async_fields.specs.Reading.{tcode_of};
 
 use fw_async::Head;
 use fw_words::{Swap, quadlet_at};

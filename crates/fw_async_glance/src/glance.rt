@@ -2,7 +2,7 @@
 
 ghost use Rattle.std.specs.Prelude.{◌≡◌};
 ghost use Rattle.fw_async.specs.Reader.{IsPacket, Spells};
-ghost use Rattle.fw_async.specs.Reading.{tcode_of};
+ghost use Rattle.fw_async_fields.specs.Reading.{tcode_of};
 ghost use Rattle.fw_async.specs.declared.packet.Packet.{Packet};
 ghost use Rattle.fw_words.specs.Quadlet.{quadlet_at};
 ghost use Rattle.fw_async_glance.specs.Glances.{IsGlance};

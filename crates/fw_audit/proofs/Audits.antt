@@ -19,12 +19,12 @@ use Rattle.fw_audit.specs.declared.audit.Audit.{Audit}
 
 -- ---- lists
 
-no_part : {A : Type 0} (front rest : List A) (e : A) → [] ≡ front ++ e ∷ rest → ⊥
+no_part : {A : Type 0} (prefix rest : List A) (e : A) → [] ≡ prefix ++ e ∷ rest → ⊥
 no_part [] rest e is = cc is
 no_part (x ∷ xs) rest e is = cc is
 
 -- a part of a list and one element more is a part of the list, or that element
-part_of : {A : Type 0} (xs : List A) (y : A) (front rest : List A) (e : A) → xs ++ y ∷ [] ≡ front ++ e ∷ rest → ((later : List A) × (xs ≡ front ++ e ∷ later)) ⊎ ((xs ≡ front) × (y ≡ e))
+part_of : {A : Type 0} (xs : List A) (y : A) (prefix rest : List A) (e : A) → xs ++ y ∷ [] ≡ prefix ++ e ∷ rest → ((later : List A) × (xs ≡ prefix ++ e ∷ later)) ⊎ ((xs ≡ prefix) × (y ≡ e))
 part_of [] y [] rest e is = let same : y ≡ e = cc is in inr (refl, same)
 part_of [] y (f ∷ fs) rest e is = let none : [] ≡ fs ++ e ∷ rest = cc is in absurd (no_part fs rest e none)
 part_of (x ∷ xs) y [] rest e is = let same : x ≡ e = cc is in inl (xs, ap (λ v. v ∷ xs) same)
@@ -40,13 +40,13 @@ part_of (x ∷ xs) y (f ∷ fs) rest e is =
 -- ---- audited entries
 
 pub nothing_audited : IsAudited []
-nothing_audited front rest e is = absurd (no_part front rest e is)
+nothing_audited prefix rest e is = absurd (no_part prefix rest e is)
 
 audited_push : (entries : List Entry) (e : Entry) (l : Account) → IsAudited entries → account_of entries ≡ Some l → HasNoFault l (looked e) → IsAudited (entries ++ e ∷ [])
-audited_push entries e l a at none front rest x is = go (part_of entries e front rest x is)
+audited_push entries e l a at none prefix rest x is = go (part_of entries e prefix rest x is)
   where
-    go : ((later : List Entry) × (entries ≡ front ++ x ∷ later)) ⊎ ((entries ≡ front) × (e ≡ x)) → (k : Account) × (account_of front ≡ Some k) × HasNoFault k (looked x)
-    go (inl (later, same)) = a front later x same
+    go : ((later : List Entry) × (entries ≡ prefix ++ x ∷ later)) ⊎ ((entries ≡ prefix) × (e ≡ x)) → (k : Account) × (account_of prefix ≡ Some k) × HasNoFault k (looked x)
+    go (inl (later, same)) = a prefix later x same
     go (inr (same, end)) = (l, subst (λ es. account_of es ≡ Some l) same at, subst (λ y. HasNoFault l (looked y)) end none)
 
 pub account_push : (entries : List Entry) (e : Entry) (l : Account) → account_of entries ≡ Some l → account_of (entries ++ e ∷ []) ≡ next_account l e
@@ -55,7 +55,7 @@ account_push entries e l at = account_from-append entries (e ∷ []) (Some no_ac
 -- entries that begin with some of which the last has a fault are not audited
 pub never_audited : (es rest : List Entry) (f : AuditFault) → EndsFaulty es f → IsAudited (es ++ rest) → ⊥
 never_audited es rest f x a =
-    let y = a x.front rest x.entry (ap (λ xs. xs ++ rest) x.parts ∙ append_assoc x.front (x.entry ∷ []) rest) in
+    let y = a x.prefix rest x.entry (ap (λ xs. xs ++ rest) x.parts ∙ append_assoc x.prefix (x.entry ∷ []) rest) in
     let same : y.0 ≡ x.account = same_Some y.0 x.account (sym y.1 ∙ x.before) in
     subst (λ l. HasNoFault l (looked x.entry)) same y.2 f x.verdict.0
 
@@ -73,7 +73,7 @@ found_more entries e a t None x is after =
       audited = audited_push entries e x.account x.audited x.is is;
     }
 found_more entries e a t (Some f) x is after = record {
-  front = entries;
+  prefix = entries;
   entry = e;
   parts = refl;
   audited = x.audited;

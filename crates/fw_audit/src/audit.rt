@@ -1,4 +1,4 @@
-ghost use Rattle.std.specs.Prelude.{◌≡◌, ◌++◌, ◌∷◌, [], List, Option, Some, None, IfOk, IfErr, IsOkAnd, IsTrue, IsFalse};
+ghost use Rattle.std.specs.Prelude.{◌≡◌, ◌↔◌, ◌++◌, ◌∷◌, [], List, Option, Some, None, IfOk, IfErr, IsOkAnd, IsTrue, IsFalse};
 ghost use Rattle.fw_async.specs.Reader.{IsPacket, Spells};
 ghost use Rattle.fw_async.specs.declared.packet.Packet.{Packet as AsyncPacket};
 ghost use Rattle.fw_log_entry.specs.declared.entry.Entry.{Entry as LogEntry};
@@ -7,6 +7,7 @@ ghost use Rattle.fw_log_entry.specs.declared.entry.ResetEntry.{ResetEntry as ARe
 ghost use Rattle.fw_log_entry.specs.declared.entry.ShownEntry.{ShownEntry};
 ghost use Rattle.fw_log_entry.specs.Log.{Fits, ResetFits};
 ghost use Rattle.fw_model_account.specs.Account.{Account};
+ghost use Rattle.fw_ledger.specs.Resets.{HasNoNewOutput};
 ghost use Rattle.fw_ledger.specs.Stands.{StandsFor};
 ghost use Rattle.fw_model_audit.specs.Looked.{looked};
 ghost use Rattle.fw_model_audit.specs.Faults.{IsVerdict};
@@ -103,13 +104,14 @@ impl Audit {
         }
     }
 
-    /// Takes the bus reset that has these nodes and this resource manager if no device has more output plugs than before it, and answers
-    /// whether it did: a reset has no fault. If it did not the audit is unchanged, and `take` takes the entry. No memory is taken.
+    /// Takes the bus reset that has these nodes and this resource manager if no device has more output plugs than before it, and no
+    /// entry had a fault, and answers whether it did: a reset has no fault. If it did not the audit is unchanged, and `take` takes the entry. No memory is taken.
     pub fn pass_reset(&mut self, manager: Option<u8>, nodes: &[NodeRow]) -> bool
         requires fits { (r : AReset) × ResetFits r × (r.manager ≡ manager) × (r.nodes ≡ nodes.now) }
         ensures fresh { self.new.fault ≡ self.old.fault }
         ensures found { IsTrue result → (entries : List LogEntry) (r : AReset) → ResetFits r → r.manager ≡ manager → r.nodes ≡ nodes.now → Found entries self.old None
             → Found (entries ++ Reset r ∷ []) self.new None }
+        ensures exactly { (l : Account) → StandsFor self.old.ledger l → IsTrue result ↔ ((self.old.fault ≡ None) × HasNoNewOutput l.latest nodes.now) }
         ensures kept { IsFalse result → self.new ≡ self.old }
     {
         if self.fault.is_some() {

@@ -114,7 +114,7 @@ fn swap_made(swap: Swap, rcode: u8, value: u32) -> Option<Swap>
     }
 }
 
-// The controller of this device swaps a register, if it is one of the account. It does not where that is no move.
+// The controller of this device swaps a register, if it is one of the account. It does not if that is no move.
 fn swap_at(ledger: &mut Ledger, device: u8, register: Option<Register>, swap: Swap) -> bool
     requires stands { Stands ledger.old }
     requires device { device < 63 }
@@ -218,6 +218,8 @@ pub fn take_packet(ledger: &mut Ledger, bytes: &[u8]) -> Option<Option<Answer>>
         Glance::SwapReply { head, rcode, old } => {
             Some(Some(take_swap_reply(ledger, &head, rcode, old)?))
         }
+        // An account looks at no cycle start.
+        Glance::CycleStart { .. } => Some(None),
         _ => None,
     }
 }

@@ -8,7 +8,7 @@ use Rattle.fw_avc.specs.declared.notify.Watched.{Watched}
 use Rattle.fw_avc.specs.declared.notify.Watched.TheVariants.{Power, Transport}
 use Rattle.fw_avc.specs.declared.notify.Kept.{Kept}
 
--- an AV/C unit: its plugs, its power, the NOTIFY requests that stand, and its tape
+-- an AV/C unit: its plugs, its power, the NOTIFY requests that are outstanding, and its tape
 pub record UnitState : Type 0 where
   pub outputs : ℕ
   pub inputs : ℕ

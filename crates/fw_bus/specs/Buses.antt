@@ -9,7 +9,8 @@ use Rattle.fw_log_entry.specs.declared.version.Version.TheVariants.{Two}
 use Rattle.fw_script_command.specs.declared.command.Command.{Command}
 use Rattle.fw_script_command.specs.declared.command.Command.TheVariants.{End}
 use Rattle.fw_bus_state.specs.declared.machine.Machine.{Machine}
-use Rattle.fw_cmp.specs.Controllers.{is_restoring, slot_at}
+use Rattle.fw_cmp.specs.Controllers.{slot_at}
+use Rattle.fw_cmp_jobs.specs.Slots.{is_restoring}
 use Rattle.fw_order.specs.declared.order.Order.{Order}
 use Rattle.fw_order.specs.declared.order.Order.TheVariants.{Settle}
 use Rattle.fw_bus.specs.declared.BusFault.{BusFault}
@@ -38,7 +39,7 @@ use Rattle.fw_model_run.specs.Settling.{BeginsSecond, to_restore}
 use Rattle.fw_model_run.specs.Logs.{HasNoEnd}
 
 -- what a caller sees of a bus
-pub record Standing : Type 0 where
+pub record BusView : Type 0 where
   pub machine : Machine
   pub spent : Bool
 
@@ -52,7 +53,7 @@ pub record IsReached (m : Machine) : Type 0 where
   pub stands : StandsFor m state
 
 -- the run goes on with this command from its state, with what this desk gives, and the bus stands for the state that the command leads to
-pub record ContinuesRun (D : DeskRelations) (commands : List Command) (actions : List Action) (log : List Timed) (s : State) (c : Command) (now : Standing)
+pub record ContinuesRun (D : DeskRelations) (commands : List Command) (actions : List Action) (log : List Timed) (s : State) (c : Command) (now : BusView)
     (held after : Option (List ℕ)) : Type 0 where
   pub order : Order
   pub decided : Decides s c (Ok order)
@@ -80,7 +81,7 @@ pub record ContinuesRun (D : DeskRelations) (commands : List Command) (actions :
   pub fresh : IsFalse now.spent
 
 -- It was cut off by the sink: the entries given so far, and a prefix of the next. With what this desk gives the order was carried out so far.
-pub record CutsRunOff (D : DeskRelations) (commands : List Command) (actions : List Action) (log : List Timed) (s : State) (c : Command) (now : Standing) (held after : Option (List ℕ)) : Type 0 where
+pub record CutsRunOff (D : DeskRelations) (commands : List Command) (actions : List Action) (log : List Timed) (s : State) (c : Command) (now : BusView) (held after : Option (List ℕ)) : Type 0 where
   pub order : Order
   pub decided : Decides s c (Ok order)
   pub cut : CutOff (Carries s order) s held after
@@ -94,7 +95,7 @@ pub record CutsRunOff (D : DeskRelations) (commands : List Command) (actions : L
   pub spent : IsTrue now.spent
 
 -- what a call with a command did: it was carried out, or refused by its first broken rule, or the sink failed
-abbrev pub Applies : {T : Type 0} → DeskRelations → List Command → List Action → List Timed → State → Command → Standing → Option (List ℕ) → Option (List ℕ) → Result T BusFault → Type 0
+abbrev pub Applies : {T : Type 0} → DeskRelations → List Command → List Action → List Timed → State → Command → BusView → Option (List ℕ) → Option (List ℕ) → Result T BusFault → Type 0
 Applies D commands actions log s c now held after (Ok _) = ContinuesRun D commands actions log s c now held after
 Applies D commands actions log s c now held after (Err (Refused fault)) = Decides s c (Err fault)
 Applies D commands actions log s c now held after (Err WriteFault) = CutsRunOff D commands actions log s c now held after

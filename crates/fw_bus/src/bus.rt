@@ -7,7 +7,7 @@ use fw_async::Wire;
 use fw_bus_engine::carry_out;
 use fw_bus_places::Places;
 use fw_bus_rules::decide;
-use fw_bus_state::{Machine, Room};
+use fw_bus_state::{Machine, WriteBuffers};
 use fw_dub::Reel;
 use fw_node::Node;
 use fw_order::{Order, RuleFault};
@@ -22,14 +22,14 @@ use std::marker::Model;
 pub struct Bus {
     pub(crate) machine: Machine,
     pub(crate) spent: bool,
-    pub(crate) room: Room,
+    pub(crate) room: WriteBuffers,
 }
 
 impl Model for Bus {
     ghost use Rattle.std.specs.Prelude.{IsFalse};
-    ghost use Rattle.fw_bus.specs.Buses.{Standing, IsReached};
+    ghost use Rattle.fw_bus.specs.Buses.{BusView, IsReached};
 
-    ghost Value = { Standing };
+    ghost Value = { BusView };
 
     ghost view = { λ b. record { machine = b.machine; spent = b.spent } };
 
@@ -60,7 +60,7 @@ impl Bus {
         Ok(Bus {
             machine: Machine::new(alloc)?,
             spent: false,
-            room: Room::new(alloc)?,
+            room: WriteBuffers::new(alloc)?,
         })
     }
 
@@ -81,7 +81,7 @@ impl Bus {
         self.machine.devices.node(device)
     }
 
-    /// What lies on the bus: for each node a pair with its number exactly if a request of its controller stands, with the bytes of
+    /// What lies on the bus: for each node a pair with its number exactly if a request of its controller is outstanding, with the bytes of
     /// that request.
     pub fn wire(&self) -> &Wire
         requires spent { IsFalse self.now.spent }
@@ -157,9 +157,9 @@ impl Bus {
         decide(&self.machine, c)
     }
 
-    /// Carries out a command, and writes what happens; the blocks of tapes, and what a vendor makes of a byte, come from the desk. `Refused` comes exactly
-    /// if a rule holds of the command, with the first; then nothing is changed or written. If the sink fails, it holds the
-    /// entries given so far and a prefix of the next, its count of faults rose, and the bus is spent.
+    /// Carries out a command, and writes what happens; the blocks of tapes, and what a vendor makes of a byte, come from the desk.
+    /// `Refused` comes exactly if a rule holds of the command, with the first; then nothing is changed or written. If the sink fails, it
+    /// holds the entries given so far and a prefix of the next, its count of faults rose, and the bus is spent.
     pub fn apply<K: Sink, F: Fn(u16, u32, u16) -> [u8; 480], H: Fn(u32, u8) -> u8>(
         &mut self,
         c: &Command,

@@ -16,7 +16,7 @@ ghost use Rattle.fw_bus.specs.Changes.{IsChanged, WhereHalf, counted_in};
 use crate::{Bus, BusFault};
 use fw_bus_engine::{carry_out, half_step};
 use fw_bus_rules::decide;
-use fw_bus_state::{Machine, Room};
+use fw_bus_state::{Machine, WriteBuffers};
 use fw_order::Order;
 use fw_outside::{Failed, Sink};
 use fw_script_command::Command;
@@ -26,7 +26,7 @@ use fw_tape::Desk;
 #[derive(Clone, Copy, PartialEq, Eq)]
 pub enum Changed {
     /// What a half step of this device's controller changes that begins no bus reset: of the controllers that one alone. If it `asks`,
-    /// because no request of it stood, devices and streams are as they were; and if it wrote nothing, it was only counted.
+    /// because no request of it was outstanding, devices and streams are as they were; and if it wrote nothing, it was only counted.
     Half { device: u8, asks: bool },
     /// Anything.
     Any,
@@ -48,7 +48,7 @@ fn stepping(order: &Order) -> Option<u8>
 fn step_once<K: Sink>(
     machine: &mut Machine,
     device: u8,
-    room: &mut Room,
+    room: &mut WriteBuffers,
     sink: &mut K,
 ) -> Result<Changed, Failed>
     requires ready { IsReady machine.old }
@@ -74,7 +74,7 @@ fn carry_out_told<K: Sink, F: Fn(u16, u32, u16) -> [u8; 480], H: Fn(u32, u8) -> 
     machine: &mut Machine,
     order: &Order,
     desk: &Desk<F, H>,
-    room: &mut Room,
+    room: &mut WriteBuffers,
     sink: &mut K,
 ) -> Result<Changed, Failed>
     requires ready { IsReady machine.old }

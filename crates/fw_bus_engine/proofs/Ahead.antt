@@ -98,9 +98,9 @@ counts_are : (n : ℕ) (nodes : List NodeState) (counts : List ℕ) → counts_a
 counts_are zero nodes counts = refl
 counts_are (suc n) nodes counts =
     let e : suc n + 1 ≡ suc (suc n) = omega arith in
-    let front = nodes_are n nodes in
+    let prefix = nodes_are n nodes in
     let sent = counts_are n nodes counts in
-    (λ i. counted_on 1 (front i) (sent i)) ∙ (counts_more (suc n) nodes counts ∙ ap (λ k. counted_on k nodes counts) e)
+    (λ i. counted_on 1 (prefix i) (sent i)) ∙ (counts_more (suc n) nodes counts ∙ ap (λ k. counted_on k nodes counts) e)
 
 -- ---- the machine's devices follow
 
@@ -112,7 +112,7 @@ settled (suc n) m devices counts some d c =
     let sent = sym (counts_are n m.devices.nodes m.streams) in
     (λ i. record m { devices = d i; streams = c i }) ∙ (λ i. record m { devices = record m.devices { nodes = nodes i }; streams = sent i })
 
--- they may, where they could be there
+-- they may, if they could be there
 pub may_back : (k : ℕ) (o : Option Cassette) → MayPass 0 (option_map (passed_on k) o) → MayPass k o
 may_back k None may = tt
 may_back k (Some c) may = λ on.

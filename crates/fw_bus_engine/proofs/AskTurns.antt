@@ -1,23 +1,21 @@
 -- A transaction of the script, of the machine and of the run.
-use Rattle.fw_bus_engine.proofs.Common.{◌≡◌, ◌==◌, ◌&&◌, Bool, true, false, arith, ℕ, List, [], ◌∷◌, Option, Some, None, refl, ap, sym, subst, ◌∙◌, slice_set, IsTrue, IsFalse, zero, suc, Packet}
-use Rattle.fw_bus_engine.proofs.Common.{DeviceKind, Request, Async, packet_of, request_in, response_of, NodeState, after_request}
-use Rattle.fw_bus_engine.proofs.Common.{space_of, Network, kinds_of, node_at, node_of, at_most, State, is_linked}
-use Rattle.fw_bus_engine.proofs.Common.{is_living, Step, IsGood, living_linked, Machine, TakesTwoActions, HasNodes, StandsFor, is_linked_in, is_living_in, linked_same, living_same}
-use Rattle.fw_bus_engine.proofs.Common.{node_number_is, linked_on, on_within, Election}
+use Rattle.fw_bus_engine.proofs.Common.{◌≡◌, ◌==◌, ◌&&◌, Bool, true, false, arith, Some, None, refl, ap, sym, subst, ◌∙◌, IsTrue, IsFalse, Packet}
+use Rattle.fw_bus_engine.proofs.Common.{Async, packet_of, request_in}
+use Rattle.fw_bus_engine.proofs.Common.{node_at, node_of, at_most, State, is_linked}
+use Rattle.fw_bus_engine.proofs.Common.{is_living, Transition, IsGood, living_linked, Machine, TakesTwoActions, StandsFor, is_linked_in, is_living_in, linked_same, living_same}
+use Rattle.fw_bus_engine.proofs.Common.{node_number_is, linked_on, Election}
 use Rattle.std.proofs.Common.{◌||◌}
 use Rattle.fw_order.specs.declared.order.Transaction.{Transaction}
-use Rattle.fw_model_run.specs.Spaces.{access_request, script_head, transaction_head, bus_manager_id_after}
+use Rattle.fw_model_run.specs.Spaces.{access_request, script_head, target_node, transaction_head, bus_manager_id_after}
 use Rattle.fw_order.specs.declared.order.Access.{Access}
 use Rattle.fw_order.specs.declared.order.Access.TheVariants.{Read, Swap}
 use Rattle.fw_model_run.specs.Actions.{Ask, Answer, AccessFits, IsSpared}
 use Rattle.fw_bus_state.specs.Orders.{is_guarded, is_guarded_by}
 use Rattle.fw_bus_engine.specs.Transacting.{IsRequest}
-use Rattle.fw_bus_engine.proofs.Asked.{transacted, answers_same, request_is}
-use Rattle.fw_bus_state.proofs.DeckNodes.{decks_requested}
-use Rattle.fw_bus_state.proofs.Lingers.{requested, unchanged_same}
-use Rattle.fw_bus_state.proofs.Hearing.{asked_hears, hear_same}
+use Rattle.fw_bus_engine.proofs.Asked.{unguarded_follows}
+use Rattle.fw_bus_engine.proofs.Responder.{AnswersBy, answered_by, asks_request, devices_follow, response_is}
+use Rattle.fw_bus_state.proofs.Latest.{on_number}
 use Rattle.fw_model_run.specs.Named.{is_guarded_at}
-use Rattle.fw_bus_state.specs.Stands.{seen}
 
 -- the packet of the run
 abbrev pub asking_packet : State → Transaction → Packet
@@ -33,35 +31,11 @@ request_same m s x request g st to from r =
     let q : r.from ≡ node_of s.account.latest x.from = (let e : Some r.from ≡ Some (node_of s.account.latest x.from) = sym r.from_is ∙ b in cc) in
     r.request_is ∙ (λ i. packet_of (script_head (p i) (q i)) (access_request x.access))
 
--- a node that has carried out a request is of the same kind
-pub kinds_set_at : (nodes : List NodeState) (d : ℕ) (o : Option Request) → kinds_of (slice_set nodes d (after_request o (node_at nodes d))) ≡ kinds_of nodes
-kinds_set_at [] d o = refl
-kinds_set_at (n ∷ nodes) zero None = refl
-kinds_set_at (n ∷ nodes) zero (Some r) = refl
-kinds_set_at (n ∷ nodes) (suc d) o = ap (λ (ks : List DeviceKind). n.kind ∷ ks) (kinds_set_at nodes d o)
-
--- the network after a device's node has answered a request
-abbrev pub answered_by : Network → ℕ → Option Request → Network
-answered_by n d o = record n { nodes = slice_set n.nodes d (after_request o (node_at n.nodes d)) }
-
 pub answered_stands : (m : Machine) (s : State) (x : Transaction) → IsGood s → StandsFor m s → IsTrue (is_linked s x.to) → IsFalse (is_guarded x.access)
     → StandsFor (record m { devices = answered_by m.devices x.to (Some (access_request x.access)) }) (record s { transaction = None; bus_manager_id = bus_manager_id_after s x })
 answered_stands m s x g st to free = record {
-  devices = record {
-    topology = st.devices.topology;
-    names = st.devices.names;
-    kinds = kinds_set_at m.devices.nodes x.to (Some (access_request x.access)) ∙ st.devices.kinds;
-    nodes = nodes;
-    lingering = requested m.devices.nodes s t x.to (Some (access_request x.access)) g st.devices.nodes nodes (on_within m.devices.nodes s x.to st.devices.nodes g (linked_on s x.to to))
-        refl (unchanged_same s.account) st.devices.lingering;
-    decks = decks_requested m.devices.nodes s x.to (Some (access_request x.access)) (on_within m.devices.nodes s x.to st.devices.nodes g (linked_on s x.to to)) st.devices.decks;
-    hearers = asked_hears m.devices.nodes s t x.to (Some (access_request x.access)) st.around.hearing st.devices.nodes nodes
-        (on_within m.devices.nodes s x.to st.devices.nodes g (linked_on s x.to to)) refl (hear_same s t refl (λ p. refl)) st.devices.hearers;
-    latest = st.devices.latest;
-    epoch = st.devices.epoch;
-    manager = st.devices.manager;
-    withheld = st.devices.withheld;
-  };
+  devices = devices_follow m.devices s (record s { bus_manager_id = bus_manager_id_after s x }) x.to (node_of s.account.latest x.to) (access_request x.access) g st.around.hearing st.devices
+      (unguarded_follows s x.to (node_of s.account.latest x.to) x.access (on_number s x.to (linked_on s x.to to)) free);
   clock = st.clock;
   table = st.table;
   directory = st.directory;
@@ -74,12 +48,6 @@ answered_stands m s x g st to free = record {
   reel = st.reel;
   around = st.around;
 }
-  where
-    t : State
-    t = record s { transaction = None; bus_manager_id = bus_manager_id_after s x }
-
-    nodes : HasNodes (slice_set m.devices.nodes x.to (after_request (Some (access_request x.access)) (node_at m.devices.nodes x.to))) (seen t)
-    nodes = transacted s m.devices.nodes x g st.devices.nodes to free
 
 -- an access that is not guarded is at no register of procedures, and spares BUS_MANAGER_ID
 free_of : (b : Bool) (a : Access) → IsFalse (is_guarded_by b a) → IsFalse (is_guarded a)
@@ -99,31 +67,33 @@ spared_of b e (Swap offset swap) same free = λ on. other (is_guarded_at offset)
 -- both packets are those of the run, and the node's registers follow it
 pub transact_talks : (m now : Machine) (x : Transaction) (request response : Packet) → IsTrue (is_living_in m x.from) → IsTrue (is_linked_in m.devices x.to)
     → IsFalse (is_guarded_by m.candidates.begun x.access) → AccessFits x.access → IsRequest m.devices.nodes x request
-    → ((number : ℕ) → (node_at m.devices.nodes x.to).number ≡ Some number → response_of (space_of number m.cycle (node_at m.devices.nodes x.to)) request ≡ Some response)
+    → AnswersBy m.cycle (node_at m.devices.nodes x.to) request response
     → now ≡ record m { devices = answered_by m.devices x.to (request_in request) } → TakesTwoActions (Ask x) Answer m now m.cycle (Async request) (Async response)
 transact_talks m now x request response from to free fits r answer is = record { shown = shown_ }
   where
-    shown_ : (s : State) → IsGood s → StandsFor m s → (mid t : State) × Step s (Ask x) (at_most m.cycle (Some (Async request))) mid
-        × Step mid Answer (at_most m.cycle (Some (Async response))) t × StandsFor now t
+    shown_ : (s : State) → IsGood s → StandsFor m s → (mid t : State) × Transition s (Ask x) (at_most m.cycle (Some (Async request))) mid
+        × Transition mid Answer (at_most m.cycle (Some (Async response))) t × StandsFor now t
     shown_ s g st =
         let linked_to : IsTrue (is_linked s x.to) = sym (linked_same m.devices s x.to g st.devices) ∙ to in
         let lives : IsTrue (is_living s x.from) = sym (living_same m s x.from g st) ∙ from in
         let same = request_same m s x request g st linked_to (living_linked s x.from lives) r in
-        let number = (node_number_is m.devices.nodes s x.to st.devices.nodes g (linked_on s x.to linked_to)).0 in
-        let n = node_of s.account.latest x.to in
+        let place = on_number s x.to (linked_on s x.to linked_to) in
         let t : State = record s { transaction = None; bus_manager_id = bus_manager_id_after s x } in
-        let answers : response_of (space_of n s.clock.cycle (node_at m.devices.nodes x.to)) (asking_packet s x) ≡ Some response =
-        subst (λ q. response_of (space_of n s.clock.cycle (node_at m.devices.nodes x.to)) q ≡ Some response) same
-        (subst (λ c. response_of (space_of n c (node_at m.devices.nodes x.to)) request ≡ Some response) st.clock.cycle (answer n number)) in
-        let asked : request_in request ≡ Some (access_request x.access) = ap request_in same ∙ request_is (transaction_head s x) x.access in (
+        let asked : request_in request ≡ Some (access_request x.access) = ap request_in same ∙ asks_request (transaction_head s x) (access_request x.access) in (
           record s { transaction = Some x },
           t,
-          (st.answered, (lives, linked_to, fits, (λ i. at_most (st.clock.cycle i) (Some (Async (same i)))), refl, spared_of m.candidates.begun s.election x.access st.election.begun free)),
           record {
-            transaction = x;
+            found = tt;
+            waits = st.answered;
+            may = record { lives = lives; linked = linked_to; fits = fits; spared = spared_of m.candidates.begun s.election x.access st.election.begun free };
+            out_is = λ i. at_most (st.clock.cycle i) (Some (Async (same i)));
+            state_is = refl;
+          },
+          record {
+            found = record { transaction = x; response = response };
             waits = refl;
-            response = response;
-            answered = answers_same s m.devices.nodes x g st.devices.nodes linked_to response answers;
+            may = response_is m.devices.nodes s m.cycle x.to (target_node s x) (transaction_head s x) (access_request x.access) request response g st.devices.nodes
+                st.clock.cycle place same answer;
             out_is = ap (λ c. at_most c (Some (Async response))) st.clock.cycle;
             state_is = refl;
           },

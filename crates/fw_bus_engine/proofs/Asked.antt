@@ -1,34 +1,21 @@
--- What nodes keep after a transaction of the script: no register of the account changes, and BUS_MANAGER_ID as the run says.
-use Rattle.fw_bus_engine.proofs.Common.{◌≡◌, ◌≢◌, ℕ, ◌+◌, ◌*◌, ◌<◌, List, length, Bool, true, false, cond, ◌==◌, Option, Some, None, refl, ap, sym, subst, ◌∙◌, arith, IsTrue, IsFalse, ◌⊎◌, inl, inr}
-use Rattle.fw_bus_engine.proofs.Common.{slice_set, unwrap_or, cases_eq, nat_tests, get_or-set_other, get_or-set_same, length-set, Relay}
-use Rattle.fw_bus_engine.proofs.Common.{Head, Packet, Request, after_at, ResetEntry, node_of, request_in}
-use Rattle.fw_bus_engine.proofs.Common.{packet_of, response_of, NodeState, space_of, first_state, after_request, kind_at, node_at, State, number_in, device_in, is_linked, space_at, is_manager, IsGood}
-use Rattle.fw_bus_engine.proofs.Common.{IsLatest, NodeRow, IsNodeAt, HasNodes, on_within, linked_on}
+-- What devices keep after an access that spares the registers of the account: BUS_MANAGER_ID as the run says, and all else.
+use Rattle.fw_bus_engine.proofs.Common.{◌≡◌, ◌≢◌, ℕ, ◌+◌, ◌*◌, ◌<◌, Bool, true, false, cond, ◌==◌, Option, Some, None, refl, ap, sym, ◌∙◌, arith, IsFalse}
+use Rattle.fw_bus_engine.proofs.Common.{nat_tests, false≢true, Request, after_at, ResetEntry, kind_at, State, number_in, is_manager}
 use Rattle.std.proofs.Common.{true≢false}
-use Rattle.std.specs.Option.{option_map}
 use Rattle.fw_terms.proofs.KindLaws.{plugs_few}
 use Rattle.fw_csr.specs.Manager.{ManagerWords, words_after}
 use Rattle.fw_model_account.specs.Words.{first_address}
-use Rattle.fw_node.specs.Space.{space_after}
-use Rattle.fw_node.specs.Packets.{response_with}
-use Rattle.fw_node.specs.State.{HasSpace}
-use Rattle.fw_node.proofs.Spaces.{space_kept}
 use Rattle.fw_devices.specs.Entries.{is_number}
 use Rattle.fw_order.specs.declared.order.Access.{Access}
 use Rattle.fw_order.specs.declared.order.Access.TheVariants.{Read, Swap}
-use Rattle.fw_order.specs.declared.order.Transaction.{Transaction}
-use Rattle.fw_model_run.specs.Spaces.{manager_words, access_request, answer_packet, transaction_head, target_node, bus_manager_id_after}
+use Rattle.fw_model_run.specs.Spaces.{manager_words, access_request}
 use Rattle.fw_model_run.specs.Named.{is_guarded_at}
 use Rattle.fw_bus_state.specs.Orders.{is_guarded}
-use Rattle.fw_bus_state.proofs.Latest.{on_number, numbers_apart}
-use Rattle.fw_bus_state.proofs.Nodes.{space_as, node_as, node_has, node_seen, response_by_space}
-use Rattle.fw_bus_state.specs.Stands.{seen, space_seen}
+use Rattle.fw_bus_state.proofs.Hearing.{hear_same}
+use Rattle.fw_bus_state.proofs.Lingers.{unchanged_same}
+use Rattle.fw_bus_engine.proofs.Responder.{FollowsRequest}
 
 -- ---- registers that a request of the script leaves
-
-pub request_is : (h : Head) (a : Access) → request_in (packet_of h (access_request a)) ≡ Some (access_request a)
-request_is h (Read offset) = refl
-request_is h (Swap offset swap) = refl
 
 either_same : (b : Bool) (word : ℕ) → cond b word word ≡ word
 either_same true word = refl
@@ -50,23 +37,6 @@ output_guarded k lt = grind (arith, nat_tests)
 pub input_guarded : (k : ℕ) → k < 31 → is_guarded_at (0x984 + 4 * k) ≡ true
 input_guarded k lt = grind (arith, nat_tests)
 
--- ---- one node changes
-
--- the node of one device changes
-pub nodes_set : (nodes : List NodeState) (s t : State) (d : ℕ) (n : NodeState) → HasNodes nodes (seen s) → length t.declared.names ≡ length s.declared.names → d < length nodes
-    → IsNodeAt (number_in t.account.latest d) (seen t) d n
-    → ((c : ℕ) → c ≢ d → c < length nodes → IsNodeAt (number_in t.account.latest c) (seen t) c (node_at nodes c)) → HasNodes (slice_set nodes d n) (seen t)
-nodes_set nodes s t d n h names low here others = record { size = length-set nodes d n ∙ h.size ∙ sym names; each = λ c lt. go c (cases_eq c d) (let e = length-set nodes d n in omega arith) }
-  where
-    go : (c : ℕ) → (c ≡ d) ⊎ (c ≢ d) → c < length nodes → IsNodeAt (number_in t.account.latest c) (seen t) c (node_at (slice_set nodes d n) c)
-    go c (inl e) lt =
-        let P : ℕ → Type 0 = λ c. IsNodeAt (number_in t.account.latest c) (seen t) c (node_at (slice_set nodes d n) c) in
-        let Q : NodeState → Type 0 = IsNodeAt (number_in t.account.latest d) (seen t) d in
-        subst P (sym e) (subst Q (sym (get_or-set_same nodes d n (first_state Relay 0 0 false) low)) here)
-    go c (inr ne) lt =
-        let Q : NodeState → Type 0 = IsNodeAt (number_in t.account.latest c) (seen t) c in
-        subst Q (sym (get_or-set_other nodes d c n (first_state Relay 0 0 false) ne)) (others c ne lt)
-
 manager_one : (o : Option ResetEntry) (m n : ℕ) → is_manager o m ≡ true → is_manager o n ≡ true → m ≡ n
 manager_one None m n a b = grind arith
 manager_one (Some e) m n a b = go e.manager a b
@@ -75,87 +45,57 @@ manager_one (Some e) m n a b = go e.manager a b
     go None a b = grind arith
     go (Some k) a b = grind (arith, nat_tests)
 
--- the state after the transaction
-abbrev pub answered_state : State → Transaction → State
-answered_state s x = record s { transaction = None; bus_manager_id = bus_manager_id_after s x }
-
 -- the words of the manager, with this BUS_MANAGER_ID
 abbrev words_with : State → ℕ → ManagerWords
 words_with s id = record (manager_words s) { bus_manager_id = id }
 
-asked_here : (s : State) (x : Transaction) (n : NodeState) → IsFalse (is_guarded x.access) → HasSpace n (space_seen (seen s) x.to (node_of s.account.latest x.to))
-    → HasSpace (after_request (Some (access_request x.access)) n) (space_seen (seen (answered_state s x)) x.to (node_of s.account.latest x.to))
-asked_here s x n free h =
-    space_as (after_request (Some r) n) (space_after (space_seen (seen s) x.to number) r) (space_seen (seen (answered_state s x)) x.to number) (space_kept n (space_seen (seen s) x.to number) r h)
-    refl refl refl refl
-    (λ k lt. let few = (plugs_few (kind_at s.declared.kinds x.to)).0 in sym (kept x.access (0x904 + 4 * k) (0xFFFF_F000_0904 + 4 * k) _ free (output_guarded k (omega arith)) (omega arith)))
-    (λ k lt. let few = (plugs_few (kind_at s.declared.kinds x.to)).1 in sym (kept x.access (0x984 + 4 * k) (0xFFFF_F000_0984 + 4 * k) _ free (input_guarded k (omega arith)) (omega arith)))
-    (go (is_manager s.account.latest number))
+-- BUS_MANAGER_ID once node n has carried a request out: it follows the request if that node is the manager
+abbrev pub manager_id_after : State → ℕ → Request → ℕ
+manager_id_after s n r = cond (is_manager s.account.latest n) (after_at 0xFFFF_F000_021C r s.bus_manager_id) s.bus_manager_id
+
+-- what devices keep follows an unguarded access by BUS_MANAGER_ID alone
+pub unguarded_follows : (s : State) (d n : ℕ) (a : Access) → number_in s.account.latest d ≡ Some n → IsFalse (is_guarded a)
+    → FollowsRequest s (record s { bus_manager_id = manager_id_after s n (access_request a) }) d n (access_request a)
+unguarded_follows s d n a place free = record {
+  place = place;
+  declared = refl;
+  decks = refl;
+  latest = refl;
+  withheld = refl;
+  outputs = λ k lt. let few = (plugs_few (kind_at s.declared.kinds d)).0 in
+      sym (kept a (0x904 + 4 * k) (0xFFFF_F000_0904 + 4 * k) _ free (output_guarded k (omega arith)) (omega arith));
+  inputs = λ k lt. let few = (plugs_few (kind_at s.declared.kinds d)).1 in
+      sym (kept a (0x984 + 4 * k) (0xFFFF_F000_0984 + 4 * k) _ free (input_guarded k (omega arith)) (omega arith));
+  manager = λ own. own_words (is_manager s.account.latest n) own;
+  other_outputs = λ c k ne. refl;
+  other_inputs = λ c k ne. refl;
+  other_manager = λ k ne own. same_words k ne own (is_manager s.account.latest n) refl;
+  linger = unchanged_same s.account;
+  hear = hear_same s t refl (λ p. refl);
+}
   where
-    number : ℕ
-    number = node_of s.account.latest x.to
-
     r : Request
-    r = access_request x.access
+    r = access_request a
 
-    go : (b : Bool) → cond b (Some (words_with s (cond b (after_at 0xFFFF_F000_021C r s.bus_manager_id) s.bus_manager_id))) None
-        ≡ option_map (λ m. words_after m r) (cond b (Some (manager_words s)) None)
-    go true =
-        let bandwidth = sym (kept x.access 0x220 0xFFFF_F000_0220 (manager_words s).bandwidth_available free refl refl) in
-        let high = sym (kept x.access 0x224 0xFFFF_F000_0224 (manager_words s).channels_available_hi free refl refl) in
-        let low = sym (kept x.access 0x228 0xFFFF_F000_0228 (manager_words s).channels_available_lo free refl refl) in
-        λ i. Some (record {
+    t : State
+    t = record s { bus_manager_id = manager_id_after s n r }
+
+    own_words : (b : Bool) → b ≡ true → words_with s (cond b (after_at 0xFFFF_F000_021C r s.bus_manager_id) s.bus_manager_id) ≡ words_after (manager_words s) r
+    own_words false own = absurd (false≢true own)
+    own_words true own =
+        let bandwidth = sym (kept a 0x220 0xFFFF_F000_0220 (manager_words s).bandwidth_available free refl refl) in
+        let high = sym (kept a 0x224 0xFFFF_F000_0224 (manager_words s).channels_available_hi free refl refl) in
+        let low = sym (kept a 0x228 0xFFFF_F000_0228 (manager_words s).channels_available_lo free refl refl) in
+        λ i. record {
           bus_manager_id = after_at 0xFFFF_F000_021C r s.bus_manager_id;
           bandwidth_available = bandwidth i;
           channels_available_hi = high i;
           channels_available_lo = low i;
           withheld = s.account.withheld;
-        })
-    go false = refl
+        }
 
--- a node of another device keeps its registers, since it is not the manager if that one is
-asked_elsewhere : (s : State) (x : Transaction) (d : ℕ) (o : Option ℕ) (n : NodeState) → ((m : ℕ) → o ≡ Some m → m ≡ node_of s.account.latest x.to → ⊥) → IsNodeAt o (seen s) d n
-    → IsNodeAt o (seen (answered_state s x)) d n
-asked_elsewhere s x d o n apart is = node_as s (answered_state s x) d o n refl refl (λ k lt. refl) (λ k lt. refl)
-    (λ m e. go m e (is_manager s.account.latest m) (is_manager s.account.latest number) refl refl) is
-  where
-    number : ℕ
-    number = node_of s.account.latest x.to
-
-    go : (m : ℕ) → o ≡ Some m → (a b : Bool) → is_manager s.account.latest m ≡ a → is_manager s.account.latest number ≡ b
-        → cond a (Some (words_with s (cond b (after_at 0xFFFF_F000_021C (access_request x.access) s.bus_manager_id) s.bus_manager_id))) None ≡ cond a (Some (manager_words s)) None
-    go m at false b e f = refl
-    go m at true false e f = refl
-    go m at true true e f = absurd (apart m at (manager_one s.account.latest m number e f))
-
--- the node that was asked, and all others, after a request of the script
-pub transacted : (s : State) (nodes : List NodeState) (x : Transaction) → IsGood s → HasNodes nodes (seen s) → IsTrue (is_linked s x.to) → IsFalse (is_guarded x.access)
-    → HasNodes (slice_set nodes x.to (after_request (Some (access_request x.access)) (node_at nodes x.to))) (seen (record s { transaction = None; bus_manager_id = bus_manager_id_after s x }))
-transacted s nodes x g h linked free =
-    let on = linked_on s x.to linked in
-    let number : number_in s.account.latest x.to ≡ Some (node_of s.account.latest x.to) = on_number s x.to on in
-    let here = asked_here s x (node_at nodes x.to) free (node_seen nodes s x.to h g on) in
-    let Q : Option ℕ → Type 0 = λ o. IsNodeAt o (seen (answered_state s x)) x.to (after_request (Some (access_request x.access)) (node_at nodes x.to)) in
-    nodes_set nodes s (answered_state s x) x.to _ h refl (on_within nodes s x.to h g on) (subst Q (sym number) here)
-    (λ c ne lt. asked_elsewhere s x c (number_in s.account.latest c) (node_at nodes c) (λ m is same. ne (numbers_apart s c x.to m _ g is number same)) (h.each c lt))
-
--- the device of a node is found by its number
-pub device_of_number : (s : State) (d n : ℕ) → IsGood s → number_in s.account.latest d ≡ Some n → device_in s.account.latest n ≡ Some d
-device_of_number s d n g at = go s.account.latest g.latest at
-  where
-    go : (o : Option ResetEntry) → IsLatest o s.declared s.account → number_in o d ≡ Some n → device_in o n ≡ Some d
-    go None h at = absurd (let z : ⊥ = cc in z)
-    go (Some e) h at = ap (option_map (λ (r : NodeRow). r.device)) (h.1.numbers d n at)
-
--- the packet by which the node answers is that of the run
-pub answers_same : (s : State) (nodes : List NodeState) (x : Transaction) → IsGood s → HasNodes nodes (seen s) → IsTrue (is_linked s x.to) → (p : Packet)
-    → response_of (space_of (node_of s.account.latest x.to) s.clock.cycle (node_at nodes x.to)) (packet_of (transaction_head s x) (access_request x.access)) ≡ Some p
-    → answer_packet s (target_node s x) (transaction_head s x) (access_request x.access) ≡ Some p
-answers_same s nodes x g h linked p answer =
-    let n = node_of s.account.latest x.to in
-    let on = linked_on s x.to linked in
-    let q = packet_of (transaction_head s x) (access_request x.access) in
-    let device : device_in s.account.latest n ≡ Some x.to = device_of_number s x.to n g (on_number s x.to on) in
-    let same : response_of (space_at s x.to n) q ≡ Some p = sym (response_by_space (node_at nodes x.to) (space_at s x.to n) (node_has nodes s x.to h g on) q) ∙ answer in
-    ap (λ o. response_with (space_at s (unwrap_or o 0) n) q (Some (access_request x.access))) device
-    ∙ (ap (response_with (space_at s x.to n) q) (sym (request_is (transaction_head s x) x.access)) ∙ same)
+    -- there is one manager
+    same_words : (k : ℕ) → k ≢ n → is_manager s.account.latest k ≡ true → (b : Bool) → is_manager s.account.latest n ≡ b
+        → words_with s (cond b (after_at 0xFFFF_F000_021C r s.bus_manager_id) s.bus_manager_id) ≡ manager_words s
+    same_words k ne own true e = absurd (ne (manager_one s.account.latest k n own e))
+    same_words k ne own false e = refl

@@ -1,6 +1,24 @@
 -- What a bus reset of the machine leaves, against the state of the run after it.
 use Rattle.fw_bus_engine.proofs.Common.{◌≡◌, ℕ, ◌+◌, ◌<◌, ◌≤◌, List, Option, Some, None, refl, ap, sym, subst, ◌∙◌, arith, length, is_some, true, IsTrue, cond, nat_tests, at_plug, DeviceKind, Reset}
-use Rattle.fw_bus_engine.proofs.Common.{ResetEntry, Timed, Topology, Account, NodeState, kinds_of, is_node, MOST_RESETS, at_most, State, is_on, number_in, epoch_of, directory_of, Action, Step, Resets}
+use Rattle.fw_bus_engine.proofs.Common.{
+  ResetEntry,
+  Timed,
+  Topology,
+  Account,
+  NodeState,
+  kinds_of,
+  is_node,
+  MOST_RESETS,
+  at_most,
+  State,
+  is_on,
+  number_in,
+  epoch_of,
+  directory_of,
+  Action,
+  Transition,
+  Resets,
+}
 use Rattle.fw_bus_engine.proofs.Common.{IsGood, IsLatest, Machine, BeginsReset, HasLingering, StandsFor, HasNodes, HasDecks, HasStreams, IsTable, number_of_node, controller_at, HasHearers}
 use Rattle.std.proofs.Common.{nat_lt}
 use Rattle.fw_tree.specs.Cables.{here, IsOnBus}
@@ -52,7 +70,7 @@ pub record MayBegin (m : Machine) (good s : State) (i : ℕ) : Type 0 where
   pub around : IsBeside good
   pub dub : s.dub ≡ good.dub
   pub action : Action
-  pub begins : (out : List Timed) (t : State) → Resets s i out t → Step good action out t
+  pub begins : (out : List Timed) (t : State) → Resets s i out t → Transition good action out t
   pub extends : Extends good s
   pub stands : StandsFor m s
   pub declared : AreDeclared s.declared
@@ -164,7 +182,7 @@ streams_now m now good s i may b few =
     let step = may.begins (out s.clock.cycle) t (resets_now m now good s i may b few) in
     let begun : IsBusReset good may.action t = record {
       entry = now.devices.latest;
-      step = subst (λ c. Step good may.action (out c) t) may.extends.cycle step;
+      step = subst (λ c. Transition good may.action (out c) t) may.extends.cycle step;
     } in
     let same : (d : ℕ) → t.streams (at_plug d 0) ≡ s.streams (at_plug d 0) =
     λ d. resets_keep good may.action t may.is_good begun (at_plug d 0) ∙ sym (ap (λ f. f (at_plug d 0)) may.extends.streams) in

@@ -1,17 +1,15 @@
 -- The request of a candidate that stands: its bytes on the wire, the nodes that it goes between, and the answer.
-use Rattle.fw_bus_engine.proofs.Common.{◌≡◌, ℕ, ◌%◌, ◌<◌, ◌&&◌, ◌==◌, cond, length, Bool, true, false, Option, Some, None, is_some, refl, ap, sym, subst, ◌∙◌, arith, IsTrue, none-some, Fits, spelling}
-use Rattle.fw_bus_engine.proofs.Common.{bytes_from, Packet, has_link, Reply, node_device, is_node, node_at, Request, ResetEntry, NodeRow, CandidateState, is_asked, packet_of, reply_in, response_of}
-use Rattle.fw_bus_engine.proofs.Common.{space_of, MOST_HALF_STEPS, bid_head, Election, IsGood, IsLatest, State, manager_in, Machine, HasElection, CandidateTable, candidates_of, IsReady}
-use Rattle.fw_bus_engine.proofs.Common.{linked_same, living_there, linked_on, on_within, few_nodes}
+use Rattle.fw_bus_engine.proofs.Common.{◌≡◌, ℕ, ◌<◌, ◌&&◌, ◌==◌, cond, Bool, true, false, Option, Some, None, is_some, refl, ap, sym, subst, ◌∙◌, arith, IsTrue, none-some, Fits, spelling}
+use Rattle.fw_bus_engine.proofs.Common.{bytes_from, Packet, Reply, is_node, node_at, Request, ResetEntry, NodeRow, CandidateState, is_asked, packet_of, reply_in}
+use Rattle.fw_bus_engine.proofs.Common.{MOST_HALF_STEPS, bid_head, Election, IsGood, IsLatest, State, manager_in, Machine, HasElection, CandidateTable, candidates_of, IsReady}
+use Rattle.fw_bus_engine.proofs.Common.{living_there, few_nodes, List, Pairs, request_in, is_node_same, Network, without}
 use Rattle.std.specs.Option.{option_map}
 use Rattle.fw_devices.specs.Entries.{device_of}
-use Rattle.fw_devices.proofs.NetworkLaws.{kind_of_node}
 use Rattle.fw_manager.specs.Bids.{stage_in, is_standing_in, bid_request, bid_of, next, after_next}
 use Rattle.fw_manager.specs.declared.bid.Bid.{Bid}
 use Rattle.fw_manager.specs.declared.bid.Bid.TheVariants.{Send, Elected, Defeated, Done}
-use Rattle.fw_manager.specs.declared.candidate.Stage.{Stage}
-use Rattle.fw_manager.specs.declared.candidate.Stage.TheVariants.{Fresh, Asked, Heard, Answered}
-use Rattle.fw_node.specs.Contents.{node_id}
+use Rattle.fw_manager.specs.declared.candidate.BidProgress.{BidProgress}
+use Rattle.fw_manager.specs.declared.candidate.BidProgress.TheVariants.{Fresh, Asked, Heard, Answered}
 use Rattle.fw_node.specs.Packets.{old_bytes, old_value}
 use Rattle.fw_model_run.specs.Bidding.{bid_answer_packet, epoch_at, is_candidate}
 use Rattle.fw_model_run.specs.Elections.{with_candidate}
@@ -19,45 +17,32 @@ use Rattle.fw_model_run.proofs.Bidding.{asked_fits}
 use Rattle.fw_model_run.proofs.Candidates.{candidate_manager}
 use Rattle.fw_model_run.proofs.Grows.{Number}
 use Rattle.fw_model_run.proofs.Contending.{bid_reply}
-use Rattle.fw_model_run.proofs.Words.{device_of_number}
-use Rattle.fw_bus_state.specs.Bids.{bid_from, packet_of_bid}
+use Rattle.fw_bus_state.specs.Bids.{candidate_asks, packet_of_bid}
+use Rattle.fw_bus_state.proofs.Wires.{stands_at}
 use Rattle.fw_bus_state.specs.Candidates.{candidate_in}
 use Rattle.fw_bus_engine.specs.Contending.{Contender, BidStands}
-use Rattle.fw_bus_engine.specs.Exchanging.{IsOutstanding}
+use Rattle.fw_bus_engine.specs.Exchanging.{IsCarriedOut, IsOutstanding}
 use Rattle.fw_bus_state.specs.Stands.{manager_device}
 use Rattle.fw_bus_engine.proofs.Bidding.{Nexts, answers_bid, bidder_lives, known, manager_number, one_stands, own_place, own_same, seat, to_same}
-use Rattle.fw_bus_engine.proofs.Exchanges.{asks_request}
-use Rattle.fw_bus_engine.proofs.FrameTurns.{device_there}
-use Rattle.fw_bus_state.proofs.Latest.{number_low}
+use Rattle.fw_bus_engine.proofs.Responder.{Response, Stands, answered_by, outstanding, response_written}
 use Rattle.fw_bus_state.proofs.Besides.{candidate_same}
 
 -- ---- the nodes
 
-front : (a b : Bool) → (a && b) ≡ true → a ≡ true
-front a b e = grind (arith, e)
+prefix : (a b : Bool) → (a && b) ≡ true → a ≡ true
+prefix a b e = grind (arith, e)
 
 back : (a b : Bool) → (a && b) ≡ true → b ≡ true
 back a b e = grind (arith, e)
 
 -- the candidate's device is a node
 pub own_there : (m : Machine) (d manager : ℕ) → IsReady m → Contender m d manager → IsTrue (is_node m.devices.nodes d)
-own_there m d manager r k = front _ _ (front _ _ (bidder_lives m r.state d manager r.good r.stands k))
+own_there m d manager r k = prefix _ _ (prefix _ _ (bidder_lives m r.state d manager r.good r.stands k))
 
--- and so is the manager, which has a link
+-- and so is the manager
 pub manager_there : (m : Machine) (d manager : ℕ) → IsReady m → Contender m d manager → IsTrue (is_node m.devices.nodes manager)
 manager_there m d manager r k =
-    let x = seat m r.state manager r.good r.stands k.manages in
-    front _ _ (linked_same m.devices r.state manager r.good r.stands.devices ∙ x.linked)
-
-pub manager_linked : (m : Machine) (d manager : ℕ) → IsReady m → Contender m d manager → IsTrue (has_link (node_at m.devices.nodes manager).kind)
-manager_linked m d manager r k =
-    let x = seat m r.state manager r.good r.stands k.manages in
-    sym (ap has_link (kind_of_node m.devices.nodes manager)) ∙ back _ _ (linked_same m.devices r.state manager r.good r.stands.devices ∙ x.linked)
-
-pub manager_within : (m : Machine) (d manager : ℕ) → IsReady m → Contender m d manager → manager < length m.devices.nodes
-manager_within m d manager r k =
-    let x = seat m r.state manager r.good r.stands k.manages in
-    on_within m.devices.nodes r.state manager r.stands.devices.nodes r.good (linked_on r.state manager x.linked)
+    is_node_same m.devices.nodes r.state r.stands.devices.nodes r.good manager ∙ ap is_some (seat m r.state manager r.good r.stands k.manages).place
 
 -- the device is declared
 pub bidder_within : (m : Machine) (d manager : ℕ) → IsReady m → Contender m d manager → d < candidates_of m.candidates
@@ -112,7 +97,7 @@ standing_is m d manager epoch b r k same tells =
     let z = known m r.state d manager r.good r.stands k in
     tells r.state.election k.candidate z.here z.at ∙ ap (λ n. is_standing_in n k.candidate) same
 
--- a request that stands was asked
+-- an outstanding request was asked
 pub standing_asked : (epoch : ℕ) (c : CandidateState) → is_standing_in epoch c ≡ true → is_asked c.stage ≡ true
 standing_asked epoch c = go (c.epoch == epoch)
   where
@@ -121,7 +106,7 @@ standing_asked epoch c = go (c.epoch == epoch)
     go false e = absurd (let wrong : false ≡ true = e in cc wrong)
 
 -- if the candidate sends, it sends its bid to the manager
-pub sends_only : (own to goes : ℕ) (q : Request) (stage : Stage) → Send goes q ≡ bid_of own to stage → (goes ≡ to) × (q ≡ bid_request own)
+pub sends_only : (own to goes : ℕ) (q : Request) (stage : BidProgress) → Send goes q ≡ bid_of own to stage → (goes ≡ to) × (q ≡ bid_request own)
 sends_only own to goes q Fresh e = (cc e, cc e)
 sends_only own to goes q Asked e = absurd (let wrong : Send goes q ≡ Done = e in cc wrong)
 sends_only own to goes q (Heard word) e = go (word == 0x3F) e
@@ -177,9 +162,9 @@ wire_has m d manager own to r b own_is to_is =
     let own_ = own_same m s d manager own r.good st k own_is in
     let to_ = to_same m s manager to r.good st z.seat to_is in
     let on : is_standing_in (epoch_at s) k.candidate ≡ true = subst (λ n. is_standing_in n k.candidate ≡ true) z.epoch b.stands in
-    st.bids.each own ∙ (ap (λ o. option_map spelling (bid_from s.account.latest s.election o)) (device_of_number s d own r.good place)
+    stands_at m.bids s (candidate_asks s.account.latest s.election) d own r.good place st.bids
     ∙ (ap (λ o. option_map spelling (packet_of_bid s.account.latest d o)) z.at ∙ (ap (option_map spelling) (one_stands s.account.latest d z.seat.number k.candidate on z.seat.manages)
-    ∙ (λ i. Some (spelling (bid_packet (own_ i) (sym to_ i)))))))
+    ∙ (λ i. Some (spelling (bid_packet (own_ i) (sym to_ i))))))
 
 -- so it stands there, to the manager
 pub bid_outstanding : (m : Machine) (d manager own : ℕ) → (r : IsReady m) → (b : BidStands m d manager) → (node_at m.devices.nodes d).number ≡ Some own
@@ -188,17 +173,14 @@ bid_outstanding m d manager own r b own_is =
     let s = r.state in
     let x = seat m s manager r.good r.stands b.contender.manages in
     let to_is = manager_number m s manager r.good r.stands x in
-    let low = number_low s manager x.number r.good x.place in
-    let same : node_id x.number % 64 ≡ x.number = omega (arith, low) in
-    record {
-      stands = wire_has m d manager own x.number r b own_is to_is;
+    let stands : Stands s m.bids own manager x.number (bid_head x.number own) (bid_request own) = record {
+      bytes = wire_has m d manager own x.number r b own_is to_is;
       fits = packet_fits m d manager own x.number r b.contender own_is to_is;
-      asks = ap is_some (asks_request (bid_head x.number own) (bid_request own));
-      goes = ap (node_device m.devices.latest.nodes) same ∙ device_there m s x.number manager r.stands (device_of_number s manager x.number r.good x.place);
-      declared = manager_within m d manager r b.contender;
-      number = ap is_some to_is;
-      link = manager_linked m d manager r b.contender;
-    }
+      destination = refl;
+      place = x.place;
+      link = x.link;
+    } in
+    outstanding m s m.bids own manager x.number (bid_head x.number own) (bid_request own) r.good r.stands stands
 
 -- ---- the answer
 
@@ -217,9 +199,32 @@ bid_complete : (s : State) (d manager : ℕ) (response : Packet) (r : Reply) →
 bid_complete s d manager response r g manages answers carries =
     sym (ap rcode_of carries) ∙ (ap rcode_in (sym answers) ∙ ap (λ (z : Reply). rcode_of (old_value z.rcode (old_bytes z))) (bid_reply s d manager g manages))
 
-pub served_complete : (m : Machine) (d manager own to : ℕ) (response : Packet) (reply : Reply) → IsReady m → (k : Contender m d manager) → (node_at m.devices.nodes d).number ≡ Some own
-    → (node_at m.devices.nodes manager).number ≡ Some to → response_of (space_of to m.cycle (node_at m.devices.nodes manager)) (bid_packet own to) ≡ Some response → reply_in response ≡ Some reply
-    → reply.rcode ≡ 0
-served_complete m d manager own to response reply r k own_is to_is answers carries =
-    let x = seat m r.state manager r.good r.stands k.manages in
-    bid_complete r.state d x.number response reply r.good x.manages (answers_bid m r.state d manager own to response r.good r.stands x k own_is to_is answers) carries
+-- the response of the manager's node
+pub record BidServed (m : Machine) (d manager own : ℕ) (n : Network) (wire : Pairs) (bytes : List ℕ) (reply : Reply) : Type 0 where
+  pub to : ℕ
+  pub to_is : (node_at m.devices.nodes manager).number ≡ Some to
+  pub response : Response m.cycle (node_at m.devices.nodes manager) (bid_packet own to) bytes reply
+  pub complete : reply.rcode ≡ 0
+  pub registers : n ≡ answered_by m.devices manager (request_in (bid_packet own to))
+  pub rest : wire ≡ without own m.bids
+
+pub bid_served : (m : Machine) (d manager own : ℕ) (n : Network) (wire : Pairs) (bytes : List ℕ) (result : ℕ × Reply) → IsReady m → (b : BidStands m d manager)
+    → (node_at m.devices.nodes d).number ≡ Some own
+    → ((device : ℕ) (p : Packet) → IsOutstanding m.devices m.bids own device p → IsCarriedOut m.devices n m.bids wire m.cycle own device p bytes result)
+    → BidServed m d manager own n wire bytes result.1
+bid_served m d manager own n wire bytes result r b own_is serves =
+    let s = r.state in
+    let k = b.contender in
+    let x = seat m s manager r.good r.stands k.manages in
+    let to_is = manager_number m s manager r.good r.stands x in
+    let served = serves manager (bid_packet own x.number) (bid_outstanding m d manager own r b own_is) in
+    let found = response_written m.cycle x.number _ _ bytes result.1 to_is served.response in
+    let answer = answers_bid m s d manager own x.number found.response r.good r.stands x k own_is to_is found.answers in
+    record {
+      to = x.number;
+      to_is = to_is;
+      response = found;
+      complete = bid_complete s d x.number found.response result.1 r.good x.manages answer found.carries;
+      registers = served.registers;
+      rest = served.rest;
+    }

@@ -2,8 +2,8 @@
 use Rattle.fw_bus_engine.proofs.Common.{◌≡◌, ◌≢◌, ◌⊎◌, inl, inr, ℕ, zero, suc, ◌+◌, ◌-◌, ◌<◌, ◌≤◌, List, [], ◌∷◌}
 use Rattle.fw_bus_engine.proofs.Common.{length, Bool, true, false, cond, Option, refl, ap, sym, subst, ◌∙◌, arith, IsTrue, IsFalse}
 use Rattle.fw_bus_engine.proofs.Common.{Ok, cases_eq, nat_tests, update, Timed, IsAtRest, MOST_HALF_STEPS, State, is_deaf}
-use Rattle.fw_bus_engine.proofs.Common.{is_living, numbers_to, half, after_half, Action, Steps, half_steps_of, IsGood}
-use Rattle.fw_bus_engine.proofs.Common.{Machine, Task, Performed, between, IsReady, is_living_in, living_in, states_of, quiet_here, state_same}
+use Rattle.fw_bus_engine.proofs.Common.{is_living, numbers_to, half, after_half, Action, Transitions, half_steps_of, IsGood}
+use Rattle.fw_bus_engine.proofs.Common.{Machine, Execution, Performed, between, IsReady, is_living_in, living_in, states_of, quiet_here, state_same}
 use Rattle.std.proofs.lemmas.Bool.{cases_lt}
 use Rattle.fw_model_run.specs.State.{living}
 use Rattle.fw_model_run.specs.HalfSteps.{is_busy_at}
@@ -16,7 +16,7 @@ use Rattle.fw_bus_state.proofs.Heard.{lost_same}
 use Rattle.fw_model_run.proofs.Taking.{Taken, listens, keeps_deaf, forces_reset, taken_as}
 use Rattle.fw_bus_state.proofs.Idles.{not_busy}
 use Rattle.fw_bus_engine.proofs.Rounding.{round_skips, round_then, round_all}
-use Rattle.fw_bus_state.proofs.Numbers.{count_more, count_front}
+use Rattle.fw_bus_state.proofs.Numbers.{count_more, count_prefix}
 use Rattle.fw_bus_engine.proofs.StepTurns.{idle_turns}
 
 -- ---- half steps leave a controller at rest that has nothing to do
@@ -41,12 +41,12 @@ calm_taken s d e out t g none (listens quiet said is) rests = subst (λ (z : Sta
 calm_taken s d e out t g none (keeps_deaf deaf said is) rests = let clash : false ≡ true = sym (none d) ∙ deaf in absurd (grind (arith, clash))
 calm_taken s d e out t g none (forces_reset deaf r) rests = let clash : false ≡ true = sym (none d) ∙ deaf in absurd (grind (arith, clash))
 
-calm_halves : (ds : List ℕ) (s : State) (out : List Timed) (t : State) (e : ℕ) → IsGood s → NoneDeaf s → Steps s (half_steps_of ds) out t
+calm_halves : (ds : List ℕ) (s : State) (out : List Timed) (t : State) (e : ℕ) → IsGood s → NoneDeaf s → Transitions s (half_steps_of ds) out t
     → IsAtRest (s.controllers e) → IsAtRest (t.controllers e) × NoneDeaf t
 calm_halves [] s out t e g none f rests = subst (λ (z : State). IsAtRest (z.controllers e) × NoneDeaf z) (sym f.1) (rests, none)
 calm_halves (d ∷ ds) s out t e g none f rests =
     let a = half_leaves s d f.0 f.2 g f.3 in
-    let c = calm_taken s d e f.0 f.2 g none (taken_as s d f.0 f.2 f.3.1.2) rests in
+    let c = calm_taken s d e f.0 f.2 g none (taken_as s d f.0 f.2 f.3) rests in
     calm_halves ds f.2 f.1 t e a.good c.1 f.5 c.0
 
 -- Of the controllers from `from` on and before `end`, each that lives has nothing to do.
@@ -66,8 +66,8 @@ abbrev pub NoneDeafIn : Machine → Type 0
 NoneDeafIn m = (d : ℕ) → IsFalse (states_of m.controllers d).lost
 
 -- what is done is half steps
-calm_kept : {T E : Type 0} {P : Task} {m now : Machine} {a b : Option (List ℕ)} {k l : ℕ} {u : T} (d : ℕ)
-    → ((s t : State) (xs : List Action) (out : List Timed) → P s xs out t → (ds : List ℕ) × Steps s (half_steps_of ds) out t) → IsReady m → NoneDeafIn m
+calm_kept : {T E : Type 0} {P : Execution} {m now : Machine} {a b : Option (List ℕ)} {k l : ℕ} {u : T} (d : ℕ)
+    → ((s t : State) (xs : List Action) (out : List Timed) → P s xs out t → (ds : List ℕ) × Transitions s (half_steps_of ds) out t) → IsReady m → NoneDeafIn m
     → Performed {T = T} {E = E} P m now (between a b k l) (Ok u) → IsAtRest (states_of m.controllers d).state → IsAtRest (states_of now.controllers d).state
 calm_kept {m = m} {now} d halves r none f rests =
     let s = r.state in
@@ -128,8 +128,8 @@ rests_to {T} {E} zero i m now {a} {b} {c} {l} {u} lives rests count few f =
 rests_to {T} {E} (suc k) i m now {a} {b} {c} {l} {u} lives rests count few f =
     let one : i + suc k ≡ i + k + 1 = omega arith in
     let most : m.half_steps + length (numbers_to (i + k + 1) (is_living_in m)) ≤ MOST_HALF_STEPS = subst (λ n. m.half_steps + length (numbers_to n (is_living_in m)) ≤ MOST_HALF_STEPS) one few in
-    let front = count_front (i + k) (i + k + 1) (is_living_in m) (omega arith) in
-    let before = rests_to k i m now lives (λ d low lt. rests d low (omega (arith, lt))) count (omega (arith, most, front)) f in
+    let prefix = count_prefix (i + k) (i + k + 1) (is_living_in m) (omega arith) in
+    let before = rests_to k i m now lives (λ d low lt. rests d low (omega (arith, lt))) count (omega (arith, most, prefix)) f in
     subst (λ n. Counted T E n m now a b c l u) (sym one) (rests_more {T = T} {E = E} (i + k) m now lives (rests (i + k) (omega arith) (omega arith)) most before)
 
 -- those from `end` on have nothing to do

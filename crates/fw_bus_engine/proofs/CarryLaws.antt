@@ -1,6 +1,6 @@
 -- Orders, by the actions that carry them out, with what a desk gives.
 use Rattle.fw_bus_engine.proofs.Common.{◌≡◌, ℕ, List, Option, Some, refl, ap, sym, subst, Ok, Err}
-use Rattle.fw_bus_engine.proofs.Common.{Result, Timed, at_most, State, entered, Action, Steps, Carries, DeskRelations, PerformedWithDesk, Machine}
+use Rattle.fw_bus_engine.proofs.Common.{Result, Timed, at_most, State, entered, Action, Transitions, Carries, DeskRelations, PerformedWithDesk, Machine}
 use Rattle.fw_bus_engine.proofs.Common.{between, Performs, Performed, TakesAction}
 use Rattle.fw_log_entry.specs.declared.entry.Entry.TheVariants.{End as EndEntry}
 use Rattle.fw_order.specs.declared.order.Order.{Order}
@@ -11,10 +11,10 @@ use Rattle.fw_bus_engine.specs.Framing.{CarriesWithDesk}
 use Rattle.fw_bus_engine.proofs.Doings.{does_as}
 
 -- if all that was to be done is what the desk gives, so is what was done
-pub given_front : {T E : Type 0} {D : DeskRelations} {m now : Machine} {a b : Option (List ℕ)} {k l : ℕ} {r : Result T E} (o : Order)
+pub given_prefix : {T E : Type 0} {D : DeskRelations} {m now : Machine} {a b : Option (List ℕ)} {k l : ℕ} {r : Result T E} (o : Order)
     → Performed (CarriesWithDesk D o) m now (between a b k l) r → PerformedWithDesk D (λ s. Carries s o) m now (between a b k l) r
-given_front {r = Ok u} o d = record { faults = d.faults; shown = λ s g st. d.shown s g st }
-given_front {D = D} {r = Err u} o d = record {
+given_prefix {r = Ok u} o d = record { faults = d.faults; shown = λ s g st. d.shown s g st }
+given_prefix {D = D} {r = Err u} o d = record {
   faults = d.faults;
   shown = λ s g st. let x = d.shown s g st in (
     record {
@@ -28,7 +28,7 @@ given_front {D = D} {r = Err u} o d = record {
       next = x.next;
       state = x.state;
       steps = x.steps;
-      front = x.front;
+      prefix = x.prefix;
       rest = x.rest;
       parts = x.parts;
       appended = x.appended;
@@ -41,14 +41,20 @@ given_front {D = D} {r = Err u} o d = record {
 pub by_desk : {T E : Type 0} {D : DeskRelations} {m now : Machine} {a b : Option (List ℕ)} {k l : ℕ} {r : Result T E} {order o : Order}
     → order ≡ o → AsksNoDesk o → Performed (λ s. Carries s o) m now (between a b k l) r → PerformedWithDesk D (λ s. Carries s order) m now (between a b k l) r
 by_desk {D = D} {m} {now} {a} {b} {k} {l} {r} {o = o} is free d =
-    subst (λ x. PerformedWithDesk D (λ s. Carries s x) m now (between a b k l) r) (sym is) (given_front o (does_as (λ s t ys out p. (p, carries_given D s o ys out t free p)) d))
+    subst (λ x. PerformedWithDesk D (λ s. Carries s x) m now (between a b k l) r) (sym is) (given_prefix o (does_as (λ s t ys out p. (p, carries_given D s o ys out t free p)) d))
 
 -- one that is carried out by these actions
 pub carried : {T E : Type 0} {D : DeskRelations} {m now : Machine} {a b : Option (List ℕ)} {k l : ℕ} {r : Result T E} {order o : Order} (xs : List Action)
-    → order ≡ o → AsksNoDesk o → ((s t : State) (out : List Timed) → Steps s xs out t → Carries s o xs out t) → Performed (Performs xs) m now (between a b k l) r
+    → order ≡ o → AsksNoDesk o → ((s t : State) (out : List Timed) → Transitions s xs out t → Carries s o xs out t) → Performed (Performs xs) m now (between a b k l) r
     → PerformedWithDesk D (λ s. Carries s order) m now (between a b k l) r
 carried {o = o} xs is free by d = by_desk is free (does_as (λ s t ys out p. subst (λ z. Carries s o z out t) (sym p.0) (by s t out p.1)) d)
 
 -- the end of the log
 pub finish_turns : (m : Machine) → TakesAction Finish m m m.cycle (Some EndEntry)
-finish_turns m = record { shown = λ s g st. (record s { account = entered s.account EndEntry }, (st.answered, (ap (λ c. at_most c (Some EndEntry)) st.clock.cycle, refl)), st) }
+finish_turns m = record {
+  shown = λ s g st. (
+    record s { account = entered s.account EndEntry },
+    record { found = tt; waits = st.answered; may = tt; out_is = ap (λ c. at_most c (Some EndEntry)) st.clock.cycle; state_is = refl },
+    st,
+  );
+}

@@ -2,8 +2,8 @@
 use Rattle.fw_bus_engine.proofs.Common.{◌≡◌, ◌≢◌, ℕ, ◌<◌, ◌≤◌, zero, suc, List, [], ◌∷◌, ◌++◌, length, slice_set, is_some}
 use Rattle.fw_bus_engine.proofs.Common.{Bool, true, false, ◌==◌, Option, Some, None, refl, ap, sym, subst, ◌∙◌, arith}
 use Rattle.fw_bus_engine.proofs.Common.{IsTrue, IsErr, Result, get_or-set_same, length-set, same_Some, Fits, Packet}
-use Rattle.fw_bus_engine.proofs.Common.{Async, node_of, packet_of, request_in, response_of, Relay, NodeState, after_request}
-use Rattle.fw_bus_engine.proofs.Common.{first_state, space_of, Network, node_at, Action, Receive, Step, Steps, DeckState, DeskRelations, at_most, IsGood, State, is_linked, is_living, steps_good}
+use Rattle.fw_bus_engine.proofs.Common.{Async, node_of, packet_of, request_in, Relay, NodeState, after_request}
+use Rattle.fw_bus_engine.proofs.Common.{first_state, Network, node_at, Action, Receive, Transition, Transitions, DeckState, DeskRelations, at_most, IsGood, State, is_linked, is_living, steps_good}
 use Rattle.fw_bus_engine.proofs.Common.{living_linked, update_others, Machine, Performed, between, HasDecks, StandsFor, is_linked_in, is_living_in, linked_same, living_same, node_number_is, linked_on}
 use Rattle.fw_bus_engine.proofs.Common.{on_within}
 use Rattle.fw_node.specs.Fcp.{HasFollowed}
@@ -25,9 +25,10 @@ use Rattle.fw_model_run.proofs.Units.{request_kept}
 use Rattle.fw_bus_engine.specs.Framing.{CarriesWithDesk, Commands, IsWrite}
 use Rattle.fw_bus_state.proofs.DeckNodes.{decks_set}
 use Rattle.fw_bus_engine.proofs.Doings.{Follows, GoesOn, does_as, does_cut}
-use Rattle.fw_bus_engine.proofs.Exchanges.{asks_request}
+use Rattle.fw_bus_engine.proofs.Responder.{AnswersBy, asks_request, response_is}
+use Rattle.fw_bus_state.proofs.Latest.{on_number}
 use Rattle.fw_bus_engine.proofs.ExchangeTurns.{Exchanged, Exchanges}
-use Rattle.fw_bus_engine.proofs.FrameNodes.{KeepsRegisters, with_node, with_decks, deck_stands, answers_request, written_stands}
+use Rattle.fw_bus_engine.proofs.FrameNodes.{KeepsRegisters, with_node, with_decks, deck_stands, written_stands}
 use Rattle.fw_bus_engine.proofs.Sending.{all_steps}
 
 -- ---- the write of a command
@@ -36,7 +37,7 @@ use Rattle.fw_bus_engine.proofs.Sending.{all_steps}
 pub record Commanding (D : DeskRelations) (m : Machine) (a b : ℕ) (bytes : List ℕ) (packet response : Packet) (n : NodeState) : Type 0 where
   pub write : IsWrite m.devices.nodes a b 0xFFFF_F000_0B00 bytes packet
   pub fits : Fits packet
-  pub answers : (number : ℕ) → (node_at m.devices.nodes b).number ≡ Some number → response_of (space_of number m.cycle (node_at m.devices.nodes b)) packet ≡ Some response
+  pub answers : AnswersBy m.cycle (node_at m.devices.nodes b) packet response
   pub followed : HasFollowed D.vendor (requester packet) (request_in packet) (after_request (request_in packet) (node_at m.devices.nodes b)) n
 
 -- the actions of it
@@ -83,8 +84,8 @@ command_talks D m devices a b bytes packet response n from to x is = record { sh
     w : FrameWrite
     w = command_write a b bytes
 
-    shown_ : (s : State) → IsGood s → StandsFor m s → (p q : Action) × IsCommanded D a b bytes s p q × (mid t : State) × Step s p (at_most m.cycle (Some (Async packet))) mid
-        × Step mid q (at_most m.cycle (Some (Async response))) t × StandsFor (record m { devices = devices }) t
+    shown_ : (s : State) → IsGood s → StandsFor m s → (p q : Action) × IsCommanded D a b bytes s p q × (mid t : State) × Transition s p (at_most m.cycle (Some (Async packet))) mid
+        × Transition mid q (at_most m.cycle (Some (Async response))) t × StandsFor (record m { devices = devices }) t
     shown_ s g st =
         let linked : IsTrue (is_linked s b) = sym (linked_same m.devices s b g st.devices) ∙ to in
         let lives : IsTrue (is_living s a) = sym (living_same m s a g st) ∙ from in
@@ -93,7 +94,6 @@ command_talks D m devices a b bytes packet response n from to x is = record { sh
         let low = on_within m.devices.nodes s b st.devices.nodes g on in
         let same = packet_is_run m s a b bytes packet g st sender linked x.write in
         let own = node_number_is m.devices.nodes s a st.devices.nodes g (linked_on s a sender) in
-        let number = (node_number_is m.devices.nodes s b st.devices.nodes g on).0 in
         let asked : request_in packet ≡ Some (request_of w) = ap request_in same ∙ asks_request (frame_head s w) (request_of w) in
         let source : requester packet ≡ node_of s.account.latest a = ap requester same ∙ requester_is s a b bytes own.1 in
         let mid : State = record s { frame = Some w } in
@@ -113,29 +113,27 @@ command_talks D m devices a b bytes packet response n from to x is = record { sh
         let decks : HasDecks (slice_set m1.devices.nodes b n) t.declared.kinds t.decks = decks_set m1.devices.nodes s t b n low1 st1.devices.decks y.deck
         (λ c ne z. subst (HasDeck (node_at m1.devices.nodes c) (has_deck s c)) (sym (after_others mid w y.obeyed c ne)) z) (λ c ne. after_others mid w y.obeyed c ne) in
         let stands : StandsFor (with_node m1 b n) t = deck_stands m1 s f b n st1 low1 keeps (λ off. let none : false ≡ true = sym (ap is_some off) ∙ on in let bad : ⊥ = cc none in absurd bad) decks in
-        let answer = answers_request s m.devices.nodes b (frame_head s w) (request_of w) g st.devices.nodes on response
-        (subst (λ p. response_of (space_of (node_of s.account.latest b) s.clock.cycle (node_at m.devices.nodes b)) p ≡ Some response) same
-        (subst (λ c. response_of (space_of (node_of s.account.latest b) c (node_at m.devices.nodes b)) packet ≡ Some response) st.clock.cycle (x.answers (node_of s.account.latest b) number))) in (
+        let answer = response_is m.devices.nodes s m.cycle b (node_of s.account.latest b) (frame_head s w) (request_of w) packet response g st.devices.nodes st.clock.cycle
+        (on_number s b on) same x.answers in (
           SendCommand a b bytes,
           Receive y.obeyed,
           (refl, (y.obeyed, refl, y.given)),
           mid,
           t,
-          (st.answered, (lives, linked, fits_write s w (subst Fits same x.fits), (λ i. at_most (st.clock.cycle i) (Some (Async (same i)))), refl)),
-          (
-            st.answered,
-            record {
-              write = w;
-              waits = refl;
-              from = sender;
-              to = linked;
-              followed = y.followed;
-              response = response;
-              answered = answer;
-              out_is = ap (λ c. at_most c (Some (Async response))) st.clock.cycle;
-              state_is = refl;
-            },
-          ),
+          record {
+            found = tt;
+            waits = st.answered;
+            may = record { lives = lives; linked = linked; fits = fits_write s w (subst Fits same x.fits) };
+            out_is = λ i. at_most (st.clock.cycle i) (Some (Async (same i)));
+            state_is = refl;
+          },
+          record {
+            found = record { write = w; response = response };
+            waits = st.answered;
+            may = record { waits = refl; from = sender; to = linked; followed = y.followed; answered = answer };
+            out_is = ap (λ c. at_most c (Some (Async response))) st.clock.cycle;
+            state_is = refl;
+          },
           subst (λ (z : Network). StandsFor (record m { devices = z }) t) (sym is)
               (subst (λ (ns : List NodeState). StandsFor (record m { devices = record m.devices { nodes = ns } }) t) (set_twice m.devices.nodes b before n) stands),
         )
@@ -144,7 +142,7 @@ pub does_commands : {T E : Type 0} (D : DeskRelations) (a b : ℕ) (bytes : List
     → Performed (Exchanged (IsCommanded D a b bytes)) m now (between c d k l) r → Performed (Commands D a b bytes) m now (between c d k l) r
 does_commands D a b bytes d = does_as (λ s t ys out p.
     let same : p.0 ∷ p.1 ∷ [] ≡ SendCommand a b bytes ∷ Receive p.2.1.0 ∷ [] = (λ i. p.2.0 i ∷ p.2.1.1 i ∷ []) in
-    (p.2.1.0, p.2.1.2, (p.3 ∙ same, subst (λ z. Steps s z out t) same p.4))) d
+    (p.2.1.0, p.2.1.2, (p.3 ∙ same, subst (λ z. Transitions s z out t) same p.4))) d
 
 -- ---- and then all frames are sent
 
@@ -157,8 +155,8 @@ command_goes : (m : Machine) (D : DeskRelations) (a b : ℕ) (bytes : List ℕ) 
 command_goes m D a b bytes s u xs c g st p f =
     let good = steps_good s u xs c g f in
     let last = p.2.1.5 in
-    let answered : u.transaction ≡ None = ap (λ (x : State). x.transaction) last.5.1 ∙ (ap (λ (x : State). x.transaction) last.3.1.state_is ∙ last.3.0) in
-    let unsent : u.frame ≡ None = ap (λ (x : State). x.frame) last.5.1 ∙ ap (λ (x : State). x.frame) last.3.1.state_is in
+    let answered : u.transaction ≡ None = ap (λ (x : State). x.transaction) last.5.1 ∙ (ap (λ (x : State). x.transaction) last.3.state_is ∙ last.3.waits) in
+    let unsent : u.frame ≡ None = ap (λ (x : State). x.frame) last.5.1 ∙ ap (λ (x : State). x.frame) last.3.state_is in
     let r = can_send_all u b good answered unsent in
     let goes = all_steps b u r.actions r.out r.after r.sends in
     (r.actions, r.out, r.after, command_follows {m = m} D a b bytes s u r.after xs r.actions c r.out g st p f r.sends goes, goes)

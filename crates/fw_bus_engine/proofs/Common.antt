@@ -13,22 +13,23 @@ pub use Rattle.fw_terms.specs.declared.label.Label.TheVariants.{Procedure}
 pub use Rattle.fw_terms.specs.declared.plug.PlugAt.{PlugAt}
 pub use Rattle.fw_bus_engine.specs.Cycling.{HadSent, PerformedWhere, unheard}
 pub use Rattle.fw_bus_engine.specs.Framing.{PerformedWithDesk}
-pub use Rattle.fw_bus_engine.specs.Performing.{Performed, Performs, TakesAction, TakesHalf, TakesTwoActions, Task}
+pub use Rattle.fw_bus_engine.specs.Performing.{Performed, Performs, TakesAction, TakesHalf, TakesTwoActions, Execution}
 pub use Rattle.fw_bus_engine.specs.Resetting.{BeginsReset, GivesReset}
 pub use Rattle.fw_bus_engine.specs.Serving.{nodes_after}
 pub use Rattle.fw_cmp.specs.Causes.{IsAtRest}
 pub use Rattle.fw_cmp.specs.Controllers.{ControllerState, IsHeard}
 pub use Rattle.fw_cmp.specs.Losses.{Awaits, Listening, after_turn, turn_of}
-pub use Rattle.fw_cmp.specs.Requests.{addressee_of, offset_of, standing_in}
+pub use Rattle.fw_cmp_jobs.specs.Requests.{addressee_of, offset_of}
+pub use Rattle.fw_cmp.specs.Works.{standing_in}
 pub use Rattle.fw_cmp.specs.Turns.{after_next}
 pub use Rattle.fw_cmp.specs.declared.current.Current.{Current}
 pub use Rattle.fw_cmp.specs.declared.current.Current.TheVariants.{Asking, Hearing, Nothing, Overtaken}
-pub use Rattle.fw_cmp.specs.declared.directory.Directory.{Directory}
+pub use Rattle.fw_cmp_jobs.specs.declared.directory.Directory.{Directory}
 pub use Rattle.fw_cmp.specs.declared.outcome.Next.{Next}
 pub use Rattle.fw_cmp.specs.declared.outcome.Next.TheVariants.{Send}
-pub use Rattle.fw_cmp.specs.declared.request.Access.{Access}
-pub use Rattle.fw_cmp.specs.declared.request.Target.{Target}
-pub use Rattle.fw_cmp.specs.declared.stage.Stage.{Stage}
+pub use Rattle.fw_cmp_jobs.specs.declared.request.Access.{Access}
+pub use Rattle.fw_cmp_jobs.specs.declared.request.Target.{Target}
+pub use Rattle.fw_cmp_jobs.specs.declared.stage.Stage.{Stage}
 pub use Rattle.fw_csr.specs.Manager.{after_at}
 pub use Rattle.fw_csr.specs.Requests.{request_at}
 pub use Rattle.fw_csr.specs.declared.reply.Reply.{Reply}
@@ -68,8 +69,10 @@ pub use Rattle.fw_model_run.proofs.Hears.{half_hears}
 pub use Rattle.fw_model_run.proofs.Runs.{steps_then}
 pub use Rattle.fw_model_run.proofs.Steps.{steps_good}
 pub use Rattle.fw_model_run.proofs.Turns.{living_linked, update_new, update_others}
-pub use Rattle.fw_model_run.specs.Actions.{Action, Contend, EndSecond, HalfStep, Pass, Receive, Step, Steps}
-pub use Rattle.fw_model_run.specs.Afterwards.{Resets, counted}
+pub use Rattle.fw_model_run.specs.Actions.{Action, Contend, EndSecond, HalfStep, Pass, Receive}
+pub use Rattle.fw_model_run.specs.Deeds.{Transition, Transitions}
+pub use Rattle.fw_model_run.proofs.BusResets.{Resets}
+pub use Rattle.fw_model_run.specs.Afterwards.{counted}
 pub use Rattle.fw_model_run.specs.Bidding.{bid_head}
 pub use Rattle.fw_model_run.specs.Carrying.{Carries, half_steps_of}
 unfoldable pub use Rattle.fw_model_run.specs.Carrying.{times}

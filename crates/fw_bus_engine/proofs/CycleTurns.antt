@@ -1,7 +1,23 @@
 -- The next cycle, its cycle start and the packet of an output plug in it: of the machine and of the run.
 use Rattle.fw_bus_engine.proofs.Common.{◌≡◌, ℕ, ◌+◌, ◌%◌, ◌<◌, ◌≤◌, ◌^◌, ◌==◌, ◌&&◌, List, [], ◌∷◌, length, Bool, true, false, cond, Option, Some, None, IfSome, option_map, refl, ap, sym, subst, ◌∙◌}
 use Rattle.fw_bus_engine.proofs.Common.{arith, IsTrue, Ok, Result, nat_tests, same_Some, at_plug, PlugAt, Packet, Directory, Async, ResetEntry, Timed, Account, node_of, is_node, node_at, Action, Pass}
-use Rattle.fw_bus_engine.proofs.Common.{EndSecond, Step, DeskRelations, at_most, IsGood, State, Machine, PerformedWhere, HadSent, between, Recording, Performs, Performed, TakesAction, CountsFaults}
+use Rattle.fw_bus_engine.proofs.Common.{
+  EndSecond,
+  Transition,
+  DeskRelations,
+  at_most,
+  IsGood,
+  State,
+  Machine,
+  PerformedWhere,
+  HadSent,
+  between,
+  Recording,
+  Performs,
+  Performed,
+  TakesAction,
+  CountsFaults,
+}
 use Rattle.fw_bus_engine.proofs.Common.{IsReady, StandsFor, is_node_same, node_number_is, few_nodes}
 use Rattle.fw_cip.specs.declared.packet.IsoPacket.{IsoPacket}
 use Rattle.fw_cip.specs.Iso.{IsBlock}
@@ -78,14 +94,14 @@ pub record HasCome (s t : State) : Type 0 where
   pub written : t.written ≡ s.written
   pub answered : t.transaction ≡ None
 
-pub has_come : (s t : State) (out : List Timed) → Step s (next_cycle s) out t → HasCome s t
+pub has_come : (s t : State) (out : List Timed) → Transition s (next_cycle s) out t → HasCome s t
 has_come s t out x = go (s.account.reclaiming && (s.clock.cycle + 1 == s.clock.over_at)) x
   where
-    go : (b : Bool) → Step s (cond b EndSecond (Pass 1)) out t → HasCome s t
+    go : (b : Bool) → Transition s (cond b EndSecond (Pass 1)) out t → HasCome s t
     go true x =
-        let latest = ap (λ (l : Account). l.latest) (second_ends s.account x.1.1) in
-        subst (HasCome s) (sym x.1.4) (record { cycle = refl; latest = latest; written = refl; answered = x.0 })
-    go false x = subst (HasCome s) (sym x.1.3) (record { cycle = refl; latest = refl; written = refl; answered = x.0 })
+        let latest = ap (λ (l : Account). l.latest) (second_ends s.account x.may.runs) in
+        subst (HasCome s) (sym x.state_is) (record { cycle = refl; latest = latest; written = refl; answered = x.waits })
+    go false x = subst (HasCome s) (sym x.state_is) (record { cycle = refl; latest = refl; written = refl; answered = x.waits })
 
 -- ---- the cycle start
 
@@ -118,7 +134,7 @@ start_turns m now root packet roots few same is = record { shown = shown_ }
       around = st.around;
     }
 
-    shown_ : (s : State) → IsGood s → StandsFor m s → (t : State) × Step s StartCycle (at_most m.cycle (Some (Async packet))) t × StandsFor now t
+    shown_ : (s : State) → IsGood s → StandsFor m s → (t : State) × Transition s StartCycle (at_most m.cycle (Some (Async packet))) t × StandsFor now t
     shown_ s g st =
         let x = entry s.account.latest (roots s g st) in
         let cycle = st.clock.cycle in
@@ -127,7 +143,13 @@ start_turns m now root packet roots few same is = record { shown = shown_ }
         let start : packet ≡ cycle_start x.0.root s.clock.cycle = same ∙ (λ i. cycle_start (root_same i) (cycle i)) in
         let t : State = record s { written = s.written + 1 } in (
           t,
-          (st.answered, (omega (arith, few, written), (x.0, x.1, λ i. at_most (cycle i) (Some (Async (start i)))), refl)),
+          record {
+            found = x.0;
+            waits = st.answered;
+            may = record { few = omega (arith, few, written); latest = x.1 };
+            out_is = λ i. at_most (cycle i) (Some (Async (start i)));
+            state_is = refl;
+          },
           subst (λ (z : Machine). StandsFor z t) (sym is) (stands s st),
         )
 
@@ -199,12 +221,12 @@ mod_twice k = omega arith
 packet_sends : (D : DeskRelations) (m : Machine) (d channel own : ℕ) (before : List ℕ) (block : Option (List ℕ)) (packet : IsoPacket)
     → Packing D m d channel own before block packet
     → (s : State) → IsGood s → StandsFor m s → HadSent before s
-    → (b : Option GivenBlock) × IsGiven D (SendPacket (at_plug d 0) b) × Step s (SendPacket (at_plug d 0) b) (at_most m.cycle (Some (IsoEntry packet))) s
+    → (b : Option GivenBlock) × IsGiven D (SendPacket (at_plug d 0) b) × Transition s (SendPacket (at_plug d 0) b) (at_most m.cycle (Some (IsoEntry packet))) s
     × (bytes_of b ≡ block)
 packet_sends D m d channel own before block packet x s g st had = (
   b,
   given.1,
-  (st.answered, (here.0, given.0, (λ i. at_most (st.clock.cycle i) (Some (IsoEntry (same i)))), refl)),
+  record { found = tt; waits = st.answered; may = record { talks = here.0; gives = given.0 }; out_is = λ i. at_most (st.clock.cycle i) (Some (IsoEntry (same i))); state_is = refl },
   given.2,
 )
   where

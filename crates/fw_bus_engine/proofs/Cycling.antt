@@ -15,7 +15,7 @@ use Rattle.fw_bus_engine.specs.Cycling.{WritesCycle, WritesCycles}
 use Rattle.fw_bus_engine.specs.Filling.{FillsBy, Gathers, Passes}
 use Rattle.fw_bus_engine.proofs.Desks.{by_where, where_by, where_cut, where_nothing, where_then, where_when}
 use Rattle.fw_bus_engine.proofs.Doings.{GoesOn, faults_then}
-use Rattle.fw_bus_engine.proofs.Gathering.{fills_behind, gathers_all, gathers_cut, gathers_out}
+use Rattle.fw_bus_engine.proofs.Gathering.{fills_after, gathers_all, gathers_cut, gathers_out}
 use Rattle.fw_bus_engine.proofs.OneCycle.{begun, came, some_device}
 use Rattle.fw_model_run.specs.Recording.{heard_in, with_block}
 
@@ -68,7 +68,7 @@ gathers_none {D = D} {m} {held} {room} none = record {
 
 pub gathers_then : {D : DeskRelations} (i : ℕ) {m mid now : Machine} {held after : Option (List ℕ)} {room more : List ℕ} → Gathers D (WritesCycles i) m mid held after room
     → FillsBy D WritesCycle mid now room more → Gathers D (WritesCycles (i + 1)) m now held after more
-gathers_then i f g = record { before = f.before; fills = cycles_then i f.fills (fills_behind f.before g); grew = f.grew }
+gathers_then i f g = record { before = f.before; fills = cycles_then i f.fills (fills_after f.before g); grew = f.grew }
 
 -- ---- all of them
 
@@ -111,7 +111,7 @@ has_written s t xs out f = go s.account.latest refl f
           written = let same = x.came.written in let on : one_written s.account.latest ≡ 1 = ap one_written is in omega (arith, same, on);
           answered = x.came.answered;
         }) in
-        let kept : t ≡ with_block f.sent (heard_in f.sent out) = f.keeps.5.1 ∙ f.keeps.3.1.1 in
+        let kept : t ≡ with_block f.sent (heard_in f.sent out) = f.keeps.5.1 ∙ f.keeps.3.state_is in
         subst (HasWritten s) (sym kept) (record { cycle = h.cycle; latest = h.latest; written = h.written; answered = h.answered })
 
 writes_one : (o : Option ResetEntry) → is_some o ≡ true → one_written o ≡ 1
@@ -195,9 +195,9 @@ pub cycles_cut : {U F V G : Type 0} {D : DeskRelations} (i n : ℕ)
 cycles_cut i n {m} q r le cycle few was is f = by_where {A = λ s. Unit {0}} (λ s good st. tt) (where_cut q r (cycles_go_on m i n le cycle few) was is (where_by f))
 
 -- what is left in the room is written, or cut off
-pub cycles_out : {T E : Type 0} {D : DeskRelations} (i n : ℕ) (r : Result T E) {m now : Machine} {held after behind : Option (List ℕ)} {room : List ℕ} (rest : List ℕ) {j k l : ℕ} → i ≡ n
+pub cycles_out : {T E : Type 0} {D : DeskRelations} (i n : ℕ) (r : Result T E) {m now : Machine} {held after following : Option (List ℕ)} {room : List ℕ} (rest : List ℕ) {j k l : ℕ} → i ≡ n
     → m.cycle + n ≤ 2 ^ 52 → (0 < length m.devices.nodes → m.written + n ≤ MOST_WRITTEN_CYCLES) → Gathers D (WritesCycles i) m now held after room
-    → Passes after behind r room rest → rest ≡ [] → j ≡ k → CountsFaults j l r → PerformedWithDesk D (λ s. Carries s (Cycles n)) m now (between held behind k l) r
+    → Passes after following r room rest → rest ≡ [] → j ≡ k → CountsFaults j l r → PerformedWithDesk D (λ s. Carries s (Cycles n)) m now (between held following k l) r
 cycles_out i n (Ok u) rest {j} {k} {l} all cycle few f passes empty same faults = cycles_all i n all (gathers_all u (gathers_out f passes) empty (faults_then k j l (Ok u) same faults))
 cycles_out i n (Err w) rest {j} {k} {l} all cycle few f passes empty same faults =
     cycles_cut i n (Err w) (Err w) (omega (arith, all)) cycle few refl refl (gathers_cut w f passes (faults_then k j l (Err w) same faults))

@@ -1,18 +1,19 @@
 -- Half steps of a controller that has lost a response: it waits, or forces a bus reset.
 use Rattle.fw_bus_engine.proofs.Common.{◌≡◌, ◌≢◌, ℕ, ◌+◌, ◌<◌, ◌&&◌, Bool, true, false, cond, List, [], Option, None}
-use Rattle.fw_bus_engine.proofs.Common.{Some, refl, ap, sym, subst, ◌∙◌, arith, IsTrue, update, Entry, Reset, Timed, Directory}
+use Rattle.fw_bus_engine.proofs.Common.{Some, refl, ap, sym, ◌∙◌, arith, IsTrue, update, Entry, Reset, Timed, Directory}
 use Rattle.fw_bus_engine.proofs.Common.{Listening, turn_of, after_turn, after_next, is_node, kind_at, kinds_of, has_link}
-use Rattle.fw_bus_engine.proofs.Common.{MOST_HALF_STEPS, MOST_RESETS, at_most, State, is_deaf, is_living, HalfStep, Step}
+use Rattle.fw_bus_engine.proofs.Common.{MOST_HALF_STEPS, MOST_RESETS, at_most, State, is_deaf, is_living, HalfStep, Transition}
 use Rattle.fw_bus_engine.proofs.Common.{Resets, counted, IsGood, Machine, TakesAction, BeginsReset, IsReady, StandsFor}
 use Rattle.fw_bus_engine.proofs.Common.{is_living_in, ControllerTable, IsTable, count_of, states_of, dead_of, living_same}
 use Rattle.fw_cmp.specs.declared.outcome.Next.TheVariants.{Deaf, Force}
 use Rattle.fw_cmp.specs.Losses.{deaf_turn, deaf_until, asked_by, split_timeout}
 use Rattle.fw_cmp.specs.Turns.{next}
 use Rattle.fw_model_run.specs.HalfSteps.{is_waiting}
-use Rattle.fw_model_run.specs.Afterwards.{Takes}
+use Rattle.fw_model_run.specs.ControllerDeeds.{stepping_as}
+use Rattle.fw_model_run.proofs.Done.{Done}
 use Rattle.fw_model_run.proofs.Others.{same_table}
 use Rattle.fw_bus_engine.proofs.Began.{MayBegin}
-use Rattle.fw_bus_engine.proofs.Halves.{half_leaves}
+use Rattle.fw_bus_engine.proofs.Halves.{half_leaves, steps_deaf}
 use Rattle.fw_bus_state.proofs.Heard.{at_same, lost_same}
 use Rattle.fw_bus_state.proofs.Living.{living_in_linked}
 use Rattle.fw_bus_engine.proofs.ResetTurns.{reset_of, some_nodes}
@@ -97,9 +98,11 @@ deaf_waits m k d lives lost few quiet table = record {
       let living : IsTrue (is_living s d) = sym (living_same m s d g st) ∙ lives in
       let count = st.clock.half_steps in
       let low : s.half_steps < MOST_HALF_STEPS = omega (arith, few, count) in
-      let takes : Takes (is_deaf s d) (is_waiting s d) s d [] (counted s 1) =
-      subst (λ b. Takes b (is_waiting s d) s d [] (counted s 1)) (sym (deaf_here m s d st lost)) (subst (λ w. Takes true w s d [] (counted s 1)) (sym (is_early m s d st lost quiet)) (refl, refl)) in
-      (counted s 1, (st.answered, (living, low, takes)), counted_stands (record m { controllers = k }) s 1 (same_controllers m s k st (deaf_table m k d lost table)));
+      let waits : Done (stepping_as true true s d) [] (counted s 1) = record { found = tt; may = record { lives = living; few = low }; out_is = refl; state_is = refl } in (
+        counted s 1,
+        steps_deaf s d true [] (counted s 1) (deaf_here m s d st lost) (is_early m s d st lost quiet) st.answered waits,
+        counted_stands (record m { controllers = k }) s 1 (same_controllers m s k st (deaf_table m k d lost table)),
+      );
 }
 
 -- ---- it forces a bus reset
@@ -130,19 +133,24 @@ deaf_forces m now k d lives lost few force table b = record { shown = shown_ }
     new : Machine
     new = record m { controllers = k; half_steps = m.half_steps + 1 }
 
-    shown_ : (s : State) → IsGood s → StandsFor m s → (t : State) × Step s (HalfStep d) (at_most m.cycle (Some (Reset now.devices.latest))) t × StandsFor now t
+    shown_ : (s : State) → IsGood s → StandsFor m s → (t : State) × Transition s (HalfStep d) (at_most m.cycle (Some (Reset now.devices.latest))) t × StandsFor now t
     shown_ s g st =
         let living : IsTrue (is_living s d) = sym (living_same m s d g st) ∙ lives in
         let count = st.clock.half_steps in
         let low : s.half_steps < MOST_HALF_STEPS = omega (arith, few, count) in
-        let takes = λ (out : List Timed) (t : State) (r : Resets (counted s 1) d out t).
-        subst (λ b. Takes b (is_waiting s d) s d out t) (sym (deaf_here m s d st lost)) (subst (λ w. Takes true w s d out t) (sym (is_over m s d st lost force)) r) in
+        let begins : (out : List Timed) (t : State) → Resets (counted s 1) d out t → Transition s (HalfStep d) out t
+        = λ out t r. steps_deaf s d false out t (deaf_here m s d st lost) (is_over m s d st lost force) st.answered (record {
+          found = r.entry;
+          may = record { step = record { lives = living; few = low }; reset = record { is_entry = r.is_entry; few = r.few } };
+          out_is = r.out_is;
+          state_is = r.state_is;
+        }) in
         let may : MayBegin new s (counted s 1) d = record {
           is_good = g;
           around = st.around;
           dub = refl;
           action = HalfStep d;
-          begins = λ out t r. (st.answered, (living, low, takes out t r));
+          begins = begins;
           extends = record { account = refl; cycle = refl; decks = refl; streams = refl; kinds = λ d lt. refl };
           stands = counted_stands (record m { controllers = k }) s 1 (same_controllers m s k st (deaf_table m k d lost table));
           declared = g.declared;
@@ -151,7 +159,7 @@ deaf_forces m now k d lives lost few force table b = record { shown = shown_ }
           walks = λ c on. on;
         } in
         let r = reset_of new now s (counted s 1) d may b (forced_few m s d g st lost) in
-        (r.state, (st.answered, (living, low, takes (at_most m.cycle (Some (Reset now.devices.latest))) r.state r.resets)), r.stands)
+        (r.state, begins (at_most m.cycle (Some (Reset now.devices.latest))) r.state r.resets, r.stands)
 
 -- ---- who lives
 

@@ -1,35 +1,52 @@
 -- What was done with what a desk gave: one call after another.
 use Rattle.fw_bus_engine.proofs.Common.{ℕ, List, [], ◌∷◌, ◌++◌, Option, Some, refl, ap, sym, subst, ◌∙◌}
 use Rattle.fw_bus_engine.proofs.Common.{append_assoc, arith, ◌≡◌, Ok, Err, IsErr, Result, Grows-nothing, at_plug, Entry, Timed, epoch_after}
-use Rattle.fw_bus_engine.proofs.Common.{entry_bytes, Two, Action, Step, Steps, DeskRelations, at_cycle, at_most, GivesEntry, IsGood, State, steps_then, steps_good, Machine, PerformedWhere, between}
-use Rattle.fw_bus_engine.proofs.Common.{Recording, Task, Performed, CountsFaults, PerformedWithDesk, StandsFor}
+use Rattle.fw_bus_engine.proofs.Common.{
+  entry_bytes,
+  Two,
+  Action,
+  Transition,
+  Transitions,
+  DeskRelations,
+  at_cycle,
+  at_most,
+  GivesEntry,
+  IsGood,
+  State,
+  steps_then,
+  steps_good,
+  Machine,
+  PerformedWhere,
+  between,
+}
+use Rattle.fw_bus_engine.proofs.Common.{Recording, Execution, Performed, CountsFaults, PerformedWithDesk, StandsFor}
 use Rattle.fw_model_run.specs.Actions.{SendPacket}
 use Rattle.fw_model_run.specs.Given.{IsGiven, AreGiven}
 use Rattle.fw_model_run.specs.Streams.{GivenBlock, bytes_of}
 use Rattle.fw_model_run.proofs.Given.{given_then, given_append}
 use Rattle.fw_bus_engine.specs.Cycling.{SendsHeard}
 use Rattle.fw_bus_state.specs.Recording.{hearing_of}
-use Rattle.fw_bus_engine.proofs.Doings.{one_grew, grew_then, front_then_front, parts_then, Follows, GoesOn, does_as, faults_then, no_faults, one_step}
+use Rattle.fw_bus_engine.proofs.Doings.{one_grew, grew_then, prefix_then_prefix, parts_then, Follows, GoesOn, does_as, faults_then, no_faults, one_step}
 
 -- ---- what is known of the state
 
 -- it holds of all states that the machine stands for
-pub by_where : {T E : Type 0} {A : State → Type 0} {D : DeskRelations} {P : Task} {m now : Machine} {a b : Option (List ℕ)} {k l : ℕ} {r : Result T E}
+pub by_where : {T E : Type 0} {A : State → Type 0} {D : DeskRelations} {P : Execution} {m now : Machine} {a b : Option (List ℕ)} {k l : ℕ} {r : Result T E}
     → ((s : State) → IsGood s → StandsFor m s → A s) → PerformedWhere A D P m now (between a b k l) r → PerformedWithDesk D P m now (between a b k l) r
 by_where holds d = record { faults = d.faults; shown = λ s g st. d.shown s g st (holds s g st) }
 
 -- nothing is asked of them
-pub where_by : {T E : Type 0} {A : State → Type 0} {D : DeskRelations} {P : Task} {m now : Machine} {a b : Option (List ℕ)} {k l : ℕ} {r : Result T E}
+pub where_by : {T E : Type 0} {A : State → Type 0} {D : DeskRelations} {P : Execution} {m now : Machine} {a b : Option (List ℕ)} {k l : ℕ} {r : Result T E}
     → PerformedWithDesk D P m now (between a b k l) r → PerformedWhere A D P m now (between a b k l) r
 where_by d = record { faults = d.faults; shown = λ s g st known. d.shown s g st }
 
 -- ---- what is done
 
 -- if all that was to be done is what the desk gives, so is what was done
-pub given_front : {T E : Type 0} {D : DeskRelations} {P : Task} {m now : Machine} {a b : Option (List ℕ)} {k l : ℕ} {r : Result T E}
+pub given_prefix : {T E : Type 0} {D : DeskRelations} {P : Execution} {m now : Machine} {a b : Option (List ℕ)} {k l : ℕ} {r : Result T E}
     → Performed (λ s xs out t. P s xs out t × AreGiven D xs) m now (between a b k l) r → PerformedWithDesk D P m now (between a b k l) r
-given_front {r = Ok u} d = record { faults = d.faults; shown = λ s g st. d.shown s g st }
-given_front {D = D} {r = Err u} d = record {
+given_prefix {r = Ok u} d = record { faults = d.faults; shown = λ s g st. d.shown s g st }
+given_prefix {D = D} {r = Err u} d = record {
   faults = d.faults;
   shown = λ s g st. let x = d.shown s g st in (
     record {
@@ -43,7 +60,7 @@ given_front {D = D} {r = Err u} d = record {
       next = x.next;
       state = x.state;
       steps = x.steps;
-      front = x.front;
+      prefix = x.prefix;
       rest = x.rest;
       parts = x.parts;
       appended = x.appended;
@@ -53,13 +70,13 @@ given_front {D = D} {r = Err u} d = record {
 }
 
 -- a desk has nothing to give in it, or what it gives is known
-pub does_given : {T E : Type 0} {D : DeskRelations} {P : Task} {m now : Machine} {a b : Option (List ℕ)} {k l : ℕ} {r : Result T E}
+pub does_given : {T E : Type 0} {D : DeskRelations} {P : Execution} {m now : Machine} {a b : Option (List ℕ)} {k l : ℕ} {r : Result T E}
     → ((s t : State) (xs : List Action) (out : List Timed) → P s xs out t → AreGiven D xs) → Performed P m now (between a b k l) r → PerformedWithDesk D P m now (between a b k l) r
-does_given {D = D} {P} given d = given_front (does_as {Q = λ s xs out t. P s xs out t × AreGiven D xs} (λ s t xs out p. (p, given s t xs out p)) d)
+does_given {D = D} {P} given d = given_prefix (does_as {Q = λ s xs out t. P s xs out t × AreGiven D xs} (λ s t xs out p. (p, given s t xs out p)) d)
 
 -- what is done of the one is done of the other, in the states that the machine stood for
-pub where_when : {T E : Type 0} {A : State → Type 0} {D : DeskRelations} {P Q : Task} {m now : Machine} {a b : Option (List ℕ)} {k l : ℕ} {r : Result T E}
-    → ((s t : State) (xs : List Action) (out : List Timed) → IsGood s → StandsFor m s → P s xs out t → Steps s xs out t → Q s xs out t)
+pub where_when : {T E : Type 0} {A : State → Type 0} {D : DeskRelations} {P Q : Execution} {m now : Machine} {a b : Option (List ℕ)} {k l : ℕ} {r : Result T E}
+    → ((s t : State) (xs : List Action) (out : List Timed) → IsGood s → StandsFor m s → P s xs out t → Transitions s xs out t → Q s xs out t)
     → PerformedWhere A D P m now (between a b k l) r → PerformedWhere A D Q m now (between a b k l) r
 where_when {r = Ok u} to d = record {
   faults = d.faults;
@@ -89,7 +106,7 @@ where_when {r = Err u} to d = record {
           next = x.next;
           state = x.state;
           steps = x.steps;
-          front = x.front;
+          prefix = x.prefix;
           rest = x.rest;
           parts = x.parts;
           appended = x.appended;
@@ -99,7 +116,7 @@ where_when {r = Err u} to d = record {
 }
 
 -- nothing was done
-pub where_nothing : {T E : Type 0} {A : State → Type 0} {D : DeskRelations} {P : Task} (m : Machine) (held : Option (List ℕ)) (k : ℕ) (u : T)
+pub where_nothing : {T E : Type 0} {A : State → Type 0} {D : DeskRelations} {P : Execution} (m : Machine) (held : Option (List ℕ)) (k : ℕ) (u : T)
     → ((s : State) → IsGood s → StandsFor m s → P s [] [] s) → PerformedWhere {T = T} {E = E} A D P m m (between held held k k) (Ok u)
 where_nothing m held k u nothing = record {
   faults = no_faults k u;
@@ -118,7 +135,7 @@ where_nothing m held k u nothing = record {
 pub where_sent : {T E : Type 0} {A : State → Type 0} {D : DeskRelations}
     (m : Machine) (d channel cycle : ℕ) (old new : Option Recording) (held after : Option (List ℕ)) (k l : ℕ) (e : Entry) (r : Result T E)
     → ((s : State) → IsGood s → StandsFor m s → A s → (block : Option GivenBlock) × IsGiven D (SendPacket (at_plug d 0) block)
-    × Step s (SendPacket (at_plug d 0) block) (at_most cycle (Some e)) s × (new ≡ hearing_of channel (bytes_of block) old))
+    × Transition s (SendPacket (at_plug d 0) block) (at_most cycle (Some e)) s × (new ≡ hearing_of channel (bytes_of block) old))
     → GivesEntry held after r cycle m.devices.epoch (Some e) → CountsFaults k l r → PerformedWhere A D (SendsHeard d channel old new) m m (between held after k l) r
 where_sent m d channel cycle old new held after k l e (Ok u) turn gives faults = record {
   faults = faults;
@@ -150,7 +167,7 @@ where_sent m d channel cycle old new held after k l e (Err u) turn gives faults 
           next = at_cycle cycle e;
           state = s;
           steps = f;
-          front = gives.front;
+          prefix = gives.prefix;
           rest = gives.rest;
           parts = ap (λ (n : ℕ). entry_bytes Two (epoch_after n e) (at_cycle cycle e)) (sym st.devices.epoch) ∙ gives.parts;
           appended = gives.appended;
@@ -162,10 +179,10 @@ where_sent m d channel cycle old new held after k l e (Err u) turn gives faults 
 -- ---- one after another
 
 -- what is known of the state that the one leads to
-abbrev pub LeadsTo : Machine → (State → Type 0) → Task → (State → Type 0) → Type 0
-LeadsTo m A P B = (s t : State) (xs : List Action) (out : List Timed) → IsGood s → StandsFor m s → A s → P s xs out t → Steps s xs out t → B t
+abbrev pub LeadsTo : Machine → (State → Type 0) → Execution → (State → Type 0) → Type 0
+LeadsTo m A P B = (s t : State) (xs : List Action) (out : List Timed) → IsGood s → StandsFor m s → A s → P s xs out t → Transitions s xs out t → B t
 
-pub where_then : {T E U F : Type 0} {A B : State → Type 0} {D : DeskRelations} {P Q R : Task}
+pub where_then : {T E U F : Type 0} {A B : State → Type 0} {D : DeskRelations} {P Q R : Execution}
     {m mid now : Machine} {a b c : Option (List ℕ)} {k l n : ℕ} {u : T} (r : Result U F)
     → Follows m P Q R → LeadsTo m A P B → PerformedWhere {T = T} {E = E} A D P m mid (between a b k l) (Ok u) → PerformedWhere B D Q mid now (between b c l n) r
     → PerformedWhere A D R m now (between a c k n) r
@@ -201,17 +218,17 @@ where_then {D = D} {R = R} {a = a} {b} {c} {k} {l} {n} (Err w) follows leads f g
           last = y.last;
           whole = subst (λ z. R s z (x.out ++ y.all) y.last) (sym assoc)
               (follows s x.state y.last x.actions (y.done ++ y.later) x.out y.all good st x.whole.0 x.steps y.whole y.goes);
-          goes = subst (λ z. Steps s z (x.out ++ y.all) y.last) (sym assoc)
+          goes = subst (λ z. Transitions s z (x.out ++ y.all) y.last) (sym assoc)
               (steps_then s x.state y.last x.actions (y.done ++ y.later) x.out y.all x.steps y.goes);
           given = x.out ++ y.given;
           next = y.next;
           state = y.state;
-          steps = subst (λ z. Steps s (x.actions ++ y.done) z y.state) (sym (append_assoc x.out y.given (y.next ∷ [])))
+          steps = subst (λ z. Transitions s (x.actions ++ y.done) z y.state) (sym (append_assoc x.out y.given (y.next ∷ [])))
               (steps_then s x.state y.state x.actions y.done x.out (y.given ++ y.next ∷ []) x.steps y.steps);
-          front = y.front;
+          prefix = y.prefix;
           rest = y.rest;
-          parts = parts_then s x.state x.actions x.out y.given y.next (y.front ++ y.rest) good x.steps y.parts;
-          appended = front_then_front s x.state x.actions x.out y.given y.front a b c good x.steps x.grew y.appended;
+          parts = parts_then s x.state x.actions x.out y.given y.next (y.prefix ++ y.rest) good x.steps y.parts;
+          appended = prefix_then_prefix s x.state x.actions x.out y.given y.prefix a b c good x.steps x.grew y.appended;
         },
         given_then D x.actions y.done x.whole.1 z.1,
       );
@@ -220,7 +237,7 @@ where_then {D = D} {R = R} {a = a} {b} {c} {k} {l} {n} (Err w) follows leads f g
 -- ---- what was cut off
 
 -- what was done could have been gone on with, whatever a desk gives
-pub where_cut : {U F V G : Type 0} {A : State → Type 0} {D : DeskRelations} {P R : Task}
+pub where_cut : {U F V G : Type 0} {A : State → Type 0} {D : DeskRelations} {P R : Execution}
     {m now last : Machine} {a b : Option (List ℕ)} {k l : ℕ} (q : Result U F) (r : Result V G)
     → GoesOn m P R → IsErr q → IsErr r → PerformedWhere A D P m now (between a b k l) q → PerformedWhere A D R m last (between a b k l) r
 where_cut (Ok u) r on is was f = let no : ⊥ = grind (arith, is) in absurd no
@@ -238,12 +255,12 @@ where_cut {R = R} (Err u) (Err v) on is was f = record {
           all = y.all ++ x.1;
           last = x.2;
           whole = subst (λ z. R s z (y.all ++ x.1) x.2) assoc x.3;
-          goes = subst (λ z. Steps s z (y.all ++ x.1) x.2) assoc (steps_then s y.last x.2 (y.done ++ y.later) x.0 y.all x.1 y.goes x.4);
+          goes = subst (λ z. Transitions s z (y.all ++ x.1) x.2) assoc (steps_then s y.last x.2 (y.done ++ y.later) x.0 y.all x.1 y.goes x.4);
           given = y.given;
           next = y.next;
           state = y.state;
           steps = y.steps;
-          front = y.front;
+          prefix = y.prefix;
           rest = y.rest;
           parts = y.parts;
           appended = y.appended;
@@ -255,7 +272,7 @@ where_cut {R = R} (Err u) (Err v) on is was f = record {
 -- ---- the machine is ready for what comes next
 
 -- what is known of a call, without the desk
-pub by_does : {T E : Type 0} {D : DeskRelations} {P : Task} {m now : Machine} {a b : Option (List ℕ)} {k l : ℕ} {u : T}
+pub by_does : {T E : Type 0} {D : DeskRelations} {P : Execution} {m now : Machine} {a b : Option (List ℕ)} {k l : ℕ} {u : T}
     → PerformedWithDesk {T = T} {E = E} D P m now (between a b k l) (Ok u) → Performed {T = T} {E = E} P m now (between a b k l) (Ok u)
 by_does {D = D} {P} d =
     does_as {P = λ s xs out t. P s xs out t × AreGiven D xs} {Q = P} (λ s t xs out p. p.0) (record { faults = d.faults; shown = λ s g st. d.shown s g st })

@@ -2,8 +2,8 @@
 use Rattle.fw_bus_engine.proofs.Common.{◌≡◌, ℕ, List, [], ◌∷◌, ◌++◌, Option, Some, None, refl, ap, sym}
 use Rattle.fw_bus_engine.proofs.Common.{subst, ◌∙◌, append_assoc, append-nil, arith, Ok, Err, IsErr, Result, Grows-nothing, Entry, Timed}
 use Rattle.fw_bus_engine.proofs.Common.{epoch_after, entry_bytes, Two, at_cycle, at_most, GivesEntry, State, epoch_of, Action}
-use Rattle.fw_bus_engine.proofs.Common.{Step, Steps, IsGood, steps_then, steps_good, Machine, CountsFaults, Gives}
-use Rattle.fw_bus_engine.proofs.Common.{between, IsReady, StandsFor, Task, Performs, TakesAction, Performed}
+use Rattle.fw_bus_engine.proofs.Common.{Transition, Transitions, IsGood, steps_then, steps_good, Machine, CountsFaults, Gives}
+use Rattle.fw_bus_engine.proofs.Common.{between, IsReady, StandsFor, Execution, Performs, TakesAction, Performed}
 use Rattle.fw_outside.specs.Outside.{Grows}
 use Rattle.fw_outside.proofs.Parts.{Grows-Grows}
 use Rattle.fw_log_entry.specs.Log.{latest_epoch}
@@ -28,12 +28,12 @@ no_faults k u = record { cause = record { later = omega arith; failed = tt }; sa
 -- ---- what is done
 
 -- one action from a state
-pub one_step : (s t : State) (a : Action) (out : List Timed) → Step s a out t → Steps s (a ∷ []) out t
+pub one_step : (s t : State) (a : Action) (out : List Timed) → Transition s a out t → Transitions s (a ∷ []) out t
 one_step s t a out f = (out, [], t, f, sym (append-nil out), (refl, refl))
 
 -- what is done of the one is done of the other, in the states that the machine stood for
-pub does_when : {T E : Type 0} {P Q : Task} {m now : Machine} {a b : Option (List ℕ)} {k l : ℕ} {r : Result T E}
-    → ((s t : State) (xs : List Action) (out : List Timed) → IsGood s → StandsFor m s → P s xs out t → Steps s xs out t → Q s xs out t) → Performed P m now (between a b k l) r
+pub does_when : {T E : Type 0} {P Q : Execution} {m now : Machine} {a b : Option (List ℕ)} {k l : ℕ} {r : Result T E}
+    → ((s t : State) (xs : List Action) (out : List Timed) → IsGood s → StandsFor m s → P s xs out t → Transitions s xs out t → Q s xs out t) → Performed P m now (between a b k l) r
     → Performed Q m now (between a b k l) r
 does_when {r = Ok u} to d = record {
   faults = d.faults;
@@ -60,19 +60,19 @@ does_when {r = Err u} to d = record {
     next = x.next;
     state = x.state;
     steps = x.steps;
-    front = x.front;
+    prefix = x.prefix;
     rest = x.rest;
     parts = x.parts;
     appended = x.appended;
   };
 }
 
-pub does_as : {T E : Type 0} {P Q : Task} {m now : Machine} {a b : Option (List ℕ)} {k l : ℕ} {r : Result T E}
+pub does_as : {T E : Type 0} {P Q : Execution} {m now : Machine} {a b : Option (List ℕ)} {k l : ℕ} {r : Result T E}
     → ((s t : State) (xs : List Action) (out : List Timed) → P s xs out t → Q s xs out t) → Performed P m now (between a b k l) r → Performed Q m now (between a b k l) r
 does_as to d = does_when (λ s t xs out g st x f. to s t xs out x) d
 
 -- nothing was done
-pub does_nothing : {T E : Type 0} {P : Task} (m : Machine) (held : Option (List ℕ)) (k : ℕ) (u : T)
+pub does_nothing : {T E : Type 0} {P : Execution} (m : Machine) (held : Option (List ℕ)) (k : ℕ) (u : T)
     → ((s : State) → IsGood s → StandsFor m s → P s [] [] s) → Performed {T = T} {E = E} P m m (between held held k k) (Ok u)
 does_nothing m held k u nothing = record {
   faults = no_faults k u;
@@ -93,7 +93,7 @@ does_none m held k u = does_nothing m held k u (λ s g st. (refl, (refl, refl)))
 -- ---- epochs
 
 -- the epoch that the machine has after an entry is that in its head
-pub written_epoch : (now : Machine) (s t : State) (a : Action) (cycle : ℕ) (e : Entry) → IsGood s → Step s a (at_most cycle (Some e)) t → StandsFor now t
+pub written_epoch : (now : Machine) (s t : State) (a : Action) (cycle : ℕ) (e : Entry) → IsGood s → Transition s a (at_most cycle (Some e)) t → StandsFor now t
     → epoch_after now.devices.epoch e ≡ epoch_after (epoch_of s.account.latest) e
 written_epoch now s t a cycle e g f st = ap (λ (n : ℕ). epoch_after n e) st.devices.epoch ∙ entry_epoch s t a cycle e g f
 
@@ -105,23 +105,23 @@ one_grew s t n held after is g =
     subst (Grows held after) (sym (append-nil (entry_bytes Two (epoch_after (epoch_of s.account.latest) t.what) t))) (subst P is g)
 
 -- what was written after other entries
-pub grew_then : (s mid : State) (xs : List Action) (out more : List Timed) (a b c : Option (List ℕ)) → IsGood s → Steps s xs out mid
+pub grew_then : (s mid : State) (xs : List Action) (out more : List Timed) (a b c : Option (List ℕ)) → IsGood s → Transitions s xs out mid
     → Grows a b (log_bytes (epoch_of s.account.latest) out) → Grows b c (log_bytes (epoch_of mid.account.latest) more) → Grows a c (log_bytes (epoch_of s.account.latest) (out ++ more))
 grew_then s mid xs out more a b c g f first last =
     let n : ℕ = epoch_of s.account.latest in
     let P : ℕ → Type 0 = λ k. Grows b c (log_bytes k more) in
     subst (Grows a c) (sym (log_append n out more)) (Grows-Grows a b c (log_bytes n out) (log_bytes (latest_epoch n out) more) first (subst P (steps_epoch s mid xs out g f) last))
 
-pub front_then_front : (s mid : State) (xs : List Action) (out more : List Timed) (front : List ℕ) (a b c : Option (List ℕ)) → IsGood s → Steps s xs out mid
-    → Grows a b (log_bytes (epoch_of s.account.latest) out) → Grows b c (log_bytes (epoch_of mid.account.latest) more ++ front)
-    → Grows a c (log_bytes (epoch_of s.account.latest) (out ++ more) ++ front)
-front_then_front s mid xs out more front a b c g f first last =
+pub prefix_then_prefix : (s mid : State) (xs : List Action) (out more : List Timed) (prefix : List ℕ) (a b c : Option (List ℕ)) → IsGood s → Transitions s xs out mid
+    → Grows a b (log_bytes (epoch_of s.account.latest) out) → Grows b c (log_bytes (epoch_of mid.account.latest) more ++ prefix)
+    → Grows a c (log_bytes (epoch_of s.account.latest) (out ++ more) ++ prefix)
+prefix_then_prefix s mid xs out more prefix a b c g f first last =
     let n : ℕ = epoch_of s.account.latest in
-    let P : ℕ → Type 0 = λ k. Grows b c (log_bytes k more ++ front) in
-    subst (Grows a c) (sym (ap (λ z. z ++ front) (log_append n out more) ∙ append_assoc (log_bytes n out) (log_bytes (latest_epoch n out) more) front))
-    (Grows-Grows a b c (log_bytes n out) (log_bytes (latest_epoch n out) more ++ front) first (subst P (steps_epoch s mid xs out g f) last))
+    let P : ℕ → Type 0 = λ k. Grows b c (log_bytes k more ++ prefix) in
+    subst (Grows a c) (sym (ap (λ z. z ++ prefix) (log_append n out more) ∙ append_assoc (log_bytes n out) (log_bytes (latest_epoch n out) more) prefix))
+    (Grows-Grows a b c (log_bytes n out) (log_bytes (latest_epoch n out) more ++ prefix) first (subst P (steps_epoch s mid xs out g f) last))
 
-pub parts_then : (s mid : State) (xs : List Action) (out given : List Timed) (next : Timed) (whole : List ℕ) → IsGood s → Steps s xs out mid
+pub parts_then : (s mid : State) (xs : List Action) (out given : List Timed) (next : Timed) (whole : List ℕ) → IsGood s → Transitions s xs out mid
     → entry_bytes Two (epoch_after (latest_epoch (epoch_of mid.account.latest) given) next.what) next ≡ whole
     → entry_bytes Two (epoch_after (latest_epoch (epoch_of s.account.latest) (out ++ given)) next.what) next ≡ whole
 parts_then s mid xs out given next whole g f is =
@@ -169,7 +169,7 @@ does_one {a = a} {now = now} cycle (Some e) (Err u) turn gives faults = record {
     next = at_cycle cycle e;
     state = x.0;
     steps = f;
-    front = gives.front;
+    prefix = gives.prefix;
     rest = gives.rest;
     parts = ap (λ (n : ℕ). entry_bytes Two n (at_cycle cycle e)) (sym (written_epoch now s x.0 a cycle e g x.1 x.2)) ∙ gives.parts;
     appended = gives.appended;
@@ -189,11 +189,11 @@ does_silent held k cycle u turn = does_one cycle None (Ok u) turn (Grows-nothing
 -- ---- one after another
 
 -- one thing done after another comes to a third
-abbrev pub Follows : Machine → Task → Task → Task → Type 0
+abbrev pub Follows : Machine → Execution → Execution → Execution → Type 0
 Follows m P Q R =
-    (s mid t : State) (xs ys : List Action) (a b : List Timed) → IsGood s → StandsFor m s → P s xs a mid → Steps s xs a mid → Q mid ys b t → Steps mid ys b t → R s (xs ++ ys) (a ++ b) t
+    (s mid t : State) (xs ys : List Action) (a b : List Timed) → IsGood s → StandsFor m s → P s xs a mid → Transitions s xs a mid → Q mid ys b t → Transitions mid ys b t → R s (xs ++ ys) (a ++ b) t
 
-pub does_then : {T E U F : Type 0} {P Q R : Task} {m mid now : Machine} {a b c : Option (List ℕ)} {k l n : ℕ} {u : T} (r : Result U F)
+pub does_then : {T E U F : Type 0} {P Q R : Execution} {m mid now : Machine} {a b c : Option (List ℕ)} {k l n : ℕ} {u : T} (r : Result U F)
     → Follows m P Q R → Performed {T = T} {E = E} P m mid (between a b k l) (Ok u) → Performed Q mid now (between b c l n) r → Performed R m now (between a c k n) r
 does_then {a = a} {b} {c} {k} {l} {n} (Ok w) follows f g = record {
   faults = faults_then k l n (Ok w) f.faults.same g.faults;
@@ -222,16 +222,16 @@ does_then {R = R} {a = a} {b} {c} {k} {l} {n} (Err w) follows f g = record {
         all = x.out ++ y.all;
         last = y.last;
         whole = subst (λ z. R s z (x.out ++ y.all) y.last) (sym assoc) (follows s x.state y.last x.actions (y.done ++ y.later) x.out y.all good st x.whole x.steps y.whole y.goes);
-        goes = subst (λ z. Steps s z (x.out ++ y.all) y.last) (sym assoc) (steps_then s x.state y.last x.actions (y.done ++ y.later) x.out y.all x.steps y.goes);
+        goes = subst (λ z. Transitions s z (x.out ++ y.all) y.last) (sym assoc) (steps_then s x.state y.last x.actions (y.done ++ y.later) x.out y.all x.steps y.goes);
         given = x.out ++ y.given;
         next = y.next;
         state = y.state;
-        steps = subst (λ z. Steps s (x.actions ++ y.done) z y.state) (sym (append_assoc x.out y.given (y.next ∷ [])))
+        steps = subst (λ z. Transitions s (x.actions ++ y.done) z y.state) (sym (append_assoc x.out y.given (y.next ∷ [])))
             (steps_then s x.state y.state x.actions y.done x.out (y.given ++ y.next ∷ []) x.steps y.steps);
-        front = y.front;
+        prefix = y.prefix;
         rest = y.rest;
-        parts = parts_then s x.state x.actions x.out y.given y.next (y.front ++ y.rest) good x.steps y.parts;
-        appended = front_then_front s x.state x.actions x.out y.given y.front a b c good x.steps x.grew y.appended;
+        parts = parts_then s x.state x.actions x.out y.given y.next (y.prefix ++ y.rest) good x.steps y.parts;
+        appended = prefix_then_prefix s x.state x.actions x.out y.given y.prefix a b c good x.steps x.grew y.appended;
       };
 }
 
@@ -242,12 +242,12 @@ acts_follow xs ys s m t zs ws a b good st f p g q = (ap (λ z. z ++ ws) f.0 ∙ 
 -- ---- what was cut off
 
 -- what was done could have been gone on with
-abbrev pub GoesOn : Machine → Task → Task → Type 0
+abbrev pub GoesOn : Machine → Execution → Execution → Type 0
 GoesOn m P R =
-    (s u : State) (xs : List Action) (a : List Timed) → IsGood s → StandsFor m s → P s xs a u → Steps s xs a u
-    → (ys : List Action) × (b : List Timed) × (t : State) × R s (xs ++ ys) (a ++ b) t × Steps u ys b t
+    (s u : State) (xs : List Action) (a : List Timed) → IsGood s → StandsFor m s → P s xs a u → Transitions s xs a u
+    → (ys : List Action) × (b : List Timed) × (t : State) × R s (xs ++ ys) (a ++ b) t × Transitions u ys b t
 
-pub does_cut : {U F V G : Type 0} {P R : Task} {m now last : Machine} {a b : Option (List ℕ)} {k l : ℕ} (q : Result U F) (r : Result V G)
+pub does_cut : {U F V G : Type 0} {P R : Execution} {m now last : Machine} {a b : Option (List ℕ)} {k l : ℕ} (q : Result U F) (r : Result V G)
     → GoesOn m P R → IsErr q → IsErr r → Performed P m now (between a b k l) q → Performed R m last (between a b k l) r
 does_cut (Ok u) r on is was f = let no : ⊥ = grind (arith, is) in absurd no
 does_cut (Err u) (Ok v) on is was f = let no : ⊥ = grind (arith, was) in absurd no
@@ -263,12 +263,12 @@ does_cut {R = R} (Err u) (Err v) on is was f = record {
         all = y.all ++ x.1;
         last = x.2;
         whole = subst (λ z. R s z (y.all ++ x.1) x.2) assoc x.3;
-        goes = subst (λ z. Steps s z (y.all ++ x.1) x.2) assoc (steps_then s y.last x.2 (y.done ++ y.later) x.0 y.all x.1 y.goes x.4);
+        goes = subst (λ z. Transitions s z (y.all ++ x.1) x.2) assoc (steps_then s y.last x.2 (y.done ++ y.later) x.0 y.all x.1 y.goes x.4);
         given = y.given;
         next = y.next;
         state = y.state;
         steps = y.steps;
-        front = y.front;
+        prefix = y.prefix;
         rest = y.rest;
         parts = y.parts;
         appended = y.appended;
@@ -277,11 +277,11 @@ does_cut {R = R} (Err u) (Err v) on is was f = record {
 
 -- ---- the machine is ready for what comes next
 
-pub steps_numbers : (s t : State) (xs : List Action) (out : List Timed) → IsGood s → HasNumbers s → Steps s xs out t → HasNumbers t
+pub steps_numbers : (s t : State) (xs : List Action) (out : List Timed) → IsGood s → HasNumbers s → Transitions s xs out t → HasNumbers t
 steps_numbers s t [] out g b f = subst HasNumbers (sym f.1) b
 steps_numbers s t (x ∷ xs) out g b f = steps_numbers f.2 t xs f.1 (steps_good s f.2 (x ∷ []) f.0 g (one_step s f.2 x f.0 f.3)) (step_numbers s x f.0 f.2 g b f.3) f.5
 
-pub ready_after : {T E : Type 0} {P : Task} {m now : Machine} {a b : Option (List ℕ)} {k l : ℕ} {u : T}
+pub ready_after : {T E : Type 0} {P : Execution} {m now : Machine} {a b : Option (List ℕ)} {k l : ℕ} {u : T}
     → IsReady m → Performed {T = T} {E = E} P m now (between a b k l) (Ok u) → IsReady now
 ready_after r f = let x = f.shown r.state r.good r.stands in record {
   state = x.state;
@@ -293,15 +293,15 @@ ready_after r f = let x = f.shown r.state r.good r.stands in record {
 -- ---- a transaction: its request and its response, before their entries are written
 
 -- the two actions of it
-pub talk_steps : (s mid t : State) (a b : Action) (cycle : ℕ) (e f : Entry) → Step s a (at_cycle cycle e ∷ []) mid → Step mid b (at_cycle cycle f ∷ []) t
-    → Steps s (a ∷ b ∷ []) (at_cycle cycle e ∷ at_cycle cycle f ∷ []) t
+pub talk_steps : (s mid t : State) (a b : Action) (cycle : ℕ) (e f : Entry) → Transition s a (at_cycle cycle e ∷ []) mid → Transition mid b (at_cycle cycle f ∷ []) t
+    → Transitions s (a ∷ b ∷ []) (at_cycle cycle e ∷ at_cycle cycle f ∷ []) t
 talk_steps s mid t a b cycle e f g h = (at_cycle cycle e ∷ [], at_cycle cycle f ∷ [], mid, g, refl, one_step mid t b (at_cycle cycle f ∷ []) h)
 
 -- the epoch of two entries that are no resets
 abbrev pub IsNoReset : Entry → Type 0
 IsNoReset e = (n : ℕ) → epoch_after n e ≡ n
 
-pub two_epoch : (now : Machine) (s mid t : State) (a b : Action) (cycle : ℕ) (e f : Entry) → IsGood s → Step s a (at_most cycle (Some e)) mid → Step mid b (at_most cycle (Some f)) t
+pub two_epoch : (now : Machine) (s mid t : State) (a b : Action) (cycle : ℕ) (e f : Entry) → IsGood s → Transition s a (at_most cycle (Some e)) mid → Transition mid b (at_most cycle (Some f)) t
     → StandsFor now t → IsNoReset e → IsNoReset f → now.devices.epoch ≡ epoch_of s.account.latest
 two_epoch now s mid t a b cycle e f g first last st plain other =
     let after = step_epoch mid t b (at_most cycle (Some f)) (step_good s a (at_most cycle (Some e)) mid g first) last in
@@ -319,10 +319,10 @@ two_grew s n cycle e f held mid after is plain other first last =
     let Q : ℕ → Type 0 = λ z. Grows mid after (entry_bytes Two (epoch_after z f) (at_cycle cycle f)) in
     subst (λ z. Grows held after (x ++ z)) (sym (append-nil y)) (Grows-Grows held mid after x y (subst P is first) (subst Q (is ∙ sym (plain k)) last))
 
-pub two_front : (s : State) (n cycle : ℕ) (e : Entry) (front : List ℕ) (held mid after : Option (List ℕ)) → n ≡ epoch_of s.account.latest
-    → Grows held mid (entry_bytes Two (epoch_after n e) (at_cycle cycle e)) → Grows mid after front → Grows held after (log_bytes (epoch_of s.account.latest) (at_cycle cycle e ∷ []) ++ front)
-two_front s n cycle e front held mid after is first last =
+pub two_prefix : (s : State) (n cycle : ℕ) (e : Entry) (prefix : List ℕ) (held mid after : Option (List ℕ)) → n ≡ epoch_of s.account.latest
+    → Grows held mid (entry_bytes Two (epoch_after n e) (at_cycle cycle e)) → Grows mid after prefix → Grows held after (log_bytes (epoch_of s.account.latest) (at_cycle cycle e ∷ []) ++ prefix)
+two_prefix s n cycle e prefix held mid after is first last =
     let k : ℕ = epoch_of s.account.latest in
     let x : List ℕ = entry_bytes Two (epoch_after k e) (at_cycle cycle e) in
     let P : ℕ → Type 0 = λ z. Grows held mid (entry_bytes Two (epoch_after z e) (at_cycle cycle e)) in
-    subst (λ z. Grows held after (z ++ front)) (sym (append-nil x)) (Grows-Grows held mid after x front (subst P is first) last)
+    subst (λ z. Grows held after (z ++ prefix)) (sym (append-nil x)) (Grows-Grows held mid after x prefix (subst P is first) last)

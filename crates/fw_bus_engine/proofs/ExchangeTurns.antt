@@ -1,17 +1,43 @@
 -- Two entries of an exchange, one after the other: what was done, and what of it was written.
-use Rattle.fw_bus_engine.proofs.Common.{◌≡◌, ℕ, List, [], ◌∷◌, Option, Some, refl, ap, sym, subst, ◌∙◌, arith, Ok, Err, IsErr, Result, epoch_after, entry_bytes, Two, Entry, Timed, Action, Step, Steps}
+use Rattle.fw_bus_engine.proofs.Common.{
+  ◌≡◌,
+  ℕ,
+  List,
+  [],
+  ◌∷◌,
+  Option,
+  Some,
+  refl,
+  ap,
+  sym,
+  subst,
+  ◌∙◌,
+  arith,
+  Ok,
+  Err,
+  IsErr,
+  Result,
+  epoch_after,
+  entry_bytes,
+  Two,
+  Entry,
+  Timed,
+  Action,
+  Transition,
+  Transitions,
+}
 use Rattle.fw_bus_engine.proofs.Common.{at_cycle, at_most, IsGood, State, epoch_of, Machine, Gives, between, StandsFor, Performs, Performed, TakesTwoActions}
 use Rattle.fw_bus_engine.specs.Exchanging.{GivesBoth, CutOff, Second}
-use Rattle.fw_bus_engine.proofs.Doings.{IsNoReset, does_as, faults_then, one_step, talk_steps, two_epoch, two_front, two_grew}
+use Rattle.fw_bus_engine.proofs.Doings.{IsNoReset, does_as, faults_then, one_step, talk_steps, two_epoch, two_prefix, two_grew}
 
 -- ---- two entries, of actions that the state decides
 
 pub record Exchanges (P : State → Action → Action → Type 0) (m now : Machine) (cycle : ℕ) (e f : Entry) : Type 0 where
   pub shown : (s : State) → IsGood s → StandsFor m s
-      → (x y : Action) × P s x y × (mid t : State) × Step s x (at_most cycle (Some e)) mid × Step mid y (at_most cycle (Some f)) t × StandsFor now t
+      → (x y : Action) × P s x y × (mid t : State) × Transition s x (at_most cycle (Some e)) mid × Transition mid y (at_most cycle (Some f)) t × StandsFor now t
 
 abbrev pub Exchanged : (State → Action → Action → Type 0) → State → List Action → List Timed → State → Type 0
-Exchanged P s ys out t = (x y : Action) × P s x y × (ys ≡ x ∷ y ∷ []) × Steps s (x ∷ y ∷ []) out t
+Exchanged P s ys out t = (x y : Action) × P s x y × (ys ≡ x ∷ y ∷ []) × Transitions s (x ∷ y ∷ []) out t
 
 does_exchanged : {T E U F : Type 0} {P : State → Action → Action → Type 0} {m now : Machine} {held after : Option (List ℕ)} {k l n : ℕ} {u : T} (mid : Option (List ℕ)) (e f : Entry) (r : Result U F)
     → Exchanges P m now now.cycle e f → IsNoReset e → IsNoReset f → Gives {T = T} {E = E} now e (between held mid k l) (Ok u) → Gives now f (between mid after l n) r
@@ -41,11 +67,11 @@ does_exchanged {now = now} {held = held} {after} {k} {l} {n} mid e f (Err w) tal
     next = at_cycle now.cycle f;
     state = z.4;
     steps = both;
-    front = given.bytes.front;
+    prefix = given.bytes.prefix;
     rest = given.bytes.rest;
     parts = ap (λ (n : ℕ). entry_bytes Two (epoch_after n f) (at_cycle now.cycle f)) (plain (epoch_of s.account.latest) ∙ sym (two_epoch now s z.3 z.4 z.0 z.1 now.cycle e f g z.5 z.6 z.7 plain other))
         ∙ given.bytes.parts;
-    appended = two_front s now.devices.epoch now.cycle e given.bytes.front held mid after (two_epoch now s z.3 z.4 z.0 z.1 now.cycle e f g z.5 z.6 z.7 plain other) gives.bytes given.bytes.appended;
+    appended = two_prefix s now.devices.epoch now.cycle e given.bytes.prefix held mid after (two_epoch now s z.3 z.4 z.0 z.1 now.cycle e f g z.5 z.6 z.7 plain other) gives.bytes given.bytes.appended;
   };
 }
 
@@ -67,7 +93,7 @@ does_unexchanged {now = now} e f (Err w) (Err v) talk plain other is was gives =
     next = at_cycle now.cycle e;
     state = z.3;
     steps = one_step s z.3 z.0 (at_cycle now.cycle e ∷ []) z.5;
-    front = gives.bytes.front;
+    prefix = gives.bytes.prefix;
     rest = gives.bytes.rest;
     parts = ap (λ (n : ℕ). entry_bytes Two (epoch_after n e) (at_cycle now.cycle e)) (sym (two_epoch now s z.3 z.4 z.0 z.1 now.cycle e f g z.5 z.6 z.7 plain other)) ∙ gives.bytes.parts;
     appended = gives.bytes.appended;
@@ -91,7 +117,7 @@ talks_are {a} {b} talk = record { shown = λ s g st. let x = talk.shown s g st i
 are_acts : (a b : Action) (s : State) (ys : List Action) (out : List Timed) (t : State) → Exchanged (Are a b) s ys out t → Performs (a ∷ b ∷ []) s ys out t
 are_acts a b s ys out t z =
     let same : z.0 ∷ z.1 ∷ [] ≡ a ∷ b ∷ [] = λ i. z.2.0 i ∷ z.2.1 i ∷ [] in
-    (z.3 ∙ same, subst (λ xs. Steps s xs out t) same z.4)
+    (z.3 ∙ same, subst (λ xs. Transitions s xs out t) same z.4)
 
 pub does_talks : {T E : Type 0} {a b : Action} {m now : Machine} {held after : Option (List ℕ)} {k n : ℕ} {e f : Entry} (r : Result T E)
     → TakesTwoActions a b m now now.cycle e f → IsNoReset e → IsNoReset f → GivesBoth now e f (between held after k n) r → Performed (Performs (a ∷ b ∷ [])) m now (between held after k n) r

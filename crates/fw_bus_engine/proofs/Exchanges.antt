@@ -1,61 +1,51 @@
--- A request that stands, the node that it went to, and the reply that its response carries.
+-- An outstanding request, the node that it went to, and the reply that its response carries.
 use Rattle.fw_bus_engine.proofs.Common.{◌≡◌, ◌&&◌, Bool, ℕ, ◌<◌, ◌^◌, length, true, Option, Some, None, is_some}
-use Rattle.fw_bus_engine.proofs.Common.{unwrap_or, refl, ap, sym, subst, ◌∙◌, arith, IsTrue, same_Some, none-some, has_link, Head}
-use Rattle.fw_bus_engine.proofs.Common.{Packet, Request, ResetEntry, Current, Nothing, Asking, Hearing, Overtaken}
+use Rattle.fw_bus_engine.proofs.Common.{refl, ap, sym, subst, ◌∙◌, arith, IsTrue, same_Some, has_link, Head}
+use Rattle.fw_bus_engine.proofs.Common.{Packet, ResetEntry, Current, Nothing, Asking, Hearing, Overtaken}
 use Rattle.fw_bus_engine.proofs.Common.{Stage, Access, Target, ControllerState, standing_in, addressee_of, request_at, stands}
-use Rattle.fw_bus_engine.proofs.Common.{packet_of, request_in, reply_in, kind_at, kinds_of, is_node, node_at, node_device, State, number_in, device_in, directory_of, is_linked, is_living, manager_in}
-use Rattle.fw_bus_engine.proofs.Common.{IsGood, IsLatest, half_hears, Awaits, stands_here, state_same, Machine, IsNodeAt, StandsFor, is_linked_in, is_living_in, states_of, linked_same, living_same}
+use Rattle.fw_bus_engine.proofs.Common.{packet_of, reply_in, kind_at, kinds_of, is_node, node_device, State, number_in, directory_of, is_linked, is_living, manager_in}
+use Rattle.fw_bus_engine.proofs.Common.{IsGood, IsLatest, half_hears, Awaits, stands_here, state_same, Machine, StandsFor, is_linked_in, is_living_in, states_of, linked_same, living_same}
 use Rattle.fw_bus_engine.proofs.Common.{on_within}
 use Rattle.std.proofs.lemmas.Nat.{from_be_bytes-to_be_bytes_4}
-use Rattle.fw_csr.specs.declared.register.Register.{Register}
-use Rattle.fw_csr.specs.declared.register.Register.TheVariants.{ReadOnly, ReadSwap, WriteOnly}
-use Rattle.fw_csr.specs.declared.request.Request.TheVariants as Asks
+use Rattle.fw_csr.specs.declared.register.RegisterAccess.{RegisterAccess}
+use Rattle.fw_csr.specs.declared.register.RegisterAccess.TheVariants.{ReadOnly, ReadSwap, WriteOnly}
 use Rattle.fw_words.specs.declared.swap.Swap.{Swap}
 use Rattle.fw_csr.specs.Replies.{reply}
-use Rattle.fw_cmp.specs.declared.job.Job.{Job}
-use Rattle.fw_cmp.specs.declared.request.Target.TheVariants as target
+use Rattle.fw_cmp_jobs.specs.declared.job.Job.{Job}
+use Rattle.fw_cmp_jobs.specs.declared.request.Target.TheVariants as target
 use Rattle.fw_cmp.specs.Controllers.{IsStanding, CurrentFits, RunsFitting}
-use Rattle.fw_cmp.specs.Nodes as Told
+use Rattle.fw_cmp_jobs.specs.Nodes as Told
 use Rattle.fw_model_controllers.specs.Controllers.{IsDirectory}
 use Rattle.fw_model_controllers.specs.Requests.{IsDevice}
 use Rattle.fw_model_controllers.proofs.Addressees.{target_is, number_at}
 use Rattle.fw_model_controllers.proofs.Leads.{target_register}
 use Rattle.fw_node.specs.Packets.{response_to, old_value, old_bytes}
-use Rattle.fw_devices.specs.Network.{no_entry}
 use Rattle.fw_model_run.proofs.Directories.{told, node_told}
 use Rattle.fw_model_run.proofs.Hears.{Heard, heard_of, access_heard}
 use Rattle.fw_model_run.proofs.Responses.{heard_node}
 use Rattle.fw_model_run.proofs.Words.{device_of_number}
 use Rattle.fw_tree.proofs.ReachLaws.{sound_made}
 use Rattle.fw_bus_engine.proofs.Places.{HasTarget, Addresses}
+use Rattle.fw_bus_engine.proofs.Responder.{device_there}
 use Rattle.fw_bus_state.proofs.Latest.{numbers_apart}
-use Rattle.fw_bus_state.specs.Stands.{seen}
 
 -- ---- the reply in a response
 
--- a packet that asks a request asks it
-pub asks_request : (h : Head) (q : Request) → request_in (packet_of h q) ≡ Some q
-asks_request h (Asks.Read offset) = refl
-asks_request h (Asks.ReadBlock offset len) = refl
-asks_request h (Asks.Write offset value) = refl
-asks_request h (Asks.WriteBlock offset bytes) = refl
-asks_request h (Asks.Lock offset function bytes) = refl
-
 -- the reply of a register to a read or a compare_swap of a quadlet comes back from its response
-pub carried : (n : ℕ) (h : Head) (offset : ℕ) (w : Option Swap) (o : Option Register) (p : Packet)
+pub carried : (n : ℕ) (h : Head) (offset : ℕ) (w : Option Swap) (o : Option RegisterAccess) (p : Packet)
     → ((reply o (request_at offset w)).rcode ≡ 0 → (reply o (request_at offset w)).value < 2 ^ 32)
     → response_to n (packet_of h (request_at offset w)) (reply o (request_at offset w)) ≡ Some p → reply_in p ≡ Some (reply o (request_at offset w))
 carried n h offset None o p low is = subst (λ z. reply_in z ≡ Some (reply o (request_at offset None))) (same_Some _ p is) refl
 carried n h offset (Some x) o p low is = subst (λ z. reply_in z ≡ Some (reply o (request_at offset (Some x)))) (same_Some _ p is) (go o low)
   where
-    go : (o : Option Register) → ((reply o (request_at offset (Some x))).rcode ≡ 0 → (reply o (request_at offset (Some x))).value < 2 ^ 32)
+    go : (o : Option RegisterAccess) → ((reply o (request_at offset (Some x))).rcode ≡ 0 → (reply o (request_at offset (Some x))).value < 2 ^ 32)
         → old_value (reply o (request_at offset (Some x))).rcode (old_bytes (reply o (request_at offset (Some x)))) ≡ Some (reply o (request_at offset (Some x)))
     go None low = refl
     go (Some (ReadOnly word)) low = refl
     go (Some WriteOnly) low = refl
     go (Some (ReadSwap word)) low = ap (λ v. Some (record { rcode = 0; value = v })) (from_be_bytes-to_be_bytes_4 word (low refl))
 
--- ---- the request that stands
+-- ---- the outstanding request
 
 -- the node that it went to is the target, and the controller hears its reply
 pub record Exchange (m : Machine) (s : State) (d : ℕ) (a : Access) (to device : ℕ) : Type 0 where
@@ -75,7 +65,7 @@ pub record Standing (m : Machine) (s : State) (d : ℕ) (a : Access) : Type 0 wh
   pub heard : Heard s d job stage
   pub access : a ≡ access_heard s d job stage heard
 
--- if a request stands, by the machine
+-- if a request is outstanding, by the machine
 pub standing_of : (m : Machine) (s : State) (d : ℕ) (a : Access) → IsGood s → StandsFor m s → IsTrue (is_living_in m d)
     → Awaits (states_of m.controllers d) → Some a ≡ standing_in (states_of m.controllers d).state.current → Standing m s d a
 standing_of m s d a g st lives stands asks =
@@ -97,18 +87,12 @@ pub addressee_is : (m : Machine) (s : State) (d : ℕ) (a : Access) → StandsFo
     → addressee_of m.directory a.target ≡ Some x.heard.to
 addressee_is m s d a st x = (λ i. addressee_of (st.directory i) (x.access i).target) ∙ x.heard.goes
 
--- the device that the latest entry has at a node
-pub device_at_node : (m : Machine) (s : State) (e : ResetEntry) (n : ℕ) → StandsFor m s → s.account.latest ≡ Some e
-    → node_device m.devices.latest.nodes n ≡ device_in s.account.latest n
-device_at_node m s e n st is =
-    ap (λ (x : ResetEntry). node_device x.nodes n) (st.devices.latest ∙ ap (λ o. unwrap_or o no_entry) is) ∙ sym (ap (λ o. device_in o n) is)
-
 -- the device of its node
 pub device_is : (m : Machine) (s : State) (d : ℕ) (a : Access) → IsGood s → StandsFor m s → (x : Standing m s d a)
     → (device : ℕ) × (node_device m.devices.latest.nodes x.heard.to ≡ Some device) × (number_in s.account.latest device ≡ Some x.heard.to)
 device_is m s d a g st x =
     let w = heard_node s d x.job x.stage g x.heard in
-    (w.device, device_at_node m s x.heard.entry x.heard.to st x.heard.is ∙ device_of_number s w.device x.heard.to g w.number, w.number)
+    (w.device, device_there m s x.heard.to w.device st (device_of_number s w.device x.heard.to g w.number), w.number)
 
 -- so the request went to that node, by the run
 pub exchange_of : (m : Machine) (s : State) (d : ℕ) (a : Access) (to device : ℕ) → IsGood s → StandsFor m s → Standing m s d a
@@ -126,16 +110,6 @@ exchange_of m s d a to device g st x goes at =
       to_is = to_is;
       number = ap (number_in s.account.latest) same ∙ (w.2 ∙ ap (λ n. Some n) (sym to_is));
     }
-
--- ---- what cannot be: no addressee, and no device at its node
-
--- the latest entry has its device
-pub no_device : (m : Machine) (s : State) (d : ℕ) (a : Access) (to : ℕ) → IsGood s → StandsFor m s → Standing m s d a
-    → Some to ≡ addressee_of m.directory a.target → None ≡ node_device m.devices.latest.nodes to → ⊥
-no_device m s d a to g st x goes e =
-    let to_is : to ≡ x.heard.to = same_Some to x.heard.to (goes ∙ addressee_is m s d a st x) in
-    let w = device_is m s d a g st x in
-    none-some w.0 (e ∙ (ap (node_device m.devices.latest.nodes) to_is ∙ w.1))
 
 -- ---- its node
 
@@ -193,7 +167,7 @@ both_second : (a b : Bool) → (a && b) ≡ true → b ≡ true
 both_second a b e = grind (arith, e)
 
 -- it has a link
-exchange_kind : (m : Machine) (s : State) (d : ℕ) (a : Access) (to device : ℕ) → IsGood s → StandsFor m s
+pub exchange_kind : (m : Machine) (s : State) (d : ℕ) (a : Access) (to device : ℕ) → IsGood s → StandsFor m s
     → (x : Exchange m s d a to device) → IsTrue (has_link (kind_at s.declared.kinds device))
 exchange_kind m s d a to device g st x =
     go x.heard.target
@@ -219,10 +193,3 @@ exchange_kind m s d a to device g st x =
     go (target.InputPlug p) e has = linked p.device e has
     go (target.Channels base) e has = manager has
     go target.BandwidthAvailable e has = manager has
-
--- so its node answers
-pub exchange_linked : (m : Machine) (s : State) (d : ℕ) (a : Access) (to device : ℕ) → IsGood s → StandsFor m s
-    → (x : Exchange m s d a to device) → IsTrue (has_link (node_at m.devices.nodes device).kind)
-exchange_linked m s d a to device g st x =
-    let here = subst (λ o. IsNodeAt o (seen s) device (node_at m.devices.nodes device)) x.number (st.devices.nodes.each device (exchange_within m s d a to device g st x)) in
-    subst (λ k. has_link k ≡ true) (sym here.kind) (exchange_kind m s d a to device g st x)

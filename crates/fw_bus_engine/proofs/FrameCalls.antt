@@ -14,7 +14,8 @@ use Rattle.fw_model_run.specs.Frames.{next_told}
 use Rattle.fw_model_run.proofs.Units.{addressed}
 use Rattle.fw_bus_engine.specs.Framing.{IsFrameTo, frames_of}
 use Rattle.fw_bus_engine.proofs.FrameNodes.{with_decks}
-use Rattle.fw_bus_engine.proofs.FrameTurns.{AnswersBy, Telling, decks_sent, device_there, frame_talks, next_is, sent_good, taken_of, taken_stands, told_by}
+use Rattle.fw_bus_engine.proofs.Responder.{AnswersBy, device_there}
+use Rattle.fw_bus_engine.proofs.FrameTurns.{Telling, decks_sent, frame_talks, next_is, sent_good, taken_of, taken_stands, told_by}
 use Rattle.fw_bus_state.proofs.Nodes.{node_has}
 use Rattle.fw_bus_engine.proofs.Sending.{frames_fewer}
 

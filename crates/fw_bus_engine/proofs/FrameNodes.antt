@@ -1,33 +1,26 @@
 -- What nodes keep as frames go between them and tapes go in and out: only units change, and responses that wait.
-use Rattle.fw_bus_engine.proofs.Common.{◌≡◌, ◌≢◌, ◌⊎◌, inl, inr, ℕ, zero, suc, ◌+◌, ◌*◌, ◌<◌, List, [], ◌∷◌}
-use Rattle.fw_bus_engine.proofs.Common.{length, slice_set, Bool, true, false, cond, ◌==◌, Option, Some, None, option_map, refl, ap, sym}
-use Rattle.fw_bus_engine.proofs.Common.{subst, ◌∙◌, arith, IsTrue, cases_eq, get_or-set_other, get_or-set_same, length-set, DeviceKind}
-use Rattle.fw_bus_engine.proofs.Common.{Relay, Head, Packet, after_at, Request, Frame, node_of, packet_of}
-use Rattle.fw_bus_engine.proofs.Common.{response_of, NodeState, space_of, after_request, kinds_of, node_at, DeckState, IsGood}
-use Rattle.fw_bus_engine.proofs.Common.{space_at, is_manager, State, number_in, device_in, is_on, Machine}
-use Rattle.fw_bus_engine.proofs.Common.{HasLingering, IsNodeAt, HasNodes, HasDecks, StandsFor, on_within, HasHearers}
+use Rattle.fw_bus_engine.proofs.Common.{◌≡◌, ◌≢◌, ◌⊎◌, inl, inr, ℕ, ◌+◌, ◌*◌, ◌<◌, List}
+use Rattle.fw_bus_engine.proofs.Common.{length, slice_set, Bool, true, false, cond, ◌==◌, Option, Some, None, refl, ap, sym}
+use Rattle.fw_bus_engine.proofs.Common.{subst, ◌∙◌, arith, IsTrue, cases_eq, get_or-set_other, get_or-set_same, length-set}
+use Rattle.fw_bus_engine.proofs.Common.{Relay, after_at, Frame, node_of}
+use Rattle.fw_bus_engine.proofs.Common.{NodeState, after_request, node_at, DeckState, IsGood}
+use Rattle.fw_bus_engine.proofs.Common.{State, number_in, is_on, Machine}
+use Rattle.fw_bus_engine.proofs.Common.{HasLingering, IsNodeAt, HasNodes, HasDecks, StandsFor, HasHearers}
 use Rattle.fw_csr.specs.Manager.{ManagerWords, words_after}
 use Rattle.fw_tape.specs.declared.cassette.Cassette.{Cassette}
 use Rattle.fw_node.specs.Fcp.{after_frame}
-use Rattle.fw_node.specs.Packets.{response_with}
-use Rattle.fw_node.specs.Space.{space_after}
-use Rattle.fw_node.specs.State.{HasSpace}
 use Rattle.fw_node.specs.State as Nodes
-use Rattle.fw_node.proofs.Spaces.{space_kept}
 use Rattle.fw_devices.specs.Decks.{with_tape}
-use Rattle.fw_model_run.specs.Spaces.{answer_packet, manager_words}
+use Rattle.fw_model_run.specs.Spaces.{manager_words}
 use Rattle.fw_model_run.proofs.FrameWrites.{write_by}
 use Rattle.fw_bus_state.specs.Lingering.{LingersAs}
-use Rattle.fw_bus_engine.proofs.Asked.{device_of_number, nodes_set}
-use Rattle.fw_bus_state.proofs.DeckNodes.{decks_requested}
-use Rattle.fw_bus_engine.proofs.Exchanges.{asks_request}
+use Rattle.fw_bus_engine.proofs.Responder.{FollowsRequest, devices_follow, kinds_set, nodes_set}
 use Rattle.fw_bus_state.proofs.Latest.{on_number}
-use Rattle.fw_bus_state.proofs.Lingers.{lingers_kept, requested, unchanged_same}
-use Rattle.fw_bus_state.proofs.Nodes.{node_has, node_kept, node_seen, response_by_space, space_as}
-use Rattle.std.specs.Prelude.{unwrap_or}
+use Rattle.fw_bus_state.proofs.Lingers.{lingers_kept, unchanged_same}
+use Rattle.fw_bus_state.proofs.Nodes.{node_kept}
 use Rattle.fw_bus_state.specs.Reels.{HearsAs}
-use Rattle.fw_bus_state.proofs.Hearing.{hears_kept, asked_hears, hear_same}
-use Rattle.fw_bus_state.specs.Stands.{seen, space_seen}
+use Rattle.fw_bus_state.proofs.Hearing.{hears_kept, hear_same}
+use Rattle.fw_bus_state.specs.Stands.{seen}
 
 -- the machine with another node for a device
 abbrev pub with_node : Machine → ℕ → NodeState → Machine
@@ -38,11 +31,6 @@ abbrev pub with_decks : State → (ℕ → DeckState) → State
 with_decks s f = record s { decks = f; frame = None }
 
 -- ---- one node has another unit, or another response that waits
-
-pub kinds_set_node : (nodes : List NodeState) (d : ℕ) (n : NodeState) → n.kind ≡ (node_at nodes d).kind → kinds_of (slice_set nodes d n) ≡ kinds_of nodes
-kinds_set_node [] d n same = refl
-kinds_set_node (x ∷ nodes) zero n same = ap (λ (k : DeviceKind). k ∷ kinds_of nodes) same
-kinds_set_node (x ∷ nodes) (suc d) n same = ap (λ (ks : List DeviceKind). x.kind ∷ ks) (kinds_set_node nodes d n same)
 
 lingering_set : (nodes : List NodeState) (s : State) (d : ℕ) (n : NodeState) → d < length nodes → n.plugs ≡ (node_at nodes d).plugs → HasLingering nodes s.account.continues
     → HasLingering (slice_set nodes d n) s.account.continues
@@ -77,7 +65,7 @@ deck_stands m s f d n st low keeps rests decks = record {
   devices = record {
     topology = st.devices.topology;
     names = st.devices.names;
-    kinds = kinds_set_node m.devices.nodes d n (ap (λ (x : NodeState). x.kind) keeps) ∙ st.devices.kinds;
+    kinds = kinds_set m.devices.nodes d n (ap (λ (x : NodeState). x.kind) keeps) ∙ st.devices.kinds;
     nodes = stays (nodes_set m.devices.nodes s s d n st.devices.nodes refl low here (λ c ne lt. st.devices.nodes.each c lt));
     lingering = record { each = (lingering_set m.devices.nodes s d n low (ap (λ (x : NodeState). x.plugs) keeps) st.devices.lingering).each };
     decks = decks;
@@ -160,48 +148,30 @@ words_leave b offset bytes w =
     let low = write_leaves b offset 0xFFFF_F000_0228 w.channels_available_lo bytes in
     λ i. record { bus_manager_id = id i; bandwidth_available = units i; channels_available_hi = high i; channels_available_lo = low i; withheld = w.withheld }
 
-written_here : (s : State) (d number : ℕ) (n : NodeState) (b : Bool) (offset : ℕ) (bytes : List ℕ) → HasSpace n (space_seen (seen s) d number)
-    → HasSpace (after_request (Some (write_by b offset bytes)) n) (space_seen (seen s) d number)
-written_here s d number n b offset bytes h =
-    let r = write_by b offset bytes in
-    space_as (after_request (Some r) n) (space_after (space_seen (seen s) d number) r) (space_seen (seen s) d number) (space_kept n (space_seen (seen s) d number) r h) refl refl refl refl
-    (λ k lt. sym (write_leaves b offset (0xFFFF_F000_0904 + 4 * k) _ bytes)) (λ k lt. sym (write_leaves b offset (0xFFFF_F000_0984 + 4 * k) _ bytes))
-    (go (is_manager s.account.latest number))
-  where
-    go : (c : Bool) → cond c (Some (manager_words s)) None ≡ option_map (λ w. words_after w (write_by b offset bytes)) (cond c (Some (manager_words s)) None)
-    go true = ap (λ w. Some w) (sym (words_leave b offset bytes (manager_words s)))
-    go false = refl
+-- so of all that devices keep nothing changes
+frame_follows : (s : State) (d n : ℕ) (b : Bool) (offset : ℕ) (bytes : List ℕ) → number_in s.account.latest d ≡ Some n → FollowsRequest s s d n (write_by b offset bytes)
+frame_follows s d n b offset bytes place = record {
+  place = place;
+  declared = refl;
+  decks = refl;
+  latest = refl;
+  withheld = refl;
+  outputs = λ k lt. sym (write_leaves b offset (0xFFFF_F000_0904 + 4 * k) _ bytes);
+  inputs = λ k lt. sym (write_leaves b offset (0xFFFF_F000_0984 + 4 * k) _ bytes);
+  manager = λ own. sym (words_leave b offset bytes (manager_words s));
+  other_outputs = λ c k ne. refl;
+  other_inputs = λ c k ne. refl;
+  other_manager = λ k ne own. refl;
+  linger = unchanged_same s.account;
+  hear = hear_same s s refl (λ p. refl);
+}
 
--- the node that a frame is written to, and all others
-pub written_nodes : (nodes : List NodeState) (s : State) (d : ℕ) (b : Bool) (offset : ℕ) (bytes : List ℕ) → IsGood s → HasNodes nodes (seen s) → IsTrue (is_on s d)
-    → HasNodes (slice_set nodes d (after_request (Some (write_by b offset bytes)) (node_at nodes d))) (seen s)
-written_nodes nodes s d b offset bytes g h on =
-    let number = on_number s d on in
-    let here = written_here s d (node_of s.account.latest d) (node_at nodes d) b offset bytes (node_seen nodes s d h g on) in
-    let Q : Option ℕ → Type 0 = λ o. IsNodeAt o (seen s) d (after_request (Some (write_by b offset bytes)) (node_at nodes d)) in
-    nodes_set nodes s s d _ h refl (on_within nodes s d h g on) (subst Q (sym number) here) (λ c ne lt. h.each c lt)
-
-pub kinds_written : (nodes : List NodeState) (d : ℕ) (o : Option Request) → (after_request o (node_at nodes d)).kind ≡ (node_at nodes d).kind
-kinds_written nodes d None = refl
-kinds_written nodes d (Some r) = refl
-
--- the machine stands for what it stood for
+-- and the machine stands for what it stood for
 pub written_stands : (m : Machine) (s : State) (d : ℕ) (b : Bool) (offset : ℕ) (bytes : List ℕ) → IsGood s → StandsFor m s → IsTrue (is_on s d)
     → StandsFor (with_node m d (after_request (Some (write_by b offset bytes)) (node_at m.devices.nodes d))) s
 written_stands m s d b offset bytes g st on = record {
-  devices = record {
-    topology = st.devices.topology;
-    names = st.devices.names;
-    kinds = kinds_set_node m.devices.nodes d _ (kinds_written m.devices.nodes d r) ∙ st.devices.kinds;
-    nodes = nodes;
-    lingering = requested m.devices.nodes s s d r g st.devices.nodes nodes low refl (unchanged_same s.account) st.devices.lingering;
-    decks = decks_requested m.devices.nodes s d r low st.devices.decks;
-    hearers = asked_hears m.devices.nodes s s d r st.around.hearing st.devices.nodes nodes low refl (hear_same s s refl (λ p. refl)) st.devices.hearers;
-    latest = st.devices.latest;
-    epoch = st.devices.epoch;
-    manager = st.devices.manager;
-    withheld = st.devices.withheld;
-  };
+  devices = devices_follow m.devices s s d (node_of s.account.latest d) (write_by b offset bytes) g st.around.hearing st.devices
+      (frame_follows s d (node_of s.account.latest d) b offset bytes (on_number s d on));
   clock = st.clock;
   table = st.table;
   directory = st.directory;
@@ -214,24 +184,3 @@ written_stands m s d b offset bytes g st on = record {
   reel = st.reel;
   around = st.around;
 }
-  where
-    r : Option Request
-    r = Some (write_by b offset bytes)
-
-    low : d < length m.devices.nodes
-    low = on_within m.devices.nodes s d st.devices.nodes g on
-
-    nodes : HasNodes (slice_set m.devices.nodes d (after_request r (node_at m.devices.nodes d))) (seen s)
-    nodes = written_nodes m.devices.nodes s d b offset bytes g st.devices.nodes on
-
--- the packet by which the node answers is that of the run
-pub answers_request : (s : State) (nodes : List NodeState) (d : ℕ) (h : Head) (q : Request) → IsGood s → HasNodes nodes (seen s) → IsTrue (is_on s d) → (p : Packet)
-    → response_of (space_of (node_of s.account.latest d) s.clock.cycle (node_at nodes d)) (packet_of h q) ≡ Some p
-    → answer_packet s (node_of s.account.latest d) h q ≡ Some p
-answers_request s nodes d h q g at on p answer =
-    let n = node_of s.account.latest d in
-    let device : device_in s.account.latest n ≡ Some d = device_of_number s d n g (on_number s d on) in
-    let same : response_of (space_at s d n) (packet_of h q) ≡ Some p =
-    sym (response_by_space (node_at nodes d) (space_at s d n) (node_has nodes s d at g on) (packet_of h q)) ∙ answer in
-    ap (λ o. response_with (space_at s (unwrap_or o 0) n) (packet_of h q) (Some q)) device
-    ∙ (ap (response_with (space_at s d n) (packet_of h q)) (sym (asks_request h q)) ∙ same)

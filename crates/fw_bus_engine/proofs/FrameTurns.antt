@@ -1,6 +1,6 @@
 -- Frames that decks send: of the machine and of the run.
-use Rattle.fw_bus_engine.proofs.Common.{◌≡◌, ℕ, ◌<◌, length, slice_set, ◌==◌, Option, Some, None, refl, ap, sym, subst, ◌∙◌, arith, same_Some, update, Packet, Async, Frame, node_of, request_in}
-use Rattle.fw_bus_engine.proofs.Common.{response_of, NodeState, after_request, space_of, ResetEntry, node_device, node_at, Receive, Step, DeckState, at_most, IsGood, State, device_in, update_new}
+use Rattle.fw_bus_engine.proofs.Common.{◌≡◌, ℕ, ◌<◌, length, slice_set, ◌==◌, Some, None, refl, ap, sym, subst, ◌∙◌, arith, same_Some, update, Packet, Async, Frame, node_of, request_in}
+use Rattle.fw_bus_engine.proofs.Common.{NodeState, after_request, node_device, node_at, Receive, Transition, DeckState, at_most, IsGood, State, update_new}
 use Rattle.fw_bus_engine.proofs.Common.{update_others, Machine, TakesTwoActions, HasDecks, StandsFor, linked_on, node_number_is}
 use Rattle.fw_fcp.specs.Frames.{spelling}
 use Rattle.fw_node.specs.Fcp.{number_of}
@@ -14,8 +14,9 @@ use Rattle.fw_model_run.proofs.Framing.{send_good, with_frame_good}
 use Rattle.fw_model_run.proofs.SendsAll.{response_no_command}
 use Rattle.fw_model_run.proofs.Units.{addressed, frame_kept, packet_same, sent_kept, quiet_kept}
 use Rattle.fw_bus_state.proofs.DeckNodes.{decks_set}
-use Rattle.fw_bus_engine.proofs.Exchanges.{asks_request, device_at_node}
-use Rattle.fw_bus_engine.proofs.FrameNodes.{with_node, with_decks, deck_stands, frame_registers, frame_waits, written_stands, answers_request}
+use Rattle.fw_bus_engine.proofs.Responder.{AnswersBy, asks_request, device_there, response_is}
+use Rattle.fw_bus_state.proofs.Latest.{on_number}
+use Rattle.fw_bus_engine.proofs.FrameNodes.{with_node, with_decks, deck_stands, frame_registers, frame_waits, written_stands}
 
 -- ---- the next frame
 
@@ -67,31 +68,11 @@ pub sent_good : (s : State) (d : ℕ) (told : ℕ × Frame) → IsGood s → IsA
 sent_good s d told g a next =
     let w : FrameWrite = response_write d a.to told.1 in
     let mid : State = record s { decks = decks_sent s d; frame = Some w } in
-    let good : IsGood mid = send_good s d (at_most s.clock.cycle (Some (Async (frame_packet s w)))) mid g (record {
-      told = told;
-      next = next;
-      on = a.on;
-      to = a.to;
-      addressee = a.addressee;
-      linked = a.linked;
-      out_is = refl;
-      state_is = refl;
-    }) in
+    let good : IsGood mid =
+    send_good s d (record { node = told.0; frame = told.1; to = a.to }) g (record { next = next; on = a.on; addressee = a.addressee; linked = a.linked }) in
     with_frame_good mid mid.decks None good good.decks
 
--- the device of a node, by the machine and by the run
-pub device_there : (m : Machine) (s : State) (n d : ℕ) → StandsFor m s → device_in s.account.latest n ≡ Some d → node_device m.devices.latest.nodes n ≡ Some d
-device_there m s n d st is = go s.account.latest refl is
-  where
-    go : (o : Option ResetEntry) → s.account.latest ≡ o → device_in o n ≡ Some d → node_device m.devices.latest.nodes n ≡ Some d
-    go None e f = let no : ⊥ = cc f in absurd no
-    go (Some r) e f = device_at_node m s r n st e ∙ (ap (λ o. device_in o n) e ∙ f)
-
 -- ---- a frame goes to its node, which answers
-
--- a node answers a packet in a cycle by this one, whatever number it has
-abbrev pub AnswersBy : ℕ → NodeState → Packet → Packet → Type 0
-AnswersBy cycle n packet response = (number : ℕ) → n.number ≡ Some number → response_of (space_of number cycle n) packet ≡ Some response
 
 -- what the machine did
 pub record Telling (m : Machine) (d to : ℕ) (told : ℕ × Frame) (packet response : Packet) : Type 0 where
@@ -119,8 +100,8 @@ pub frame_talks : (m now : Machine) (d to : ℕ) (told : ℕ × Frame) (packet r
     → TakesTwoActions (SendFrame d) (Receive None) m now m.cycle (Async packet) (Async response)
 frame_talks m now d to told packet response x is = record { shown = shown_ }
   where
-    shown_ : (s : State) → IsGood s → StandsFor m s → (mid t : State) × Step s (SendFrame d) (at_most m.cycle (Some (Async packet))) mid
-        × Step mid (Receive None) (at_most m.cycle (Some (Async response))) t × StandsFor now t
+    shown_ : (s : State) → IsGood s → StandsFor m s → (mid t : State) × Transition s (SendFrame d) (at_most m.cycle (Some (Async packet))) mid
+        × Transition mid (Receive None) (at_most m.cycle (Some (Async response))) t × StandsFor now t
     shown_ s g st =
         let next : next_told s d ≡ Some told = sym (next_is m s d st x.low) ∙ x.next in
         let a = addressed s d told g next in
@@ -133,43 +114,26 @@ frame_talks m now d to told packet response x is = record { shown = shown_ }
         let on = linked_on t a.to a.linked in
         let place : a.to ≡ to = same_Some a.to to (sym (device_there m s told.0 a.to st a.addressee) ∙ x.addressee) in
         let asked : request_in packet ≡ Some (request_of w) = ap request_in same ∙ asks_request (frame_head s w) (request_of w) in
-        let n = node_of s.account.latest a.to in
-        let number = (node_number_is (taken_of m d).devices.nodes t a.to stands.devices.nodes gt on).0 in
-        let answer : response_of (space_of n m.cycle (node_at (taken_of m d).devices.nodes a.to)) packet ≡ Some response =
-        subst (λ k. AnswersBy m.cycle (node_at (taken_of m d).devices.nodes k) packet response) (sym place) x.answers n number in
-        let answered = answers_request t (taken_of m d).devices.nodes a.to (frame_head s w) (request_of w) gt stands.devices.nodes on response
-        (subst (λ p. response_of (space_of n s.clock.cycle (node_at (taken_of m d).devices.nodes a.to)) p ≡ Some response) same
-        (subst (λ c. response_of (space_of n c (node_at (taken_of m d).devices.nodes a.to)) packet ≡ Some response) st.clock.cycle answer)) in
+        let answers = subst (λ k. AnswersBy m.cycle (node_at (taken_of m d).devices.nodes k) packet response) (sym place) x.answers in
+        let answered = response_is (taken_of m d).devices.nodes t m.cycle a.to (node_of s.account.latest a.to) (frame_head s w) (request_of w) packet response gt stands.devices.nodes st.clock.cycle
+        (on_number t a.to on) same answers in
         let after = written_stands (taken_of m d) t a.to (length (spelling told.1) == 4) 0xFFFF_F000_0D00 (spelling told.1) gt stands on in (
           mid,
           t,
-          (
-            st.answered,
-            record {
-              told = told;
-              next = next;
-              on = a.on;
-              to = a.to;
-              addressee = a.addressee;
-              linked = a.linked;
-              out_is = λ i. at_most (st.clock.cycle i) (Some (Async (same i)));
-              state_is = refl;
-            },
-          ),
-          (
-            st.answered,
-            record {
-              write = w;
-              waits = refl;
-              from = a.on;
-              to = a.linked;
-              followed = λ deck f. response_no_command d a.to told.1 f;
-              response = response;
-              answered = answered;
-              out_is = ap (λ c. at_most c (Some (Async response))) st.clock.cycle;
-              state_is = refl;
-            },
-          ),
+          record {
+            found = record { node = told.0; frame = told.1; to = a.to };
+            waits = st.answered;
+            may = record { next = next; on = a.on; addressee = a.addressee; linked = a.linked };
+            out_is = λ i. at_most (st.clock.cycle i) (Some (Async (same i)));
+            state_is = refl;
+          },
+          record {
+            found = record { write = w; response = response };
+            waits = st.answered;
+            may = record { waits = refl; from = a.on; to = a.linked; followed = λ deck f. response_no_command d a.to told.1 f; answered = answered };
+            out_is = ap (λ c. at_most c (Some (Async response))) st.clock.cycle;
+            state_is = refl;
+          },
           subst (λ (z : Machine). StandsFor z t) (sym is)
               (subst (λ k. StandsFor (told_by m d k packet) t) place
               (subst (λ o. StandsFor (with_node (taken_of m d) a.to (after_request o (node_at (taken_of m d).devices.nodes a.to))) t) (sym asked) after)),

@@ -1,15 +1,15 @@
 -- Entries are put together in a room and written with one write: what it means that this is cut off.
 use Rattle.fw_bus_engine.proofs.Common.{◌≡◌, ◌⊎◌, inl, inr, ℕ, ◌<◌, ◌≤◌, List, [], ◌∷◌, ◌++◌, ◌==◌, length, Bool, true, false, Option, refl, ap, sym, subst, ◌∙◌, arith, append_assoc, append-nil}
 use Rattle.fw_bus_engine.proofs.Common.{false≢true, nat_tests, Ok, Err, Result, Timed, epoch_after, entry_bytes, Two}
-use Rattle.fw_bus_engine.proofs.Common.{Action, Steps, DeskRelations, IsGood, State, epoch_of, Machine, CountsFaults, between}
-use Rattle.fw_bus_engine.proofs.Common.{Task, PerformedWithDesk}
+use Rattle.fw_bus_engine.proofs.Common.{Action, Transitions, DeskRelations, IsGood, State, epoch_of, Machine, CountsFaults, between}
+use Rattle.fw_bus_engine.proofs.Common.{Execution, PerformedWithDesk}
 use Rattle.std.proofs.lemmas.Bool.{cases_lt}
-use Rattle.fw_outside.specs.Outside.{AppendsFront, Grows, Writes}
+use Rattle.fw_outside.specs.Outside.{AppendsPrefix, Grows, Writes}
 use Rattle.fw_outside.proofs.Parts.{Grows-Grows}
 use Rattle.fw_log_entry.specs.Log.{latest_epoch}
 use Rattle.fw_model_run.specs.Given.{AreGiven}
 use Rattle.fw_model_run.specs.Giving.{log_bytes}
-use Rattle.fw_model_run.proofs.Along.{steps_front}
+use Rattle.fw_model_run.proofs.Along.{steps_prefix}
 use Rattle.fw_model_run.proofs.Given.{given_append}
 use Rattle.fw_bus_engine.specs.Performing.{CutOff}
 use Rattle.fw_bus_engine.specs.Filling.{FillsBy, Gathers, Passes}
@@ -17,44 +17,44 @@ use Rattle.fw_bus_engine.specs.Filling.{FillsBy, Gathers, Passes}
 -- ---- two ways to part a list
 
 -- the second prefix is within the first
-front_within : (a b f r : List ℕ) → a ++ b ≡ f ++ r → length f ≤ length a → (m : List ℕ) × (a ≡ f ++ m)
-front_within a b [] r e few = (a, refl)
-front_within [] b (x ∷ f) r e few = absurd (omega (arith, few))
-front_within (y ∷ a) b (x ∷ f) r e few =
+prefix_within : (a b f r : List ℕ) → a ++ b ≡ f ++ r → length f ≤ length a → (m : List ℕ) × (a ≡ f ++ m)
+prefix_within a b [] r e few = (a, refl)
+prefix_within [] b (x ∷ f) r e few = absurd (omega (arith, few))
+prefix_within (y ∷ a) b (x ∷ f) r e few =
     let same : y ≡ x = cc in
     let rest : a ++ b ≡ f ++ r = cc in
-    let z = front_within a b f r rest (omega (arith, few)) in
-    let behind = z.1 in
-    (z.0, (λ i. same i ∷ behind i))
+    let z = prefix_within a b f r rest (omega (arith, few)) in
+    let following = z.1 in
+    (z.0, (λ i. same i ∷ following i))
 
 -- it goes past it
-front_past : (a b f r : List ℕ) → a ++ b ≡ f ++ r → length a ≤ length f → (m : List ℕ) × (f ≡ a ++ m) × (b ≡ m ++ r)
-front_past [] b f r e few = (f, refl, e)
-front_past (y ∷ a) b [] r e few = absurd (omega (arith, few))
-front_past (y ∷ a) b (x ∷ f) r e few =
+prefix_past : (a b f r : List ℕ) → a ++ b ≡ f ++ r → length a ≤ length f → (m : List ℕ) × (f ≡ a ++ m) × (b ≡ m ++ r)
+prefix_past [] b f r e few = (f, refl, e)
+prefix_past (y ∷ a) b [] r e few = absurd (omega (arith, few))
+prefix_past (y ∷ a) b (x ∷ f) r e few =
     let same : x ≡ y = cc in
     let rest : a ++ b ≡ f ++ r = cc in
-    let z = front_past a b f r rest (omega (arith, few)) in
-    let behind = z.1 in
-    (z.0, (λ i. same i ∷ behind i), z.2)
+    let z = prefix_past a b f r rest (omega (arith, few)) in
+    let following = z.1 in
+    (z.0, (λ i. same i ∷ following i), z.2)
 
 -- ---- a prefix of the bytes of entries
 
 -- the first entries, and a prefix of the next one, are these bytes, if this is the epoch of the latest reset
-record Front (n : ℕ) (out : List Timed) (f : List ℕ) : Type 0 where
+record Prefix (n : ℕ) (out : List Timed) (f : List ℕ) : Type 0 where
   given : List Timed
   next : Timed
   more : List Timed
   all : out ≡ (given ++ next ∷ []) ++ more
-  front : List ℕ
+  prefix : List ℕ
   rest : List ℕ
-  parts : entry_bytes Two (epoch_after (latest_epoch n given) next.what) next ≡ front ++ rest
-  is : f ≡ log_bytes n given ++ front
+  parts : entry_bytes Two (epoch_after (latest_epoch n given) next.what) next ≡ prefix ++ rest
+  is : f ≡ log_bytes n given ++ prefix
 
 -- a prefix of the bytes of an entry and of those after it: of those it is known what their prefixes are
-front_one : (n : ℕ) (e x : Timed) (es : List Timed) (f rest : List ℕ) → log_bytes n (e ∷ x ∷ es) ≡ f ++ rest
-    → ((g : List ℕ) → log_bytes (epoch_after n e.what) (x ∷ es) ≡ g ++ rest → Front (epoch_after n e.what) (x ∷ es) g) → Front n (e ∷ x ∷ es) f
-front_one n e x es f rest is behind = go (cases_lt (length first) (length f))
+prefix_one : (n : ℕ) (e x : Timed) (es : List Timed) (f rest : List ℕ) → log_bytes n (e ∷ x ∷ es) ≡ f ++ rest
+    → ((g : List ℕ) → log_bytes (epoch_after n e.what) (x ∷ es) ≡ g ++ rest → Prefix (epoch_after n e.what) (x ∷ es) g) → Prefix n (e ∷ x ∷ es) f
+prefix_one n e x es f rest is following = go (cases_lt (length first) (length f))
   where
     after : ℕ
     after = epoch_after n e.what
@@ -62,60 +62,60 @@ front_one n e x es f rest is behind = go (cases_lt (length first) (length f))
     first : List ℕ
     first = entry_bytes Two after e
 
-    go : (length first < length f) ⊎ (length f ≤ length first) → Front n (e ∷ x ∷ es) f
+    go : (length first < length f) ⊎ (length f ≤ length first) → Prefix n (e ∷ x ∷ es) f
     go (inl more) =
-        let z = front_past first (log_bytes after (x ∷ es)) f rest is (omega (arith, more)) in
-        let w = behind z.0 z.2 in record {
+        let z = prefix_past first (log_bytes after (x ∷ es)) f rest is (omega (arith, more)) in
+        let w = following z.0 z.2 in record {
           given = e ∷ w.given;
           next = w.next;
           more = w.more;
           all = ap (λ ts. e ∷ ts) w.all;
-          front = w.front;
+          prefix = w.prefix;
           rest = w.rest;
           parts = w.parts;
-          is = z.1 ∙ (ap (λ l. first ++ l) w.is ∙ sym (append_assoc first (log_bytes after w.given) w.front));
+          is = z.1 ∙ (ap (λ l. first ++ l) w.is ∙ sym (append_assoc first (log_bytes after w.given) w.prefix));
         }
     go (inr few) =
-        let z = front_within first (log_bytes after (x ∷ es)) f rest is few in
-        record { given = []; next = e; more = x ∷ es; all = refl; front = f; rest = z.0; parts = z.1; is = refl }
+        let z = prefix_within first (log_bytes after (x ∷ es)) f rest is few in
+        record { given = []; next = e; more = x ∷ es; all = refl; prefix = f; rest = z.0; parts = z.1; is = refl }
 
 -- each prefix of the bytes of entries is that of the first of them, with a prefix of the next
-front_of : (n : ℕ) (e : Timed) (es : List Timed) (f rest : List ℕ) → log_bytes n (e ∷ es) ≡ f ++ rest → Front n (e ∷ es) f
-front_of n e [] f rest is = record {
+prefix_of : (n : ℕ) (e : Timed) (es : List Timed) (f rest : List ℕ) → log_bytes n (e ∷ es) ≡ f ++ rest → Prefix n (e ∷ es) f
+prefix_of n e [] f rest is = record {
   given = [];
   next = e;
   more = [];
   all = refl;
-  front = f;
+  prefix = f;
   rest = rest;
   parts = sym (append-nil (entry_bytes Two (epoch_after n e.what) e)) ∙ is;
   is = refl;
 }
-front_of n e (x ∷ es) f rest is = front_one n e x es f rest is (λ g there. front_of (epoch_after n e.what) x es g rest there)
+prefix_of n e (x ∷ es) f rest is = prefix_one n e x es f rest is (λ g there. prefix_of (epoch_after n e.what) x es g rest there)
 
-front_some : (n : ℕ) (out : List Timed) (f rest : List ℕ) → (out ≡ [] → ⊥) → log_bytes n out ≡ f ++ rest → Front n out f
-front_some n [] f rest some is = absurd (some refl)
-front_some n (e ∷ es) f rest some is = front_of n e es f rest is
+prefix_some : (n : ℕ) (out : List Timed) (f rest : List ℕ) → (out ≡ [] → ⊥) → log_bytes n out ≡ f ++ rest → Prefix n out f
+prefix_some n [] f rest some is = absurd (some refl)
+prefix_some n (e ∷ es) f rest some is = prefix_of n e es f rest is
 
 -- what wrote them was cut off there
-cut_at : (D : DeskRelations) (P : Task) (s t : State) (xs : List Action) (out : List Timed) (f rest : List ℕ) (held after : Option (List ℕ)) → IsGood s → P s xs out t
-    → AreGiven D xs → Steps s xs out t → (out ≡ [] → ⊥) → log_bytes (epoch_of s.account.latest) out ≡ f ++ rest → Grows held after f
+cut_at : (D : DeskRelations) (P : Execution) (s t : State) (xs : List Action) (out : List Timed) (f rest : List ℕ) (held after : Option (List ℕ)) → IsGood s → P s xs out t
+    → AreGiven D xs → Transitions s xs out t → (out ≡ [] → ⊥) → log_bytes (epoch_of s.account.latest) out ≡ f ++ rest → Grows held after f
     → (cut : CutOff (P s) s held after) × AreGiven D cut.done
 cut_at D P s t xs out f rest held after good whole gave steps some is grew =
-    let z = front_some (epoch_of s.account.latest) out f rest some is in
-    let y = steps_front s t xs out (z.given ++ z.next ∷ []) z.more good steps z.all in (
+    let z = prefix_some (epoch_of s.account.latest) out f rest some is in
+    let y = steps_prefix s t xs out (z.given ++ z.next ∷ []) z.more good steps z.all in (
       record {
         done = y.0;
         later = y.1;
         all = out;
         last = t;
         whole = subst (λ ys. P s ys out t) y.3 whole;
-        goes = subst (λ ys. Steps s ys out t) y.3 steps;
+        goes = subst (λ ys. Transitions s ys out t) y.3 steps;
         given = z.given;
         next = z.next;
         state = y.2;
         steps = y.4;
-        front = z.front;
+        prefix = z.prefix;
         rest = z.rest;
         parts = z.parts;
         appended = subst (Grows held after) z.is grew;
@@ -135,8 +135,8 @@ is_full [] bytes b e test is none = false≢true (sym is ∙ test)
 is_full (y ∷ x) bytes b e test is none = let no : ⊥ = cc in no
 
 -- what stands before it in a room or in a sink
-pub fills_behind : {D : DeskRelations} {P : Task} {m now : Machine} {old new : List ℕ} (front : List ℕ) → FillsBy D P m now old new → FillsBy D P m now (front ++ old) (front ++ new)
-fills_behind {old = old} front d = record {
+pub fills_after : {D : DeskRelations} {P : Execution} {m now : Machine} {old new : List ℕ} (prefix : List ℕ) → FillsBy D P m now old new → FillsBy D P m now (prefix ++ old) (prefix ++ new)
+fills_after {old = old} prefix d = record {
   faults = d.faults;
   shown = λ s g st. let x = d.shown s g st in record {
     actions = x.actions;
@@ -145,21 +145,21 @@ fills_behind {old = old} front d = record {
     whole = x.whole;
     steps = x.steps;
     stands = x.stands;
-    grew = ap (λ l. front ++ l) x.grew ∙ sym (append_assoc front old (log_bytes (epoch_of s.account.latest) x.out));
+    grew = ap (λ l. prefix ++ l) x.grew ∙ sym (append_assoc prefix old (log_bytes (epoch_of s.account.latest) x.out));
   };
 }
 
 -- a part of what is in the room is written
-pub gathers_out : {D : DeskRelations} {P : Task} {m now : Machine} {held after behind : Option (List ℕ)} {room rest : List ℕ} → Gathers D P m now held after room
-    → (part : List ℕ) × (room ≡ part ++ rest) × Grows after behind part → Gathers D P m now held behind rest
-gathers_out {D = D} {P} {m} {now} {held} {after} {behind} {room} {rest} f x = record {
+pub gathers_out : {D : DeskRelations} {P : Execution} {m now : Machine} {held after following : Option (List ℕ)} {room rest : List ℕ} → Gathers D P m now held after room
+    → (part : List ℕ) × (room ≡ part ++ rest) × Grows after following part → Gathers D P m now held following rest
+gathers_out {D = D} {P} {m} {now} {held} {after} {following} {room} {rest} f x = record {
   before = f.before ++ x.0;
   fills = subst (λ l. FillsBy D P m now [] l) (ap (λ l. f.before ++ l) x.1 ∙ sym (append_assoc f.before x.0 rest)) f.fills;
-  grew = Grows-Grows held after behind f.before x.0 f.grew x.2;
+  grew = Grows-Grows held after following f.before x.0 f.grew x.2;
 }
 
 -- all was written
-pub gathers_all : {T E : Type 0} {D : DeskRelations} {P : Task} {m now : Machine} {held after : Option (List ℕ)} {room : List ℕ} {k l : ℕ} (u : T) → Gathers D P m now held after room
+pub gathers_all : {T E : Type 0} {D : DeskRelations} {P : Execution} {m now : Machine} {held after : Option (List ℕ)} {room : List ℕ} {k l : ℕ} (u : T) → Gathers D P m now held after room
     → room ≡ [] → CountsFaults {T = T} {E = E} k l (Ok u) → PerformedWithDesk {T = T} {E = E} D P m now (between held after k l) (Ok u)
 gathers_all {held = held} {after} u f none faults = record {
   faults = faults;
@@ -176,24 +176,24 @@ gathers_all {held = held} {after} u f none faults = record {
       };
 }
 
-behind_none : (a b : List ℕ) → a ++ b ≡ [] → b ≡ []
-behind_none [] b e = e
-behind_none (x ∷ a) b e = let no : ⊥ = cc e in absurd no
+following_none : (a b : List ℕ) → a ++ b ≡ [] → b ≡ []
+following_none [] b e = e
+following_none (x ∷ a) b e = let no : ⊥ = cc e in absurd no
 
 -- what is in the room is cut off
-pub gathers_cut : {T E : Type 0} {D : DeskRelations} {P : Task} {m now : Machine} {held after behind : Option (List ℕ)} {room : List ℕ} {k l : ℕ} (w : E) → Gathers D P m now held after room
-    → (room ≡ [] → ⊥) × AppendsFront after behind room → CountsFaults {T = T} {E = E} k l (Err w) → PerformedWithDesk {T = T} {E = E} D P m now (between held behind k l) (Err w)
-gathers_cut {D = D} {P} {held = held} {after} {behind} {room} w f cut faults = record {
+pub gathers_cut : {T E : Type 0} {D : DeskRelations} {P : Execution} {m now : Machine} {held after following : Option (List ℕ)} {room : List ℕ} {k l : ℕ} (w : E) → Gathers D P m now held after room
+    → (room ≡ [] → ⊥) × AppendsPrefix after following room → CountsFaults {T = T} {E = E} k l (Err w) → PerformedWithDesk {T = T} {E = E} D P m now (between held following k l) (Err w)
+gathers_cut {D = D} {P} {held = held} {after} {following} {room} w f cut faults = record {
   faults = faults;
   shown = λ s g st.
       let x = f.fills.shown s g st in
       let gives = cut.1 in
       let n = epoch_of s.account.latest in
-      let there : x.out ≡ [] → ⊥ = λ none. cut.0 (behind_none f.before room (x.grew ∙ ap (log_bytes n) none)) in
-      let is : log_bytes n x.out ≡ (f.before ++ gives.front) ++ gives.rest =
-      sym x.grew ∙ (ap (λ l. f.before ++ l) gives.parts ∙ sym (append_assoc f.before gives.front gives.rest)) in
-      cut_at D P s x.state x.actions x.out (f.before ++ gives.front) gives.rest held behind g x.whole.0 x.whole.1 x.steps there is
-      (Grows-Grows held after behind f.before gives.front f.grew gives.appended);
+      let there : x.out ≡ [] → ⊥ = λ none. cut.0 (following_none f.before room (x.grew ∙ ap (log_bytes n) none)) in
+      let is : log_bytes n x.out ≡ (f.before ++ gives.prefix) ++ gives.rest =
+      sym x.grew ∙ (ap (λ l. f.before ++ l) gives.parts ∙ sym (append_assoc f.before gives.prefix gives.rest)) in
+      cut_at D P s x.state x.actions x.out (f.before ++ gives.prefix) gives.rest held following g x.whole.0 x.whole.1 x.steps there is
+      (Grows-Grows held after following f.before gives.prefix f.grew gives.appended);
 }
 
 -- all of what is in the room is written, or it is cut off

@@ -1,9 +1,9 @@
 -- What the answer to a standing request leaves of the account.
 use Rattle.fw_bus_engine.proofs.Common.{◌≡◌, ℕ, ◌<◌, ◌^◌, Bool, true, false, refl, sym, subst, ◌∙◌, Reply, Account, Hearing, Stage, register_at, stands, State, IsGood}
 use Rattle.fw_model_account.specs.Packets.{ended}
-use Rattle.fw_cmp.specs.declared.job.Job.{Job}
+use Rattle.fw_cmp_jobs.specs.declared.job.Job.{Job}
 use Rattle.fw_cmp.specs.Controllers.{CurrentFits, RunsFitting, Fits}
-use Rattle.fw_cmp.specs.Requests.{swap_of}
+use Rattle.fw_cmp_jobs.specs.Requests.{swap_of}
 use Rattle.fw_model_controllers.specs.Controllers.{ControllerInStep}
 use Rattle.fw_model_controllers.specs.Moves.{carried_out}
 use Rattle.fw_model_controllers.proofs.Carried.{hearing, hear_half}

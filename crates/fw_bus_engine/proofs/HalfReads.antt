@@ -1,24 +1,21 @@
 -- The request that is read off the wire, and the response that is written.
-use Rattle.fw_bus_engine.proofs.Common.{◌≡◌, ℕ, ◌<◌, ◌^◌, ◌%◌, ◌==◌, List, Bool, true, false, cond, option_map, Some}
-use Rattle.fw_bus_engine.proofs.Common.{is_some, refl, ap, sym, subst, ◌∙◌, arith, IsTrue, length, same_Some, Head, Packet}
-use Rattle.fw_bus_engine.proofs.Common.{Request, spelling, Fits, Pairs, bytes_from, without, node_of, Current, Nothing, Asking, Hearing, Overtaken, Directory, Access, Target, Procedure, has_link}
-use Rattle.fw_bus_engine.proofs.Common.{ControllerState, addressee_of, offset_of, standing_in, Reply, reply_in, packet_of, request_head, response_of, space_of, Network, node_at, node_device, State}
+use Rattle.fw_bus_engine.proofs.Common.{◌≡◌, ℕ, ◌<◌, ◌^◌, ◌==◌, List, Bool, true, false, cond, option_map, Some}
+use Rattle.fw_bus_engine.proofs.Common.{refl, ap, sym, subst, ◌∙◌, arith, IsTrue, length, same_Some, Packet}
+use Rattle.fw_bus_engine.proofs.Common.{spelling, Fits, Pairs, bytes_from, without, node_of, Current, Nothing, Asking, Hearing, Overtaken, Directory, Access, Target, Procedure}
+use Rattle.fw_bus_engine.proofs.Common.{ControllerState, addressee_of, offset_of, standing_in, Reply, packet_of, request_head, space_of, Network, node_at, node_device, State}
 use Rattle.fw_bus_engine.proofs.Common.{directory_of, is_living, IsGood, half_hears, Awaits, stands_here, state_same, Machine, StandsFor, IsReady, is_living_in, looked_at, states_of, nodes_after}
-use Rattle.fw_bus_engine.proofs.Common.{living_same, number_of_node}
-use Rattle.fw_async.specs.Heads.{head_of}
-use Rattle.fw_csr.specs.declared.request.Request.TheVariants as Asks
-use Rattle.fw_async.specs.Reader.{Spells}
-use Rattle.fw_cmp.specs.declared.request.Target.TheVariants.{OutputPlug, InputPlug, Channels, BandwidthAvailable}
+use Rattle.fw_bus_engine.proofs.Common.{living_same}
+use Rattle.fw_cmp_jobs.specs.declared.request.Target.TheVariants.{OutputPlug, InputPlug, Channels, BandwidthAvailable}
 use Rattle.fw_cmp.specs.Controllers.{IsStanding}
-use Rattle.fw_cmp.specs.Requests.{request_of}
+use Rattle.fw_cmp_jobs.specs.Requests.{request_of}
 use Rattle.fw_model_controllers.specs.Requests.{PlugNumberFits, procedure_head}
 use Rattle.fw_node.specs.Packets.{IsServed}
 use Rattle.fw_model_run.proofs.Fitting.{procedure_fits, request_fits}
 use Rattle.fw_model_run.proofs.Hears.{heard_of}
-use Rattle.fw_bus_state.specs.Wires.{packet_for}
-use Rattle.fw_bus_engine.proofs.Exchanges.{Exchange, standing_of, addressee_is, device_is, exchange_of, exchange_within, exchange_addresses, exchange_linked, asks_request}
+use Rattle.fw_bus_state.specs.Wires.{controller_asks, packet_for}
+use Rattle.fw_bus_engine.proofs.Exchanges.{Exchange, standing_of, addressee_is, device_is, exchange_of, exchange_addresses, exchange_kind}
+use Rattle.fw_bus_engine.proofs.Responder.{Response, Stands, outstanding, place_number, response_written}
 use Rattle.fw_bus_engine.specs.Exchanging.{IsOutstanding}
-use Rattle.fw_bus_engine.specs.Serving.{Sent}
 use Rattle.fw_bus_engine.proofs.HalfWires.{own_number, own_place}
 use Rattle.fw_bus_state.proofs.Latest.{number_low}
 use Rattle.fw_bus_state.proofs.Wires.{stands_at}
@@ -33,7 +30,7 @@ pub record Went (m : Machine) (d device : ℕ) : Type 0 where
   pub goes : Some to ≡ addressee_of m.directory access.target
   pub at : Some device ≡ node_device m.devices.latest.nodes to
 
--- a request that stands asks something
+-- an outstanding request asks something
 standing_some : (m : Machine) (s : State) (d : ℕ) → IsGood s → StandsFor m s → IsTrue (is_living_in m d) → Awaits (states_of m.controllers d)
     → (a : Access) × (standing_in (states_of m.controllers d).state.current ≡ Some a)
 standing_some m s d g st lives stands = go (s.controllers d).current refl (stands_here m s d st stands)
@@ -74,7 +71,7 @@ offset_below (Channels base) f = go (base == 0)
     go true = omega arith
     go false = omega arith
 
--- what is known if a request stands
+-- what is known if a request is outstanding
 pub record Known (m : Machine) (d device own : ℕ) : Type 0 where
   pub ready : IsReady m
   pub lives : IsTrue (is_living_in m d)
@@ -112,44 +109,9 @@ wire_has m d device own k =
     ap (λ (c : ControllerState). standing_in c.current) (sym (state_same m s d st k.stands.0)) ∙ sym k.went.asks in
     let goes : addressee_of (directory_of s) k.went.access.target ≡ Some k.went.to =
     ap (λ (x : Directory). addressee_of x k.went.access.target) (sym st.directory) ∙ sym k.went.goes in
-    st.wire.each own ∙ ap (option_map spelling) (stands_at s d own g place ∙ (ap (packet_for s.account.latest (directory_of s) d) asks
+    stands_at m.wire s (controller_asks s) d own g place st.wire ∙ ap (option_map spelling) (ap (packet_for s.account.latest (directory_of s) d) asks
     ∙ (ap (option_map (λ to. packet_of (procedure_head to (node_of s.account.latest d)) (request_of k.went.access))) goes
-    ∙ ap (λ (n : ℕ). Some (packet_of (procedure_head k.went.to n) (request_of k.went.access))) node)))
-
--- ---- the node that they are addressed to
-
-head_back : (h : Head) (q : Request) → head_of (packet_of h q) ≡ h
-head_back h (Asks.Read offset) = refl
-head_back h (Asks.ReadBlock offset len) = refl
-head_back h (Asks.Write offset value) = refl
-head_back h (Asks.WriteBlock offset bytes) = refl
-head_back h (Asks.Lock offset function bytes) = refl
-
--- the last six bits of the destination are its number
-goes_to : (m : Machine) (d device own : ℕ) → (k : Known m d device own) → node_device m.devices.latest.nodes ((head_of (went_packet own k.went)).destination % 64) ≡ Some device
-goes_to m d device own k =
-    let r = k.ready in
-    let x = exchanged m d device own k in
-    let to = number_low r.state device k.went.to r.good x.number in
-    let head = ap (λ (h : Head). h.destination) (head_back (request_head own k.went.to Procedure) (request_of k.went.access)) in
-    let same : (head_of (went_packet own k.went)).destination % 64 ≡ k.went.to = omega (arith, head, to) in
-    ap (node_device m.devices.latest.nodes) same ∙ sym k.went.at
-
--- ---- the node that reads them
-
-pub device_within : (m : Machine) (d device own : ℕ) → Known m d device own → device < length m.devices.nodes
-device_within m d device own k = let r = k.ready in exchange_within m r.state d k.went.access k.went.to device r.good r.stands (exchanged m d device own k)
-
-device_number : (m : Machine) (d device own : ℕ) → (k : Known m d device own) → (node_at m.devices.nodes device).number ≡ Some k.went.to
-device_number m d device own k =
-    let r = k.ready in
-    number_of_node m.devices.nodes r.state device r.stands.devices.nodes (device_within m d device own k) ∙ (exchanged m d device own k).number
-
--- it has a link
-device_linked : (m : Machine) (d device own : ℕ) → (k : Known m d device own) → IsTrue (has_link (node_at m.devices.nodes device).kind)
-device_linked m d device own k =
-    let r = k.ready in
-    exchange_linked m r.state d k.went.access k.went.to device r.good r.stands (exchanged m d device own k)
+    ∙ ap (λ (n : ℕ). Some (packet_of (procedure_head k.went.to n) (request_of k.went.access))) node))
 
 -- ---- the request, as it stands on the wire
 
@@ -159,45 +121,34 @@ known_at m d own r lives stands own_is =
     let there = went_there m r.state d r.good r.stands lives stands in
     (there.0, record { ready = r; lives = lives; stands = stands; went = there.1; own_is = own_is })
 
-pub outstanding : (m : Machine) (d device own : ℕ) → (k : Known m d device own) → IsOutstanding m.devices m.wire own device (went_packet own k.went)
-outstanding m d device own k = record {
-  stands = wire_has m d device own k;
-  fits = packet_fits m d device own k;
-  asks = ap is_some (asks_request (request_head own k.went.to Procedure) (request_of k.went.access));
-  goes = goes_to m d device own k;
-  declared = device_within m d device own k;
-  number = ap is_some (device_number m d device own k);
-  link = device_linked m d device own k;
-}
+-- so it stands there, to a node that has a link
+stands_there : (m : Machine) (d device own : ℕ) → (k : Known m d device own)
+    → Stands k.ready.state m.wire own device k.went.to (request_head own k.went.to Procedure) (request_of k.went.access)
+stands_there m d device own k =
+    let r = k.ready in
+    let x = exchanged m d device own k in
+    record {
+      bytes = wire_has m d device own k;
+      fits = packet_fits m d device own k;
+      destination = refl;
+      place = x.number;
+      link = exchange_kind m r.state d k.went.access k.went.to device r.good r.stands x;
+    }
+
+pub went_outstanding : (m : Machine) (d device own : ℕ) → (k : Known m d device own) → IsOutstanding m.devices m.wire own device (went_packet own k.went)
+went_outstanding m d device own k = outstanding m k.ready.state m.wire own device k.went.to _ _ k.ready.good k.ready.stands (stands_there m d device own k)
+
+pub device_within : (m : Machine) (d device own : ℕ) → Known m d device own → device < length m.devices.nodes
+device_within m d device own k = (went_outstanding m d device own k).declared
 
 -- ---- the response that it writes
 
-pub record Response (m : Machine) (d device own : ℕ) (k : Known m d device own) (out : List ℕ) (reply : Reply) : Type 0 where
-  pub packet : Packet
-  pub sent : Sent m d k.went.access k.went.to device own (went_packet own k.went) packet
-  pub spells : Spells packet out
-  pub carries : reply_in packet ≡ Some reply
-
-pub response_written : (m : Machine) (d device own : ℕ) (out : List ℕ) (reply : Reply) → (k : Known m d device own)
+pub went_response : (m : Machine) (d device own : ℕ) (out : List ℕ) (reply : Reply) → (k : Known m d device own)
     → ((n : ℕ) → (node_at m.devices.nodes device).number ≡ Some n → IsServed (space_of n m.cycle (node_at m.devices.nodes device)) (went_packet own k.went) out reply)
-    → Response m d device own k out reply
-response_written m d device own out reply k written =
-    let number = device_number m d device own k in
-    let found = written k.went.to number in
-    record {
-      packet = found.packet;
-      sent = record {
-        asks = k.went.asks;
-        goes = k.went.goes;
-        at = k.went.at;
-        own_is = k.own_is;
-        packet_is = refl;
-        answered = λ n e.
-            ap (λ (j : ℕ). response_of (space_of j m.cycle (node_at m.devices.nodes device)) (went_packet own k.went)) (same_Some n k.went.to (sym e ∙ number)) ∙ found.answers;
-      };
-      spells = found.spells;
-      carries = found.carries;
-    }
+    → Response m.cycle (node_at m.devices.nodes device) (went_packet own k.went) out reply
+went_response m d device own out reply k written =
+    let r = k.ready in
+    response_written m.cycle k.went.to _ _ out reply (place_number m.devices.nodes r.state device k.went.to r.good r.stands.devices.nodes (exchanged m d device own k).number) written
 
 -- ---- what has become of the machine
 

@@ -1,20 +1,19 @@
 -- The machine after a half step, and the half step in which no request stands: the controller says what it does next.
-use Rattle.fw_bus_engine.proofs.Common.{◌≡◌, ◌⊎◌, inl, inr, ℕ, ◌<◌, ◌==◌, ◌&&◌, Bool, false, length, List, Option, Some, None, IfSome, unwrap_or, refl, ap, sym, subst, ◌∙◌, arith, IsTrue, IsFalse}
+use Rattle.fw_bus_engine.proofs.Common.{◌≡◌, ◌⊎◌, inl, inr, ℕ, ◌<◌, ◌==◌, ◌&&◌, Bool, false, length, List, Option, Some, None, IfSome, refl, ap, sym, subst, ◌∙◌, arith, IsTrue, IsFalse}
 use Rattle.fw_bus_engine.proofs.Common.{nat_tests, same_Some, PlugAt, update, at_plug, Packet, Request, Entry, Async, Account, Register, BandwidthAvailable, ChannelsAvailable, OutputPlug, InputPlug}
-use Rattle.fw_bus_engine.proofs.Common.{word_of, node_of, Current, Nothing, Asking, Hearing, Overtaken, Next, Send, ControllerState, IsHeard, after_next, Procedure, packet_of, request_head, NodeState}
-use Rattle.fw_bus_engine.proofs.Common.{kinds_of, node_at, State, epoch_of, directory_of, is_living, linked_number, manager_in}
+use Rattle.fw_bus_engine.proofs.Common.{word_of, node_of, Current, Nothing, Asking, Hearing, Overtaken, Next, Send, ControllerState, IsHeard, after_next, Procedure, packet_of, request_head}
+use Rattle.fw_bus_engine.proofs.Common.{Network, node_at, State, directory_of, is_living, linked_number, manager_in}
 use Rattle.fw_bus_engine.proofs.Common.{is_deaf, half, taken, after_half, IsGood, living_linked, Listening, turn_of}
-use Rattle.fw_bus_engine.proofs.Common.{after_turn, controller_at, quiet_here, Machine, TakesHalf, HasLingering, HasNodes, HasDecks, StandsFor, IsReady, is_living_in, Pairs, HasStreams, HasWire}
-use Rattle.fw_bus_engine.proofs.Common.{ControllerTable, IsTable, count_of, states_of, dead_of, Listens, living_same, node_number_is, linked_on, HasHearers}
+use Rattle.fw_bus_engine.proofs.Common.{after_turn, controller_at, quiet_here, Machine, TakesHalf, StandsFor, IsReady, is_living_in, Pairs, HasStreams, HasWire}
+use Rattle.fw_bus_engine.proofs.Common.{ControllerTable, IsTable, count_of, states_of, dead_of, Listens, living_same, node_number_is, linked_on}
 use Rattle.fw_model_account.specs.Account.{Request as Outstanding, talks}
 use Rattle.fw_model_account.specs.Packets.{asked, ended}
 use Rattle.fw_cmp.specs.declared.outcome.Next.TheVariants.{Idle, Waiting, Deaf, Force}
-use Rattle.fw_cmp.specs.declared.request.Target.TheVariants as target
-use Rattle.fw_cmp.specs.Nodes.{HasNodeNumbers}
-use Rattle.fw_cmp.specs.Nodes as Told
+use Rattle.fw_cmp_jobs.specs.declared.request.Target.TheVariants as target
+use Rattle.fw_cmp_jobs.specs.Nodes.{HasNodeNumbers}
+use Rattle.fw_cmp_jobs.specs.Nodes as Told
 use Rattle.fw_model_controllers.specs.Lingering.{SameLinger}
 use Rattle.fw_model_controllers.specs.Controllers.{IsDirectory}
-use Rattle.fw_devices.specs.Network.{no_entry}
 use Rattle.fw_model_run.specs.State.{entered_by, list_to}
 use Rattle.fw_model_run.specs.HalfSteps.{said, asks, half_of}
 use Rattle.fw_model_run.proofs.Directories.{told}
@@ -24,15 +23,14 @@ use Rattle.fw_model_run.proofs.Responses.{node_of_target}
 use Rattle.fw_model_run.proofs.Turns.{Turns, sends, rests, turns}
 use Rattle.fw_model_run.proofs.Apart.{controllers_of, all_turn}
 use Rattle.fw_bus_state.proofs.Heard.{heard_here, next_same}
-use Rattle.fw_bus_state.specs.Stands.{HasDevices, manager_device, seen, devices_at}
+use Rattle.fw_bus_state.specs.Stands.{HasDevices, devices_at}
 use Rattle.fw_bus_engine.proofs.HalfNodes.{state_with}
 use Rattle.fw_bus_state.proofs.Latest.{number_low}
 use Rattle.fw_bus_state.proofs.Counts.{streams_stay}
-use Rattle.fw_model_run.specs.State.{device_in}
 use Rattle.fw_model_run.specs.Dubs.{dub_between}
 use Rattle.fw_model_run.proofs.Candidates.{on_bus}
 use Rattle.fw_model_run.proofs.Hearing.{fewer_hear}
-use Rattle.fw_bus_state.specs.Bids.{bid_from}
+use Rattle.fw_bus_state.specs.Bids.{candidate_asks}
 use Rattle.fw_bus_state.specs.Wires.{HasRequests}
 use Rattle.fw_bus_state.proofs.Standing.{devices_kept}
 
@@ -62,27 +60,14 @@ quiet_and a b e = grind (arith, e)
 stays_where : (b : Bool) (v w : ℕ) → v ≡ w → (b && (v == w)) ≡ b
 stays_where b v w e = grind (arith, nat_tests, e)
 
--- the machine with these nodes and controllers stands for the state with this account
-pub stands_with : (m : Machine) (s : State) (nodes : List NodeState) (k : ControllerTable) (l : Account) (f : ℕ → ControllerState) (asked_at : ℕ → ℕ) (w : Pairs) (c : List ℕ)
-    → StandsFor m s → SameBus s.account l → kinds_of nodes ≡ kinds_of m.devices.nodes → HasNodes nodes (seen (state_with s l f asked_at))
-    → HasLingering nodes (state_with s l f asked_at).account.continues → HasHearers nodes (state_with s l f asked_at).dub.lingers → HasDecks nodes s.declared.kinds s.decks
+-- the machine with these devices and controllers stands for the state with this account
+pub stands_with : (m : Machine) (s : State) (n : Network) (k : ControllerTable) (l : Account) (f : ℕ → ControllerState) (asked_at : ℕ → ℕ) (w : Pairs) (c : List ℕ)
+    → StandsFor m s → SameBus s.account l → HasDevices n (devices_at (state_with s l f asked_at))
     → IsTable k (length s.declared.names) (λ e. controller_at (state_with s l f asked_at) e) s.dead
     → HasWire w (state_with s l f asked_at) → HasStreams c (state_with s l f asked_at).streams
-    → StandsFor (record m { devices = record m.devices { nodes = nodes }; controllers = k; wire = w; streams = c }) (state_with s l f asked_at)
-stands_with m s nodes k l f asked_at w c st same kinds h linger hearers decks table wire streams = record {
-  devices = record {
-    topology = st.devices.topology;
-    names = st.devices.names;
-    kinds = kinds ∙ st.devices.kinds;
-    nodes = h;
-    lingering = linger;
-    decks = decks;
-    hearers = hearers;
-    latest = st.devices.latest ∙ sym (ap (λ o. unwrap_or o no_entry) same.latest);
-    epoch = st.devices.epoch ∙ sym (ap epoch_of same.latest);
-    manager = st.devices.manager ∙ sym (ap manager_device same.latest);
-    withheld = st.devices.withheld ∙ sym same.withheld;
-  };
+    → StandsFor (record m { devices = n; controllers = k; wire = w; streams = c }) (state_with s l f asked_at)
+stands_with m s n k l f asked_at w c st same devices table wire streams = record {
+  devices = devices;
   clock =
       record { cycle = st.clock.cycle; reclaiming = st.clock.reclaiming ∙ sym same.reclaiming; half_steps = st.clock.half_steps; written = st.clock.written; resets = st.clock.resets };
   table = table;
@@ -93,7 +78,7 @@ stands_with m s nodes k l f asked_at w c st same kinds h linger hearers decks ta
   answered = st.answered;
   unsent = st.unsent;
   election = st.election;
-  bids = subst (λ o. HasRequests m.bids (λ node. bid_from o s.election (device_in o node))) (sym same.latest) st.bids;
+  bids = subst (λ o. HasRequests m.bids o (candidate_asks o s.election)) (sym same.latest) st.bids;
   reel = record { tied_is = st.reel.tied_is; reel_is = st.reel.reel_is };
   around = record { candidates = on_bus s l.latest same.latest st.around.candidates; hearing = fewer_hear s _ l.latest (λ q e. quiet_and _ _ e) same.latest st.around.hearing };
 }
@@ -114,7 +99,7 @@ ended_words d l (ChannelsAvailable base) = refl
 ended_words d l (OutputPlug p) = refl
 ended_words d l (InputPlug p) = refl
 
--- ---- no request stands
+-- ---- no request is outstanding
 
 -- the half step is then what the controller does next
 pub asks_is : (s : State) (d : ℕ) → IsHeard (s.controllers d).current → half s d ≡ asks s d
@@ -163,9 +148,9 @@ asks_stands m s k w d g st lives quiet heard table wire =
     λ i. after_turn (st.clock.cycle i) (st.directory i) (st.table.states_are i d) in
     let all = subst (λ h. controllers_of (taken s d h) ≡ update (controllers_of s) d (after_turn s.clock.cycle (directory_of s) (controller_at s d))) (asks_is s d heard) (all_turn s d quiet heard) in
     let kept = devices_kept s l (dub_between s.account l s.dub).lingers same.bus.latest same.words same.bus.withheld same.linger (λ p. stays_where _ _ _ (same.words (InputPlug p))) in
-    let v : HasDevices m.devices (devices_at (state_with s l f asked_at)) = subst (λ r. HasDevices m.devices r) (sym kept) st.devices in
+    let devices : HasDevices m.devices (devices_at (state_with s l f asked_at)) = subst (λ r. HasDevices m.devices r) (sym kept) st.devices in
     subst (λ h. StandsFor (record m { controllers = k; wire = w }) (taken s d h)) (sym (asks_is s d heard))
-    (stands_with m s m.devices.nodes k l f asked_at w m.streams st same.bus refl v.nodes v.lingering v.hearers v.decks
+    (stands_with m s m.devices k l f asked_at w m.streams st same.bus devices
     (table_with m s (taken s d (asks s d)) k d _ _ st becomes all table)
     (subst (λ h. HasWire w (taken s d h)) (asks_is s d heard) wire)
     (streams_stay m.streams s (state_with s l f asked_at) g refl (λ k. same.talk (at_plug k 0)) st.streams))

@@ -1,4 +1,4 @@
--- The wire after a half step in which no request stands: a request that goes out is put there.
+-- The wire after a half step in which no request is outstanding: a request that goes out is put there.
 use Rattle.fw_bus_engine.proofs.Common.{◌≡◌, ℕ, ◌<◌, List, [], ◌∷◌, ◌++◌, true, false, option_map, Option, Some, None, refl, ap, sym, subst, ◌∙◌, arith, IsTrue, same_Some, Packet, spelling, Fits}
 use Rattle.fw_bus_engine.proofs.Common.{Procedure, update, Async, bytes_from, Request, ResetEntry, node_of, Current, Nothing}
 use Rattle.fw_bus_engine.proofs.Common.{Asking, Hearing, Overtaken, Directory, Next, Send, Access, ControllerState}
@@ -6,24 +6,24 @@ use Rattle.fw_bus_engine.proofs.Common.{IsHeard, addressee_of, standing_in, afte
 use Rattle.fw_bus_engine.proofs.Common.{living_linked, turn_of, after_turn, Machine, TakesHalf, StandsFor, IsReady, is_living_in}
 use Rattle.fw_bus_engine.proofs.Common.{ControllerTable, IsTable, count_of, states_of, dead_of, Listens, HasWire}
 use Rattle.fw_bus_engine.proofs.Common.{living_same, linked_on, number_of_node, on_within}
-use Rattle.fw_cmp.specs.declared.current.Task.{Task}
-use Rattle.fw_cmp.specs.Requests.{access_of, request_of}
+use Rattle.fw_cmp.specs.declared.current.WaitingJob.{WaitingJob}
+use Rattle.fw_cmp_jobs.specs.Requests.{access_of, request_of}
 use Rattle.fw_cmp.specs.Turns.{rests, sending, asks_or_ends, after_asking, answer_of, after_answer, next}
 use Rattle.fw_cmp.specs.Jobs.{ready}
 use Rattle.fw_model_controllers.specs.Requests.{is_sent, procedure_head}
 use Rattle.fw_model_controllers.proofs.Nexts.{ready_heard}
 use Rattle.fw_model_run.specs.HalfSteps.{asks}
 use Rattle.fw_bus_state.proofs.Heard.{heard_here, next_same}
-use Rattle.fw_bus_state.specs.Wires.{packet_for}
+use Rattle.fw_bus_state.specs.Wires.{controller_asks, packet_for}
 use Rattle.fw_bus_engine.proofs.HalfTurns.{asks_is, asks_leaves, takes_asks, request_says, entry_fits}
 use Rattle.fw_bus_state.proofs.Latest.{on_number}
 use Rattle.fw_bus_state.proofs.Standing.{directory_same}
-use Rattle.fw_bus_state.proofs.Wires.{Becomes, stands_at, wire_put, wire_kept}
+use Rattle.fw_bus_state.proofs.Wires.{Becomes, WithRequest, changed_wire, keep_request, put_request, stands_at}
 
 -- ---- what a controller that answers is at then
 
 -- it rests, and says no request
-rests_quiet : (told : Directory) (ts : List Task) → is_sent (rests told ts) ≡ false
+rests_quiet : (told : Directory) (ts : List WaitingJob) → is_sent (rests told ts) ≡ false
 rests_quiet told [] = refl
 rests_quiet told (t ∷ ts) = refl
 
@@ -88,12 +88,12 @@ own_number m s d own g st lives number =
     let living : IsTrue (is_living s d) = sym (living_same m s d g st) ∙ lives in
     sym (number_of_node m.devices.nodes s d st.devices.nodes (on_within m.devices.nodes s d st.devices.nodes g (linked_on s d (living_linked s d living)))) ∙ number
 
--- it has no pair while no request of it stands
+-- it has no pair while no request of it is outstanding
 pub own_free : (m : Machine) (s : State) (d own : ℕ) → IsGood s → StandsFor m s → Listens (states_of m.controllers d)
     → number_in s.account.latest d ≡ Some own → bytes_from own m.wire ≡ None
 own_free m s d own g st heard at =
     let here : IsHeard (s.controllers d).current = heard_here m s d st heard in
-    st.wire.each own ∙ ap (option_map spelling) (stands_at s d own g at ∙ ap (packet_for s.account.latest (directory_of s) d) (heard_stands (s.controllers d).current here))
+    stands_at m.wire s (controller_asks s) d own g at st.wire ∙ ap (λ o. option_map spelling (packet_for s.account.latest (directory_of s) d o)) (heard_stands (s.controllers d).current here)
 
 -- ---- the wire after it
 
@@ -117,8 +117,8 @@ sent_wire m d to own q p lives heard low says number is s g st =
     let stands = said_stands s.account.latest s.clock.cycle (directory_of s) d c c.current to q (ready_heard s.clock.cycle (directory_of s) (s.controllers d) here) low says_here in
     let goes = stands ∙ ap (λ (n : ℕ). Some (packet_of (procedure_head to n) q)) node ∙ ap (λ (x : Packet). Some x) (sym is) in
     subst (λ h. HasWire (m.wire ++ (own, spelling p) ∷ []) (taken s d h)) (sym (asks_is s d here))
-    (wire_put m.wire s (taken s d (asks s d)) d own (after_next s.clock.cycle (directory_of s) (s.controllers d)) p g (asks_become s d g living here) at goes
-    (own_free m s d own g st heard at) st.wire)
+    (changed_wire m.wire (m.wire ++ (own, spelling p) ∷ []) s (taken s d (asks s d)) d own (after_next s.clock.cycle (directory_of s) (s.controllers d)) g (asks_become s d g living here) at
+    (subst (WithRequest m.wire (m.wire ++ (own, spelling p) ∷ []) own) (sym goes) (put_request m.wire own p (own_free m s d own g st heard at))) st.wire)
 
 -- none goes out
 pub quiet_wire : (m : Machine) (d : ℕ) → IsTrue (is_living_in m d) → Listens (states_of m.controllers d)
@@ -130,9 +130,12 @@ quiet_wire m d lives heard quiet s g st =
     let c = ready s.clock.cycle (directory_of s) (s.controllers d) in
     let quiet_here : is_sent (next s.clock.cycle (directory_of s) (s.controllers d)) ≡ false = ap is_sent (sym (next_same m s d st heard.0)) ∙ quiet in
     let none = unsaid_stands s.clock.cycle (directory_of s) c c.current (ready_heard s.clock.cycle (directory_of s) (s.controllers d) here) quiet_here in
+    let same = none ∙ sym (heard_stands (s.controllers d).current here) in
+    let at = own_place s d living in
+    let own = node_of s.account.latest d in
     subst (λ h. HasWire m.wire (taken s d h)) (sym (asks_is s d here))
-    (wire_kept m.wire s (taken s d (asks s d)) d (node_of s.account.latest d) (after_next s.clock.cycle (directory_of s) (s.controllers d)) g
-    (asks_become s d g living here) (own_place s d living) (none ∙ sym (heard_stands (s.controllers d).current here)) st.wire)
+    (changed_wire m.wire m.wire s (taken s d (asks s d)) d own (after_next s.clock.cycle (directory_of s) (s.controllers d)) g (asks_become s d g living here) at
+    (keep_request m.wire own _ (stands_at m.wire s (controller_asks s) d own g at st.wire ∙ ap (λ o. option_map spelling (packet_for s.account.latest (directory_of s) d o)) (sym same))) st.wire)
 
 -- ---- a request that goes out, as a half step
 

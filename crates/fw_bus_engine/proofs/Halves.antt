@@ -1,17 +1,35 @@
 -- Half steps can be given, one after another, to controllers that live.
 use Rattle.fw_bus_engine.proofs.Common.{◌≡◌, ℕ, zero, suc, ◌+◌, ◌*◌, ◌<◌, ◌≤◌, ◌&&◌, not, List, [], ◌∷◌, ◌++◌, length, Bool, true, false, cond, None, Some, is_some, refl, ap, sym, subst, ◌∙◌, arith}
-use Rattle.fw_bus_engine.proofs.Common.{IsTrue, Timed, MOST_HALF_STEPS, at_most, State, is_deaf, is_living, linked_number, numbers_to, half, after_half, Action, HalfStep, Step, Steps, Resets, counted}
-use Rattle.fw_bus_engine.proofs.Common.{times, half_steps_of, IsGood, steps_then, Reset}
+use Rattle.fw_bus_engine.proofs.Common.{
+  IsTrue,
+  Timed,
+  MOST_HALF_STEPS,
+  at_most,
+  State,
+  is_deaf,
+  is_living,
+  linked_number,
+  numbers_to,
+  half,
+  after_half,
+  Action,
+  HalfStep,
+  Transition,
+  Transitions,
+  counted,
+}
+use Rattle.fw_bus_engine.proofs.Common.{half_steps_of, IsGood, Reset}
 use Rattle.std.specs.Prelude.{⊤}
 use Rattle.fw_model_run.specs.State.{living}
 use Rattle.fw_model_run.specs.HalfSteps.{is_waiting}
-use Rattle.fw_model_run.specs.Afterwards.{Takes, after_reset_entry}
+use Rattle.fw_model_run.specs.Afterwards.{after_reset_entry}
+use Rattle.fw_model_run.specs.ControllerDeeds.{MayStep, stepping_as}
+use Rattle.fw_model_run.proofs.Done.{Done}
 use Rattle.fw_model_run.specs.Carrying.{Rounds, round}
 use Rattle.fw_model_run.proofs.Settling.{half_turn}
 use Rattle.fw_model_run.proofs.Forced.{forced_exists, forced_living}
-use Rattle.fw_model_run.proofs.Taking.{Taken, listens, keeps_deaf, forces_reset, taken_as}
+use Rattle.fw_model_run.proofs.Taking.{Taken, listens, keeps_deaf, forces_reset, taken_as, may_step}
 use Rattle.fw_model_run.proofs.Steps.{step_good}
-use Rattle.fw_bus_engine.proofs.Doings.{one_step}
 
 -- what a state has after half steps of it: the same devices live
 pub record After (s t : State) (count : ℕ) : Type 0 where
@@ -58,38 +76,49 @@ taken_leaves s d out t g quiet lives few good (forces_reset deaf r) = record {
   half_steps = ap (λ (z : State). z.half_steps) r.state_is;
 }
 
-pub half_leaves : (s : State) (d : ℕ) (out : List Timed) (t : State) → IsGood s → Step s (HalfStep d) out t → After s t 1
-half_leaves s d out t g f = taken_leaves s d out t g f.0 f.1.0 f.1.1 (step_good s (HalfStep d) out t g f) (taken_as s d out t f.1.2)
+pub half_leaves : (s : State) (d : ℕ) (out : List Timed) (t : State) → IsGood s → Transition s (HalfStep d) out t → After s t 1
+half_leaves s d out t g f = let may = may_step s d f.found f.may in taken_leaves s d out t g f.waits may.lives may.few (step_good s (HalfStep d) out t g f) (taken_as s d out t f)
 
 pub record OneGiven (s : State) (d : ℕ) : Type 0 where
   pub out : List Timed
   pub state : State
-  pub step : Step s (HalfStep d) out state
+  pub step : Transition s (HalfStep d) out state
+
+-- of one that has lost a response the time says what it does
+pub steps_deaf : (s : State) (d : ℕ) (waiting : Bool) (out : List Timed) (t : State) → IsTrue (is_deaf s d) → is_waiting s d ≡ waiting → s.transaction ≡ None
+    → Done (stepping_as true waiting s d) out t → Transition s (HalfStep d) out t
+steps_deaf s d waiting out t deaf e free x =
+    let z : Done (stepping_as (is_deaf s d) (is_waiting s d) s d) out t =
+    subst (λ b. Done (stepping_as b (is_waiting s d) s d) out t) (sym deaf) (subst (λ w. Done (stepping_as true w s d) out t) (sym e) x) in
+    record { found = z.found; waits = free; may = z.may; out_is = z.out_is; state_is = z.state_is }
 
 pub half_given : (s : State) (d : ℕ) → IsGood s → s.transaction ≡ None → IsTrue (is_living s d) → s.half_steps < MOST_HALF_STEPS → OneGiven s d
 half_given s d g quiet lives few = by_deaf (is_deaf s d) refl
   where
-    given : (out : List Timed) (t : State) → Takes (is_deaf s d) (is_waiting s d) s d out t → OneGiven s d
-    given out t takes = record { out = out; state = t; step = (quiet, (lives, few, takes)) }
+    may : MayStep s d
+    may = record { lives = lives; few = few }
 
     by_time : IsTrue (is_deaf s d) → (w : Bool) → is_waiting s d ≡ w → OneGiven s d
     by_time deaf true e =
-        given [] (counted s 1) (subst (λ b. Takes b (is_waiting s d) s d [] (counted s 1)) (sym deaf) (subst (λ w. Takes true w s d [] (counted s 1)) (sym e) (refl, refl)))
+        let waits : Done (stepping_as true true s d) [] (counted s 1) = record { found = tt; may = may; out_is = refl; state_is = refl } in
+        record { out = []; state = counted s 1; step = steps_deaf s d true [] (counted s 1) deaf e quiet waits }
     by_time deaf false e =
         let x = forced_exists s d g lives in
         let low = g.losses.counted d deaf in
         let most = g.losses.few in
         let t : State = after_reset_entry (counted s 1) x.entry in
         let out : List Timed = at_most s.clock.cycle (Some (Reset x.entry)) in
-        let r : Resets (counted s 1) d out t = record { entry = x.entry; is_entry = x.is; few = omega (arith, low, most); out_is = refl; state_is = refl } in
-        given out t (subst (λ b. Takes b (is_waiting s d) s d out t) (sym deaf) (subst (λ w. Takes true w s d out t) (sym e) r))
+        let forces : Done (stepping_as true false s d) out t =
+        record { found = x.entry; may = record { step = may; reset = record { is_entry = x.is; few = omega (arith, low, most) } }; out_is = refl; state_is = refl } in
+        record { out = out; state = t; step = steps_deaf s d false out t deaf e quiet forces }
 
     by_deaf : (b : Bool) → is_deaf s d ≡ b → OneGiven s d
     by_deaf true e = by_time e (is_waiting s d) refl
     by_deaf false e =
         let t = counted (after_half s d) 1 in
         let out = at_most s.clock.cycle (half s d).says in
-        given out t (subst (λ b. Takes b (is_waiting s d) s d out t) (sym e) (refl, refl))
+        let z = subst (λ b. Done (stepping_as b (is_waiting s d) s d) out t) (sym e) (record { found = tt; may = may; out_is = refl; state_is = refl }) in
+        record { out = out; state = t; step = record { found = z.found; waits = quiet; may = z.may; out_is = z.out_is; state_is = z.state_is } }
 
 -- ---- of several controllers
 
@@ -102,7 +131,7 @@ all_live_still s t count [] h f = tt
 all_live_still s t count (d ∷ ds) h f = (h.lives d ∙ f.0, all_live_still s t count ds h f.1)
 
 -- what half steps of these controllers leave
-pub halves_after : (ds : List ℕ) (s : State) (out : List Timed) (t : State) → IsGood s → s.transaction ≡ None → Steps s (half_steps_of ds) out t → After s t (length ds)
+pub halves_after : (ds : List ℕ) (s : State) (out : List Timed) (t : State) → IsGood s → s.transaction ≡ None → Transitions s (half_steps_of ds) out t → After s t (length ds)
 halves_after [] s out t g quiet f = subst (λ z. After s z 0) (sym f.1) (after_none s g quiet)
 halves_after (d ∷ ds) s out t g quiet f =
     let mid = f.2 in
@@ -114,7 +143,7 @@ halves_after (d ∷ ds) s out t g quiet f =
 pub record Given (s : State) (actions : List Action) (count : ℕ) : Type 0 where
   pub out : List Timed
   pub state : State
-  pub steps : Steps s actions out state
+  pub steps : Transitions s actions out state
   pub after : After s state count
 
 pub halves_given : (ds : List ℕ) (s : State) → IsGood s → s.transaction ≡ None → AllLive s ds → s.half_steps + length ds ≤ MOST_HALF_STEPS → Given s (half_steps_of ds) (length ds)
@@ -130,23 +159,6 @@ halves_given (d ∷ ds) s g quiet lives few =
       state = r.state;
       steps = (x.out, r.out, t, x.step, refl, r.steps);
       after = let same : 1 + length ds ≡ length (d ∷ ds) = omega arith in subst (λ k. After s r.state k) same (after_more s t r.state 1 (length ds) a r.after);
-    }
-
--- so many of one controller
-pub times_given : (k : ℕ) (s : State) (d : ℕ) → IsGood s → s.transaction ≡ None → IsTrue (is_living s d) → s.half_steps + k ≤ MOST_HALF_STEPS → Given s (times k (HalfStep d)) k
-unfolding times
-times_given zero s d g quiet lives few = record { out = []; state = s; steps = (refl, refl); after = after_none s g quiet }
-times_given (suc k) s d g quiet lives few =
-    let r = times_given k s d g quiet lives (omega (arith, few)) in
-    let still = r.after.lives d ∙ lives in
-    let count = r.after.half_steps in
-    let last = half_given r.state d r.after.good r.after.answered still (omega (arith, few, count)) in
-    let a = half_leaves r.state d last.out last.state r.after.good last.step in
-    record {
-      out = r.out ++ last.out;
-      state = last.state;
-      steps = steps_then s r.state last.state (times k (HalfStep d)) (HalfStep d ∷ []) r.out last.out r.steps (one_step r.state last.state (HalfStep d) last.out last.step);
-      after = let same : k + 1 ≡ suc k = omega arith in subst (λ n. After s last.state n) same (after_more s r.state last.state k 1 r.after a);
     }
 
 -- ---- rounds

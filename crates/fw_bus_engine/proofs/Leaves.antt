@@ -1,23 +1,23 @@
 -- What half steps leave: of the controllers all but one, and where nothing is written all but the count.
-use Rattle.fw_bus_engine.proofs.Common.{◌≡◌, ◌≢◌, inl, inr, ℕ, ◌+◌, ◌<◌, List, [], ◌∷◌, ◌++◌, length, Bool, true}
+use Rattle.fw_bus_engine.proofs.Common.{◌≡◌, inl, inr, ℕ, ◌<◌, List, [], ◌∷◌, ◌++◌, length, Bool, true}
 use Rattle.fw_bus_engine.proofs.Common.{false, cond, Option, Some, None, refl, ap, sym, subst, ◌∙◌, arith, IsTrue, IsFalse, Ok}
 use Rattle.fw_bus_engine.proofs.Common.{Err, Result, false≢true, get_or-set_other, length-set, Pairs, without, Reply, entry_bytes}
 use Rattle.fw_bus_engine.proofs.Common.{epoch_after, Entry, Reset, Timed, Two, Current, Nothing, Asking, Hearing}
 use Rattle.fw_bus_engine.proofs.Common.{Overtaken, Directory, Next, Send, Access, ControllerState, IsHeard, Listening}
-use Rattle.fw_bus_engine.proofs.Common.{after_turn, turn_of, addressee_of, after_next, at_cycle, Gives, IsReady, looked_at}
+use Rattle.fw_bus_engine.proofs.Common.{GivesEntry, after_turn, turn_of, addressee_of, after_next, at_cycle, Gives, IsReady, looked_at}
 use Rattle.fw_bus_engine.proofs.Common.{ControllerTable, Listens, states_of, Machine, state_same, GivesReset, nodes_after}
 use Rattle.std.specs.Prelude.{OnOk, slice_set}
 use Rattle.std.proofs.lemmas.List.{length-append, set-get_or}
 use Rattle.fw_outside.specs.Outside.{Writes}
-use Rattle.fw_cmp.specs.declared.current.Task.{Task}
+use Rattle.fw_cmp.specs.declared.current.WaitingJob.{WaitingJob}
 use Rattle.fw_cmp.specs.declared.outcome.Next.TheVariants.{End, Idle, Waiting, Deaf, Force}
 use Rattle.fw_cmp.specs.Controllers.{Fits}
 use Rattle.fw_cmp.specs.Jobs.{ready}
 use Rattle.fw_cmp.specs.Losses.{asked_by, first_listening, deaf_turn, deaf_until}
-use Rattle.fw_cmp.specs.Requests.{access_of}
+use Rattle.fw_cmp_jobs.specs.Requests.{access_of}
 use Rattle.fw_cmp.specs.Turns.{answer_of, asks_or_ends, is_busy, next, rests, sending}
 use Rattle.fw_cmp.proofs.Resting.{idle_stays}
-use Rattle.fw_bus_state.specs.Halves.{IsHalfFrom, counted_in}
+use Rattle.fw_bus_state.specs.Halves.{IsHalfFrom}
 use Rattle.fw_bus_state.specs.Giving.{Sides}
 use Rattle.fw_bus_engine.specs.Leaving.{WhereNothing}
 use Rattle.fw_bus_engine.specs.Serving.{Serves}
@@ -32,7 +32,7 @@ with_one t d x = record t { list = slice_set t.list d x }
 others_stay : (t : ControllerTable) (d : ℕ) (x : Listening) (k : ℕ) → (k ≡ d → ⊥) → states_of (with_one t d x) k ≡ states_of t k
 others_stay t d x k ne = get_or-set_other t.list d k x first_listening ne
 
--- no request stood
+-- no request was outstanding
 pub half_asks : (m : Machine) (k : ControllerTable) (w : Pairs) (d : ℕ) (x : Listening) → k ≡ with_one m.controllers d x → IsHalfFrom d true m (record m { controllers = k; wire = w })
 half_asks m k w d x is = subst (λ (t : ControllerTable). IsHalfFrom d true m (record m { controllers = t; wire = w })) (sym is) (record {
   rest = refl;
@@ -44,7 +44,7 @@ half_asks m k w d x is = subst (λ (t : ControllerTable). IsHalfFrom d true m (r
   asked = λ asks. (refl, refl);
 })
 
--- a request stood, and was carried out
+-- a request was outstanding, and was carried out
 pub half_hears : (m now : Machine) (k : ControllerTable) (d : ℕ) (bytes : List ℕ) (r : Reply) (x : Listening) → Serves m now d bytes r → k ≡ with_one now.controllers d x
     → IsHalfFrom d false m (record now { controllers = k })
 half_hears m now k d bytes r x s is =
@@ -88,7 +88,7 @@ half_counted d n asks old new h = record {
 pub half_only_counted : (d n : ℕ) (asks : Bool) (m : Machine) → IsHalfFrom d asks m (record m { half_steps = n })
 half_only_counted d n asks m = record { rest = refl; frame = refl; size = refl; flags = refl; same_size = refl; others = λ k ne. refl; asked = λ t. (refl, refl) }
 
--- ---- where nothing is written
+-- ---- if nothing is written
 
 -- an entry that was written is not nothing
 grew_not : (xs bytes : List ℕ) → 0 < length bytes → xs ≡ xs ++ bytes → ⊥
@@ -119,6 +119,13 @@ pub where_not : {T E : Type 0} (held after : Option (List ℕ)) (r : Result T E)
 where_not held after (Ok u) P never = λ bytes e f. absurd (never bytes e f)
 where_not held after (Err u) P never = tt
 
+-- where a turn wrote nothing it had nothing to write
+pub said_nothing : {T E : Type 0} (held after : Option (List ℕ)) (r : Result T E) (cycle epoch : ℕ) (e : Option Entry) → GivesEntry held after r cycle epoch e
+    → OnOk r (WhereNothing held after (e ≡ None))
+said_nothing held after (Ok u) cycle epoch None g = λ bytes e f. refl
+said_nothing held after (Err u) cycle epoch None g = tt
+said_nothing held after r cycle epoch (Some e) g = where_not held after r _ (wrote_not held after r (epoch_after epoch e) (at_cycle cycle e) g)
+
 -- what follows if a call was Ok
 pub where_then : {T E : Type 0} (held after : Option (List ℕ)) (r : Result T E) (P Q : Type 0) → (P → Q) → OnOk r (WhereNothing held after P) → OnOk r (WhereNothing held after Q)
 where_then held after (Ok u) P Q f h = λ bytes e g. f (h bytes e g)
@@ -136,7 +143,7 @@ hears_still : (now : ℕ) (told : Directory) (c : ControllerState) → is_lost_a
 unfolding is_lost_answer
 hears_still now told c = go c.current
   where
-    rest : (ts : List Task) → is_lost_answer (rests told ts) ≡ false
+    rest : (ts : List WaitingJob) → is_lost_answer (rests told ts) ≡ false
     rest [] = refl
     rest (t ∷ ts) = refl
 

@@ -1,4 +1,5 @@
 pub mod Common
+pub mod Responder
 pub mod FrameNodes
 pub mod FrameTurns
 pub mod Sending
@@ -25,6 +26,7 @@ pub mod LifeTurns
 pub mod Withholds
 pub mod LifeOrders
 pub mod Served
+pub mod ControllerTurns
 pub mod Losing
 pub mod ShowTurns
 pub mod Asked

@@ -1,7 +1,7 @@
 -- What the orders of deaths and starts are, by their actions.
 use Rattle.fw_bus_engine.proofs.Common.{◌≡◌, ℕ, ◌&&◌, not, List, [], ◌∷◌, ◌++◌, Bool, true, false, Some, None}
 use Rattle.fw_bus_engine.proofs.Common.{is_some, refl, ap, sym, subst, ◌∙◌, IsTrue, Timed, at_most, State, is_living, linked_number}
-use Rattle.fw_bus_engine.proofs.Common.{after_half, Action, Steps, Carries, IsGood, Machine, Performs, StandsFor, is_living_in, states_of, dead_of, living_same}
+use Rattle.fw_bus_engine.proofs.Common.{after_half, Action, Transitions, Carries, IsGood, Machine, Performs, StandsFor, is_living_in, states_of, dead_of, living_same}
 use Rattle.std.specs.Prelude.{IsFalse}
 use Rattle.fw_order.specs.declared.order.Order.TheVariants as Orders
 use Rattle.fw_model_run.specs.Entries.{died}
@@ -17,7 +17,7 @@ use Rattle.fw_bus_state.proofs.Heard.{may_rest}
 
 -- the order, if no request is to be carried out
 pub dies_at : (m : Machine) (d : ℕ) (late : Bool) → (late ≡ true → MayTurn (states_of m.controllers d))
-    → (s t : State) (xs : List Action) (out : List Timed) → IsGood s → StandsFor m s → Performs (Die d ∷ []) s xs out t → Steps s xs out t
+    → (s t : State) (xs : List Action) (out : List Timed) → IsGood s → StandsFor m s → Performs (Die d ∷ []) s xs out t → Transitions s xs out t
     → Carries s (Orders.Die d late) xs out t
 dies_at m d false quiet s t xs out g st f p = subst (λ z. Carries s (Orders.Die d false) z out t) (sym f.0) (dies f.1)
 dies_at m d true quiet s t xs out g st f p =
@@ -34,11 +34,11 @@ pub late_goes : (m : Machine) (d : ℕ) → IsTrue (is_living_in m d) → GoesOn
 late_goes m d lives s u xs a g st f p =
     let living : IsTrue (is_living s d) = subst IsTrue (living_same m s d g st) lives in
     let still = (half_turn s d g living).1 in
-    let is : u ≡ after_half s d = f.1.5.1 ∙ f.1.3.1.3 in
+    let is : u ≡ after_half s d = f.1.5.1 ∙ f.1.3.state_is in
     let lives_after : IsTrue (is_living (after_half s d) d) = (λ i. is_some (linked_number (still.latest i) d) && not (still.dead i d)) ∙ living in
     let lives_now : IsTrue (is_living u d) = subst (λ x. IsTrue (is_living x d)) (sym is) lives_after in
     let quiet : u.transaction ≡ None = ap (λ (x : State). x.transaction) is ∙ st.answered in
-    let step = one_step u (after_death u d) (Die d) (at_most u.clock.cycle (Some (died d))) (quiet, (lives_now, refl, refl)) in (
+    let step = one_step u (after_death u d) (Die d) (at_most u.clock.cycle (Some (died d))) (record { found = tt; waits = quiet; may = lives_now; out_is = refl; state_is = refl }) in (
       Die d ∷ [],
       at_most u.clock.cycle (Some (died d)),
       after_death u d,

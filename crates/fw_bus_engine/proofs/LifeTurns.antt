@@ -2,10 +2,10 @@
 use Rattle.fw_bus_engine.proofs.Common.{◌≡◌, ℕ, ◌<◌, ◌&&◌, not, Bool, true, false, Option, Some, None, refl, ap, sym, subst, ◌∙◌, IsTrue, Ok, Result, PlugAt, update, at_plug, Entry, Account}
 use Rattle.fw_bus_engine.proofs.Common.{Register, word_of, ControllerState, at_most, State, is_living, is_linked, half, after_half, IsGood, living_linked, Machine, TakesAction, TakesHalf, StandsFor}
 use Rattle.fw_bus_engine.proofs.Common.{is_linked_in, is_living_in, ControllerTable, IsTable, count_of, states_of, dead_of, Pairs, without, node_at, HasWire, linked_same, living_same}
-use Rattle.fw_bus_engine.proofs.Common.{length, Listening, Awaits, Stage, stands_here, Election, step_beside, CandidateTable, HasElection, candidates_of}
+use Rattle.fw_bus_engine.proofs.Common.{length, Listening, Awaits, Stage, stands_here, Election, step_beside, CandidateTable, HasElection, candidates_of, Transition}
 use Rattle.fw_model_account.specs.Events.{after_death as account_after_death}
 use Rattle.fw_cmp.specs.Controllers.{IsStanding, first_state as new_controller}
-use Rattle.fw_cmp.specs.Fits.{SlotFits}
+use Rattle.fw_cmp_jobs.specs.Fits.{SlotFits}
 use Rattle.fw_cmp.specs.Starts.{break_fault, break_started, started as given}
 use Rattle.fw_model_controllers.specs.Lingering.{SameLinger}
 use Rattle.fw_order.specs.declared.order.Wanted.{Wanted}
@@ -15,7 +15,7 @@ use Rattle.fw_model_run.specs.Actions.{StartConnection, StartBreak, Die, CarryOu
 use Rattle.fw_model_run.specs.Afterwards.{slot_of, start_of, with_connection, after_death, after_start, with_new_controller}
 use Rattle.fw_model_run.proofs.Counting.{deaths_keep}
 use Rattle.fw_bus_engine.proofs.HalfWires.{own_number}
-use Rattle.fw_bus_state.proofs.Wires.{wire_same, wire_take}
+use Rattle.fw_bus_state.proofs.Wires.{changed_wire, take_request, wire_same}
 use Rattle.fw_bus_state.proofs.WireResets.{given_current, break_current, same_currents}
 use Rattle.fw_bus_engine.proofs.Deaths.{death_words}
 use Rattle.fw_bus_state.proofs.Living.{linked_low}
@@ -27,7 +27,7 @@ use Rattle.fw_model_run.proofs.Apart.{controllers_of, all_start, all_break, all_
 use Rattle.fw_bus_state.proofs.Heard.{at_same, stands_request}
 use Rattle.fw_bus_state.proofs.Counts.{streams_same}
 use Rattle.fw_model_run.specs.Elections.{with_candidate}
-use Rattle.fw_bus_state.proofs.Besides.{taken_bids}
+use Rattle.fw_bus_state.proofs.Besides.{changed_bids}
 use Rattle.fw_bus_state.specs.Stands.{HasDevices}
 use Rattle.fw_bus_state.specs.Bids.{HasBids}
 use Rattle.fw_model_run.specs.Beside.{IsBeside}
@@ -100,7 +100,7 @@ connect_turns m table d w i lives slot found put = record {
       let living : IsTrue (is_living s d) = subst IsTrue (living_same m s d g st) lives in
       let is = subst (λ (r : Result ℕ StartFault). IsTable table (count_of m.controllers) (connected d w r (states_of m.controllers)) (dead_of m.controllers)) (sym found) put in (
         with_connection s d w,
-        (st.answered, (living, slot, (i, sym same ∙ found), refl, refl)),
+        record { found = tt; waits = st.answered; may = record { lives = living; fits = slot; slot = i; starts = sym same ∙ found }; out_is = refl; state_is = refl },
         table_stands m s table (with_connection s d w).controllers s.asked_at s.lost (λ c. connected d w (start_of d w (c d).state) c)
             (λ x. x) s.account m.wire s.streams m.candidates m.bids s.election st (same_account s.account) is (all_start s d w)
             (wire_same m.wire s (with_connection s d w) refl refl
@@ -124,7 +124,7 @@ break_turns m table d i lives ok is = record {
       let accepted : break_fault (s.controllers d) i ≡ None = sym same ∙ ok in
       let living : IsTrue (is_living s d) = subst IsTrue (living_same m s d g st) lives in (
         with_controller s d (break_started (s.controllers d) i),
-        (st.answered, (living, accepted, refl, refl)),
+        record { found = tt; waits = st.answered; may = record { lives = living; starts = accepted }; out_is = refl; state_is = refl },
         table_stands m s table (with_controller s d (break_started (s.controllers d) i)).controllers s.asked_at s.lost (broken d i)
             (λ x. x) s.account m.wire s.streams m.candidates m.bids s.election st (same_account s.account) is (all_break s d i)
             (wire_same m.wire s (with_controller s d (break_started (s.controllers d) i)) refl refl
@@ -156,19 +156,20 @@ death_turns m table left d own e lives number entry is leaves = record {
   shown = λ s g st.
       let living : IsTrue (is_living s d) = subst IsTrue (living_same m s d g st) lives in
       let out : at_most m.cycle (Some e) ≡ at_most s.clock.cycle (Some (died d)) = (λ i. at_most (st.clock.cycle i) (Some (entry i))) in
-      let same = death_same s.account d (linked_low s d g (living_linked s d living)) in (
+      let same = death_same s.account d (linked_low s d g (living_linked s d living)) in
+      let step : Transition s (Die d) (at_most s.clock.cycle (Some (died d))) (after_death s d) = record { found = tt; waits = st.answered; may = living; out_is = refl; state_is = refl } in (
         after_death s d,
-        (st.answered, (living, out, refl)),
+        record { found = tt; waits = st.answered; may = living; out_is = out; state_is = refl },
         table_stands m s table (after_death s d).controllers (after_death s d).asked_at (after_death s d).lost (renewed d) (marked d true) (account_after_death d s.account) (without own m.wire)
             (after_death s d).streams left (without own m.bids) (with_candidate s.election d None) st same is (all_die s d)
-            (wire_take m.wire s (after_death s d) d own new_controller g
+            (changed_wire m.wire (without own m.wire) s (after_death s d) d own new_controller g
             (record { latest = same.latest; told = directory_same s (after_death s d) same.latest refl; controllers = refl })
-            (own_number m s d own g st lives number) refl st.wire)
-            (deaths_keep s d (at_most s.clock.cycle (Some (died d))) (after_death s d) g (st.answered, (living, refl, refl)))
+            (own_number m s d own g st lives number) (take_request m.wire own) st.wire)
+            (deaths_keep s d (at_most s.clock.cycle (Some (died d))) (after_death s d) g step)
             (subst (λ n. HasElection left n (with_candidate s.election d None)) st.election.size
             (leaves s.election (subst (λ n. HasElection m.candidates n s.election) (sym st.election.size) st.election)))
-            (taken_bids m.bids s (after_death s d) d own g (own_number m s d own g st lives number) same.latest refl st.bids)
-            (step_beside s (Die d) (at_most s.clock.cycle (Some (died d))) (after_death s d) g st.around (st.answered, (living, refl, refl))),
+            (changed_bids m.bids (without own m.bids) s (after_death s d) d own None g (own_number m s d own g st lives number) same.latest refl (take_request m.bids own) st.bids)
+            (step_beside s (Die d) (at_most s.clock.cycle (Some (died d))) (after_death s d) g st.around step),
       );
 }
 
@@ -189,20 +190,22 @@ start_turns m table d e on was entry is = record {
   shown = λ s g st.
       let linked : IsTrue (is_linked s d) = subst IsTrue (linked_same m.devices s d g st.devices) on in
       let dead : IsTrue (s.dead d) = sym (ap (λ (c : ℕ → Bool). c d) st.table.dead_are) ∙ was in
-      let out : at_most m.cycle (Some e) ≡ at_most s.clock.cycle (Some (started d)) = (λ i. at_most (st.clock.cycle i) (Some (entry i))) in (
+      let out : at_most m.cycle (Some e) ≡ at_most s.clock.cycle (Some (started d)) = (λ i. at_most (st.clock.cycle i) (Some (entry i))) in
+      let step : Transition s (Start d) (at_most s.clock.cycle (Some (started d))) (after_start s d) =
+      record { found = tt; waits = st.answered; may = record { linked = linked; dead = dead }; out_is = refl; state_is = refl } in (
         after_start s d,
-        (st.answered, (linked, dead, out, refl)),
+        record { found = tt; waits = st.answered; may = record { linked = linked; dead = dead }; out_is = out; state_is = refl },
         table_stands m s table (after_start s d).controllers (after_start s d).asked_at (after_start s d).lost (renewed d) (marked d false) s.account m.wire s.streams m.candidates m.bids s.election st
             (same_account s.account) is (all_start_again s d)
             (wire_same m.wire s (with_new_controller s d false) refl refl
             (same_currents s.controllers d new_controller (sym (ap (λ (x : ControllerState). x.current) (unused s d g dead)))) st.wire)
             (λ p. refl)
             st.election st.bids
-            (step_beside s (Start d) (at_most s.clock.cycle (Some (started d))) (after_start s d) g st.around (st.answered, (linked, dead, refl, refl))),
+            (step_beside s (Start d) (at_most s.clock.cycle (Some (started d))) (after_start s d) g st.around step),
       );
 }
 
--- ---- the request that stands
+-- ---- the outstanding request
 
 -- it is carried out
 pub carry_turns : (m now : Machine) (d : ℕ) (e : Option Entry)
@@ -215,5 +218,5 @@ carry_turns m now d e lives stands takes = record {
       let x = takes s g st in
       let said = x.0 in
       let out : at_most m.cycle e ≡ at_most s.clock.cycle (half s d).says = (λ i. at_most (st.clock.cycle i) (said i)) in
-      (after_half s d, (st.answered, (living, request, out, refl)), x.1);
+      (after_half s d, record { found = tt; waits = st.answered; may = record { lives = living; stands = request }; out_is = out; state_is = refl }, x.1);
 }

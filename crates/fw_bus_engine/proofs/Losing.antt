@@ -73,7 +73,7 @@ loses_turns m n k d a to device own packet response r lives standing few sent re
       let out : at_most m.cycle (Some (Async response)) ≡ at_most s.clock.cycle (half s d).says = (λ i. at_most (st.clock.cycle i) (said i)) in
       let all = table_with m s (after_loss s d) k d (unheard (states_of m.controllers d)) (unheard (controller_at s d)) st (ap unheard (at_same m s d st)) (all_lose s d g living request) table in (
         after_loss s d,
-        (st.answered, (living, request, low, out, refl)),
+        record { found = tt; waits = st.answered; may = record { request = record { lives = living; stands = request }; counts = low }; out_is = out; state_is = refl },
         unheard_stands (record m { devices = n; controllers = heard_table m d r; wire = without own m.wire; streams = looked_at device n.nodes m.streams }) (after_half s d) k (m.resets + 1)
             (s.resets + 1)
             (after_loss s d).lost (ap (λ n. n + 1) st.clock.resets) x.1 all,
@@ -104,7 +104,11 @@ served_unheard m now k d bytes r ready lives s table = unheard_there now k d (se
 
 pub tells_turns : (m : Machine) (d : ℕ) → IsTrue (states_of m.controllers d).lost → TakesAction (TellLoss d) m m m.cycle (Some (lost d))
 tells_turns m d deaf = record {
-  shown = λ s g st. (record s { account = entered s.account (lost d) }, (st.answered, (sym (lost_same m s d st) ∙ deaf, ap (λ c. at_most c (Some (lost d))) st.clock.cycle, refl)), st);
+  shown = λ s g st. (
+    record s { account = entered s.account (lost d) },
+    record { found = tt; waits = st.answered; may = sym (lost_same m s d st) ∙ deaf; out_is = ap (λ c. at_most c (Some (lost d))) st.clock.cycle; state_is = refl },
+    st,
+  );
 }
 
 -- one after the other is the order
@@ -122,12 +126,12 @@ request_stage (Overtaken i o) on = absurd (grind (arith, on))
 
 pub loses_goes : (m : Machine) (d : ℕ) → GoesOn m (Performs (Lose d ∷ [])) (λ s. Carries s (Orders.Lose d))
 loses_goes m d s u xs a g st f p =
-    let is : u ≡ after_loss s d = f.1.5.1 ∙ f.1.3.1.4 in
-    let kept : is_deaf (after_loss s d) d ≡ true = ap is_some (update_new s.lost d (stage_of (s.controllers d).current)) ∙ request_stage (s.controllers d).current f.1.3.1.1 in
+    let is : u ≡ after_loss s d = f.1.5.1 ∙ f.1.3.state_is in
+    let kept : is_deaf (after_loss s d) d ≡ true = ap is_some (update_new s.lost d (stage_of (s.controllers d).current)) ∙ request_stage (s.controllers d).current f.1.3.may.request.stands in
     let deaf : IsTrue (is_deaf u d) = ap (λ (z : State). is_deaf z d) is ∙ kept in
     let quiet : u.transaction ≡ None = ap (λ (z : State). z.transaction) is ∙ st.answered in
     let told : State = record u { account = entered u.account (lost d) } in
-    let step = one_step u told (TellLoss d) (at_most u.clock.cycle (Some (lost d))) (quiet, (deaf, refl, refl)) in (
+    let step = one_step u told (TellLoss d) (at_most u.clock.cycle (Some (lost d))) (record { found = tt; waits = quiet; may = deaf; out_is = refl; state_is = refl }) in (
       TellLoss d ∷ [],
       at_most u.clock.cycle (Some (lost d)),
       told,

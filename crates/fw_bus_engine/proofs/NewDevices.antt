@@ -1,7 +1,24 @@
 -- Devices and cables that come to the machine are those of the run.
 use Rattle.fw_bus_engine.proofs.Common.{◌≡◌, ℕ, ◌+◌, ◌<◌, ◌≤◌, List, [], ◌∷◌, ◌++◌, Option, None, Some, refl}
 use Rattle.fw_bus_engine.proofs.Common.{ap, sym, subst, ◌∙◌, arith, length, Result, DeviceKind, Reset, ResetEntry, Timed, Topology}
-use Rattle.fw_bus_engine.proofs.Common.{MOST_RESETS, at_most, State, epoch_of, Step, Resets, IsGood, IsLatest, Machine, BeginsReset, GivesReset, between, HasLingering, StandsFor, HasNodes, HasDecks}
+use Rattle.fw_bus_engine.proofs.Common.{
+  MOST_RESETS,
+  at_most,
+  State,
+  epoch_of,
+  Transition,
+  Resets,
+  IsGood,
+  IsLatest,
+  Machine,
+  BeginsReset,
+  GivesReset,
+  between,
+  HasLingering,
+  StandsFor,
+  HasNodes,
+  HasDecks,
+}
 use Rattle.fw_bus_engine.proofs.Common.{IsReady, ControllerTable, IsTable, count_of, states_of, dead_of, TakesAction}
 use Rattle.fw_bus_engine.proofs.Common.{Performed, Performs, Election, CandidateTable, HasElection, candidates_of, HasHearers}
 use Rattle.std.proofs.lemmas.List.{length-append, map-append}
@@ -9,8 +26,10 @@ use Rattle.fw_node.specs.State as Nodes
 use Rattle.fw_devices.specs.Network.{with_device, facts_of}
 use Rattle.fw_model_run.specs.State as States
 use Rattle.fw_model_run.specs.Actions.{AddDevice}
-use Rattle.fw_model_run.specs.Afterwards.{Declares, beginning}
-use Rattle.fw_model_run.proofs.Declares.{MayDeclare, more_declared}
+use Rattle.fw_model_run.specs.Afterwards.{beginning}
+use Rattle.fw_model_run.specs.BusDeeds.{MayDeclare, declaring_beside}
+use Rattle.fw_model_run.proofs.Declares.{more_declared}
+use Rattle.fw_model_run.proofs.Done.{Done}
 use Rattle.fw_bus_state.proofs.DeckNodes.{decks_declared}
 use Rattle.fw_bus_state.proofs.Lingers.{lingering_declared}
 use Rattle.fw_bus_state.proofs.Nodes.{nodes_declared}
@@ -93,14 +112,20 @@ pub record MayAdd (m : Machine) (ports speed : ℕ) : Type 0 where
   pub fast : speed ≤ 2
 
 -- the run may declare the device too
-may_declare : (m : Machine) (s : State) (ports speed : ℕ) → IsGood s → StandsFor m s → MayAdd m ports speed → MayDeclare s ports speed
-may_declare m s ports speed g st may = record {
-  good = g;
+may_declare : (m : Machine) (s : State) (ports speed : ℕ) → StandsFor m s → MayAdd m ports speed → MayDeclare s ports speed
+may_declare m s ports speed st may = record {
   room = subst (λ (xs : List (List ℕ)). length xs < 63) st.devices.names may.room;
-  some = may.some;
+  least = may.some;
   most = may.most;
-  fast = may.fast;
+  rate = may.fast;
 }
+
+-- the names that are declared already decide what it begins
+declares_as : (s : State) (name : List ℕ) (kind : DeviceKind) (ports speed : ℕ) (out : List Timed) (t : State) (names : List (List ℕ)) → s.declared.names ≡ names → s.transaction ≡ None
+    → Done (declaring_beside names s name kind ports speed) out t → Transition s (AddDevice name kind ports speed) out t
+declares_as s name kind ports speed out t names e free x =
+    let z : Done (declaring_beside s.declared.names s name kind ports speed) out t = subst (λ xs. Done (declaring_beside xs s name kind ports speed) out t) (sym e) x in
+    record { found = z.found; waits = free; may = z.may; out_is = z.out_is; state_is = z.state_is }
 
 -- the first device begins the first bus reset
 first_turns : (m now : Machine) (table : ControllerTable) (more_table : CandidateTable) (name : List ℕ) (kind : DeviceKind) (ports speed : ℕ) → m.devices.names ≡ [] → MayAdd m ports speed
@@ -113,28 +138,33 @@ first_turns m now table more_table name kind ports speed none may more extra few
     new = record (with_device_in m table more_table name kind ports speed) { resets = 1 }
 
     shown_ : (s : State) → IsGood s → StandsFor m s
-        → (t : State) × Step s (AddDevice name kind ports speed) (at_most m.cycle (Some (Reset now.devices.latest))) t × StandsFor now t
+        → (t : State) × Transition s (AddDevice name kind ports speed) (at_most m.cycle (Some (Reset now.devices.latest))) t × StandsFor now t
     shown_ s g st =
         let names : s.declared.names ≡ [] = sym st.devices.names ∙ none in
-        let d = may_declare m s ports speed g st may in
-        let declares = λ (out : List Timed) (t : State) (r : Resets (beginning (declared_in s name kind ports speed)) 0 out t).
-        subst (λ (xs : List (List ℕ)). Declares xs (declared_in s name kind ports speed) out t) (sym names) r in
+        let d = may_declare m s ports speed st may in
+        let begins : (out : List Timed) (t : State) → Resets (beginning (declared_in s name kind ports speed)) 0 out t → Transition s (AddDevice name kind ports speed) out t
+        = λ out t r. declares_as s name kind ports speed out t [] names st.answered (record {
+          found = r.entry;
+          may = record { device = d; reset = record { is_entry = r.is_entry; few = r.few } };
+          out_is = r.out_is;
+          state_is = r.state_is;
+        }) in
         let begin : MayBegin new s (beginning (declared_in s name kind ports speed)) 0 = record {
           is_good = g;
           around = st.around;
           dub = refl;
           action = AddDevice name kind ports speed;
-          begins = λ out t r. (st.answered, (d.room, may.some, may.most, may.fast, declares out t r));
+          begins = begins;
           extends = let x = extends_declared s name kind ports speed g in record { account = refl; cycle = refl; decks = refl; streams = refl; kinds = x.kinds };
           stands = resets_stand (with_device_in m table more_table name kind ports speed) (declared_in s name kind ports speed) 1 1 refl
               (declared_stands m s table more_table name kind ports speed g st more extra);
-          declared = more_declared s name kind ports speed d;
+          declared = more_declared s name kind ports speed g d;
           some = let n = length-append m.devices.nodes (Nodes.first_state kind (length m.devices.names) speed m.devices.withheld ∷ []) in omega (arith, n);
           more = let n = length-append s.declared.topology.devices (facts_of kind ports speed ∷ []) in omega (arith, n);
           walks = λ c on. on;
         } in
         let r = reset_of new now s (beginning (declared_in s name kind ports speed)) 0 begin b few in
-        (r.state, begin.begins (at_most m.cycle (Some (Reset now.devices.latest))) r.state r.resets, r.stands)
+        (r.state, begins (at_most m.cycle (Some (Reset now.devices.latest))) r.state r.resets, r.stands)
 
 -- any other is off
 pub later_turns : (m : Machine) (table : ControllerTable) (more_table : CandidateTable) (name : List ℕ) (kind : DeviceKind) (ports speed : ℕ) → 0 < length m.devices.names
@@ -142,17 +172,17 @@ pub later_turns : (m : Machine) (table : ControllerTable) (more_table : Candidat
     → TakesAction (AddDevice name kind ports speed) m (with_device_in m table more_table name kind ports speed) m.cycle None
 later_turns m table more_table name kind ports speed there may more extra = record { shown = shown_ }
   where
-    declares : (names : List (List ℕ)) (s : State) → 0 < length names → Declares names s [] s
-    declares [] s lt = absurd (omega (arith, lt))
-    declares (x ∷ xs) s lt = (refl, refl)
+    declares : (names : List (List ℕ)) (s : State) → 0 < length names → MayDeclare s ports speed → Done (declaring_beside names s name kind ports speed) [] (declared_in s name kind ports speed)
+    declares [] s lt may = absurd (omega (arith, lt))
+    declares (x ∷ xs) s lt may = record { found = tt; may = may; out_is = refl; state_is = refl }
 
     shown_ : (s : State) → IsGood s → StandsFor m s
-        → (t : State) × Step s (AddDevice name kind ports speed) [] t × StandsFor (with_device_in m table more_table name kind ports speed) t
+        → (t : State) × Transition s (AddDevice name kind ports speed) [] t × StandsFor (with_device_in m table more_table name kind ports speed) t
     shown_ s g st =
-        let d = may_declare m s ports speed g st may in
+        let d = may_declare m s ports speed st may in
         let some = subst (λ (xs : List (List ℕ)). 0 < length xs) st.devices.names there in (
           declared_in s name kind ports speed,
-          (st.answered, (d.room, may.some, may.most, may.fast, declares s.declared.names (declared_in s name kind ports speed) some)),
+          declares_as s name kind ports speed [] (declared_in s name kind ports speed) s.declared.names refl st.answered (declares s.declared.names s some d),
           declared_stands m s table more_table name kind ports speed g st more extra,
         )
 

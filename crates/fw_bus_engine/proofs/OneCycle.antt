@@ -2,7 +2,7 @@
 use Rattle.fw_bus_engine.proofs.Common.{◌≡◌, ℕ, ◌+◌, ◌%◌, ◌<◌, ◌==◌, ◌&&◌, cond, List, [], ◌∷◌, ◌++◌, length, Bool}
 use Rattle.fw_bus_engine.proofs.Common.{true, false, Option, Some, None, is_some, option_map, refl, ap, sym, subst, ◌∙◌, arith}
 use Rattle.fw_bus_engine.proofs.Common.{append-nil, IsTrue, Ok, Result, same_Some, Packet, at_plug, Async, ResetEntry, Timed}
-use Rattle.fw_bus_engine.proofs.Common.{Action, Pass, EndSecond, Step, Steps, DeskRelations, IsGood, IsLatest, State}
+use Rattle.fw_bus_engine.proofs.Common.{Action, Pass, EndSecond, Transition, Transitions, DeskRelations, IsGood, IsLatest, State}
 use Rattle.fw_bus_engine.proofs.Common.{steps_good, Machine, HadSent, PerformedWhere, unheard, Gives, between, Recording, Performs, Performed, TakesAction, PerformedWithDesk, IsReady}
 use Rattle.fw_bus_engine.proofs.Common.{StandsFor, Grows-nothing}
 use Rattle.fw_order.specs.declared.limits.TheConstants.{MOST_WRITTEN_CYCLES}
@@ -46,7 +46,7 @@ pub record HasBegun (s t : State) : Type 0 where
   pub mid : State
   pub came : HasCome s mid
   pub out : List Timed
-  pub step : Step s (next_cycle s) out mid
+  pub step : Transition s (next_cycle s) out mid
   pub entry : ResetEntry
   pub latest : s.account.latest ≡ Some entry
   pub state_is : t ≡ record mid { written = mid.written + 1 }
@@ -54,9 +54,9 @@ pub record HasBegun (s t : State) : Type 0 where
 pub begun : (s t : State) (xs : List Action) (out : List Timed) → Begins s xs out t → HasBegun s t
 begun s t xs out p =
     let f = p.1 in
-    let x = f.5.3.1 in
+    let x = f.5.3 in
     let come = has_come s f.2 f.0 f.3 in
-    record { mid = f.2; came = come; out = f.0; step = f.3; entry = x.1.0; latest = sym come.latest ∙ x.1.1; state_is = f.5.5.1 ∙ x.2 }
+    record { mid = f.2; came = come; out = f.0; step = f.3; entry = x.found; latest = sym come.latest ∙ x.may.latest; state_is = f.5.5.1 ∙ x.state_is }
 
 begins_given : {T E : Type 0} {D : DeskRelations} {m now : Machine} {a b : Option (List ℕ)} {k l : ℕ} {r : Result T E} → Performed Begins m now (between a b k l) r
     → PerformedWithDesk D Begins m now (between a b k l) r
@@ -152,7 +152,7 @@ hears_here old new is d = where_when (λ s t xs out g st p f.
     (p.0, ap block_in p.1 ∙ (ap (λ o. block_in (heard_among out o)) (is s g st) ∙ recorded_among s s.dub.tied out))) d
 
 -- what comes before the packets is not heard
-heard_last : (s mid : State) (a b : List Timed) → Steps s (next_cycle s ∷ StartCycle ∷ []) a mid → heard_in mid (a ++ b) ≡ heard_in mid b
+heard_last : (s mid : State) (a b : List Timed) → Transitions s (next_cycle s ∷ StartCycle ∷ []) a mid → heard_in mid (a ++ b) ≡ heard_in mid b
 heard_last s mid a b f = go mid.dub.tied
   where
     go : (o : Option ℕ) → heard_by mid o (a ++ b) ≡ heard_by mid o b
@@ -180,8 +180,8 @@ cycle_heard s mid t block xs ys a b p q =
 
 -- ---- and goes onto the reel
 
-keep_step : (u : State) (block : Option (List ℕ)) → u.transaction ≡ None → Steps u (KeepBlock block ∷ []) [] (with_block u block)
-keep_step u block quiet = one_step u (with_block u block) (KeepBlock block) [] (quiet, (refl, refl))
+keep_step : (u : State) (block : Option (List ℕ)) → u.transaction ≡ None → Transitions u (KeepBlock block ∷ []) [] (with_block u block)
+keep_step u block quiet = one_step u (with_block u block) (KeepBlock block) [] (record { found = tt; waits = quiet; may = tt; out_is = refl; state_is = refl })
 
 kept_is : (s u : State) (block : Option (List ℕ)) (xs : List Action) (a : List Timed) → WritesHeard block s xs a u → u.transaction ≡ None
     → WritesCycle s (xs ++ KeepBlock block ∷ []) a (with_block u block)
@@ -192,7 +192,7 @@ kept_is s u block xs a p quiet = go s.account.latest p.0
       sent = u;
       written = xs;
       writes = p.1;
-      keeps = subst (λ z. Steps u (KeepBlock z ∷ []) [] (with_block u block)) p.2 (keep_step u block quiet);
+      keeps = subst (λ z. Transitions u (KeepBlock z ∷ []) [] (with_block u block)) p.2 (keep_step u block quiet);
       actions_are = ap (λ z. xs ++ KeepBlock z ∷ []) p.2;
     }
 
@@ -204,11 +204,11 @@ keep_follows : {m : Machine} (block : Option (List ℕ)) → Follows m (WritesHe
 keep_follows block s mid t xs ys a b g st p f q h =
     let k = q.1 in
     let x = k.3 in
-    let none : b ≡ [] = k.4 ∙ (ap (λ z. z ++ k.1) x.1.0 ∙ k.5.0) in
-    let is : t ≡ with_block mid block = k.5.1 ∙ x.1.1 in
+    let none : b ≡ [] = k.4 ∙ (ap (λ z. z ++ k.1) x.out_is ∙ k.5.0) in
+    let is : t ≡ with_block mid block = k.5.1 ∙ x.state_is in
     let out : a ++ b ≡ a = ap (λ z. a ++ z) none ∙ append-nil a in
     subst (WritesCycle s (xs ++ ys) (a ++ b)) (sym is) (subst (λ z. WritesCycle s z (a ++ b) (with_block mid block)) (ap (λ z. xs ++ z) (sym q.0))
-    (subst (λ z. WritesCycle s (xs ++ KeepBlock block ∷ []) z (with_block mid block)) (sym out) (kept_is s mid block xs a p x.0)))
+    (subst (λ z. WritesCycle s (xs ++ KeepBlock block ∷ []) z (with_block mid block)) (sym out) (kept_is s mid block xs a p x.waits)))
 
 -- the reel then
 reel_with_block : (s : State) (d : ℕ) (r : Recording) (reel : List (List ℕ)) → r.limit ≡ room_of (tape_in s d) → reel ≡ s.dub.reel → reel_after (Some r) reel ≡ reel_with s d r.block
@@ -253,7 +253,7 @@ keep_turns : (m : Machine) (new : Option Recording) → ((s : State) → IsGood 
 keep_turns m new same = record {
   shown = λ s g st. (
     with_block s (block_in new),
-    (st.answered, (refl, refl)),
+    record { found = tt; waits = st.answered; may = tt; out_is = refl; state_is = refl },
     reel_stands m s (reel_after new m.reel) (block_in new) g st (reel_then s s.dub.tied new m.reel st.reel.reel_is (same s g st)),
   );
 }

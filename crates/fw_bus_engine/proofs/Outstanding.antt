@@ -1,4 +1,4 @@
--- A request that stands on a wire: its bytes, and the device that they go to.
+-- An outstanding request on a wire: its bytes, and the device that they go to.
 use Rattle.fw_bus_engine.proofs.Common.{◌≡◌, ◌%◌, ℕ, List, option_map, Option, Some, None, refl, ap, sym, ◌∙◌, same_Some, none-some, spelling, Pairs, bytes_from, Packet, node_device, Network}
 use Rattle.fw_async.specs.Heads.{head_of}
 use Rattle.fw_async.specs.Reader.{Spells}

@@ -101,9 +101,9 @@ pub packets_skip : {T E : Type 0} {A : State → Type 0} {D : DeskRelations} (ol
     → AreTalkers (length m.devices.nodes) m.devices.nodes talkers → slice_index_or talkers i None ≡ None
     → PerformedWhere {T = T} {E = E} A D (HearsTo i old new) m now (between a b k l) (Ok u) → PerformedWhere {T = T} {E = E} A D (HearsTo (i + 1) old new) m now (between a b k l) (Ok u)
 packets_skip old new i talkers {m} are none d = where_when (λ s t xs out g st p f.
-    let front = talkers_to i s.account in
-    let same : talkers_to (i + 1) s.account ≡ front =
-    talkers_more i s.account ∙ (ap (λ o. front ++ those o) (talker_at m talkers i None are none s g st) ∙ append-nil front) in
+    let prefix = talkers_to i s.account in
+    let same : talkers_to (i + 1) s.account ≡ prefix =
+    talkers_more i s.account ∙ (ap (λ o. prefix ++ those o) (talker_at m talkers i None are none s g st) ∙ append-nil prefix) in
     (subst (λ ps. SendsPackets ps s xs out t) (sym same) p.0, p.1, λ channel le. p.2 channel (omega (arith, le)))) d
 
 -- nor on any channel after
@@ -137,7 +137,7 @@ packet_entry s d block = at_cycle s.clock.cycle (Iso (stream_packet s (at_plug d
 
 one_entry : (s t : State) (d : ℕ) (block : Option GivenBlock) (xs : List Action) (out : List Timed) → Performs (SendPacket (at_plug d 0) block ∷ []) s xs out t → out ≡ packet_entry s d block ∷ []
 unfolding packet_entry
-one_entry s t d block xs out p = let f = p.1 in f.4 ∙ (ap (λ z. z ++ f.1) f.3.1.2 ∙ ap (λ z. packet_entry s d block ∷ z) f.5.0)
+one_entry s t d block xs out p = let f = p.1 in f.4 ∙ (ap (λ z. z ++ f.1) f.3.out_is ∙ ap (λ z. packet_entry s d block ∷ z) f.5.0)
 
 -- ---- blocks among entries
 
@@ -162,9 +162,9 @@ among_packet s d i channel block out at =
     among_more channel out (packet_entry s d block) ∙ ap (λ k. option_or (block_among channel out) (cond (k == channel) (bytes_of block) None)) at
 
 -- none is on a channel after
-among_behind : (s : State) (d i channel : ℕ) (block : Option GivenBlock) (out : List Timed) → (s.account.settings (at_plug d 0)).channel ≡ i → i + 1 ≤ channel
+among_after : (s : State) (d i channel : ℕ) (block : Option GivenBlock) (out : List Timed) → (s.account.settings (at_plug d 0)).channel ≡ i → i + 1 ≤ channel
     → block_among channel out ≡ None → block_among channel (out ++ packet_entry s d block ∷ []) ≡ None
-among_behind s d i channel block out at le none =
+among_after s d i channel block out at le none =
     let off : (i == channel) ≡ false = grind (arith, nat_tests, le) in
     among_packet s d i channel block out at ∙ (ap (λ o. option_or o (cond (i == channel) (bytes_of block) None)) none ∙ ap (λ b. option_or {T = List ℕ} None (cond b (bytes_of block) None)) off)
 
@@ -209,7 +209,7 @@ packet_follows {m} old mid_heard new i d talkers are at s mid t xs ys a b g st p
       subst (λ ps. SendsPackets ps s (xs ++ ys) (a ++ b) t) (sym same)
           (packets_append (talkers_to i s.account) (at_plug d 0 ∷ []) s mid t xs ys a b p.0 (one_packet mid t d q.0 ys b q.1)),
       q.2 ∙ (ap (hearing_of i (bytes_of q.0)) p.1 ∙ (heard_more mid d i q.0 a old channel (p.2 i (omega arith)) ∙ ap (λ z. heard_among z old) (sym all))),
-      λ c le. ap (block_among c) all ∙ among_behind mid d i c q.0 a channel le (p.2 c (omega (arith, le))),
+      λ c le. ap (block_among c) all ∙ among_after mid d i c q.0 a channel le (p.2 c (omega (arith, le))),
     )
 
 -- packets change nothing

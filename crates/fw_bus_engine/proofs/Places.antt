@@ -7,7 +7,7 @@ use Rattle.std.proofs.Common.{slice_get}
 use Rattle.fw_terms.specs.Devices.{output_plugs_of, input_plugs_of}
 use Rattle.fw_model_account.specs.Network.{is_output, is_input, is_output_of, is_input_of}
 use Rattle.fw_model_account.proofs.Network.{any_at}
-use Rattle.fw_cmp.specs.declared.request.Target.TheVariants as target
+use Rattle.fw_cmp_jobs.specs.declared.request.Target.TheVariants as target
 use Rattle.fw_model_controllers.specs.InStep.{IsRegister}
 use Rattle.fw_model_controllers.specs.Registers.{has_manager}
 use Rattle.fw_model_controllers.specs.Requests.{PlugNumberFits}

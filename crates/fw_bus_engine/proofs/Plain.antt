@@ -9,7 +9,7 @@ use Rattle.fw_model_run.specs.Streams.{cycle_start}
 use Rattle.fw_bus_state.specs.Giving.{Sides, in_room, never_fails}
 use Rattle.fw_bus_state.specs.Recording.{recording_in}
 use Rattle.fw_bus_state.proofs.Counts.{counted_size}
-use Rattle.fw_bus_engine.specs.declared.band.Deck.{Deck}
+use Rattle.fw_bus_engine.specs.declared.cycle_streams.RecordingDeck.{RecordingDeck}
 use Rattle.fw_bus_engine.specs.Cycling.{Begins, Comes}
 use Rattle.fw_bus_engine.specs.Filling.{Fills}
 use Rattle.fw_bus_engine.specs.Playing.{ahead, counts_ahead, nodes_ahead, recorded}
@@ -31,7 +31,7 @@ pub comes_ahead : {T E : Type 0} (n : ℕ) (m : Machine) (held : Option (List �
 comes_ahead n m held k u ready few apart = comes_alone (ahead n m) (ahead (n + 1) (come m)) held k u ready few apart (next_ahead n m)
 
 -- what is recorded stays so
-pub deck_stays : (n : ℕ) (m now : Machine) (deck : Option Deck) → IsReady (ahead n m) → ((s : State) → IsGood s → StandsFor (ahead n m) s → recorded deck ≡ recording_in s)
+pub deck_stays : (n : ℕ) (m now : Machine) (deck : Option RecordingDeck) → IsReady (ahead n m) → ((s : State) → IsGood s → StandsFor (ahead n m) s → recorded deck ≡ recording_in s)
     → now.tied ≡ m.tied → now.devices.nodes ≡ m.devices.nodes → (s : State) → IsGood s → StandsFor (ahead (n + 1) now) s → recorded deck ≡ recording_in s
 deck_stays n m now deck ready is tied nodes s g st =
     let r = ready in
@@ -89,7 +89,7 @@ root_ahead n m a ready some few apart =
 -- ---- what is heard
 
 -- the limit of what the deck records stays
-pub limit_stays : (k : Deck) (new : Option Recording) → unheard new ≡ recorded (Some k) → k.limit ≤ 4800 → IfSome new (λ (r : Recording). r.limit ≤ 4800)
+pub limit_stays : (k : RecordingDeck) (new : Option Recording) → unheard new ≡ recorded (Some k) → k.limit ≤ 4800 → IfSome new (λ (r : Recording). r.limit ≤ 4800)
 limit_stays k None same few = tt
 limit_stays k (Some r) same few =
     let limit : r.limit ≡ k.limit = ap (λ (x : Recording). x.limit) (same_Some (record r { block = None }) (record { channel = k.channel; limit = k.limit; block = None }) same) in

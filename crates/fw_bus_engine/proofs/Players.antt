@@ -22,8 +22,8 @@ use Rattle.fw_bus_state.specs.Streaming.{count_at, counted_on}
 use Rattle.fw_bus_state.proofs.Counts.{counted_at}
 use Rattle.fw_bus_state.proofs.DeckNodes.{mapped_at}
 use Rattle.fw_bus_state.proofs.Listening.{unit_none, unit_of}
-use Rattle.fw_bus_engine.specs.declared.band.Player.{Player}
-use Rattle.fw_bus_engine.specs.Playing.{ArePlayers, IsAt, IsPlayer, MayTakeTurn, Sends}
+use Rattle.fw_bus_engine.specs.declared.cycle_streams.TalkingPlug.{TalkingPlug}
+use Rattle.fw_bus_engine.specs.Playing.{AreTalkingPlugs, IsAt, IsTalkingPlug, MayTakeTurn, Sends}
 use Rattle.fw_bus_engine.proofs.Ahead.{tape_passed}
 
 -- ---- the tape of a node
@@ -56,9 +56,9 @@ sent_more : (dbc count some more now : ℕ) → dbc ≡ (count + some) % 256 →
 sent_more dbc count some more now is same then_is = omega (arith, is, same, then_is)
 
 -- the player after it is that of the nodes and counts after the cycle
-pub turned : {R : BlockRelation} {nodes : List NodeState} {counts : List ℕ} (channel d : ℕ) {p q : Player} {epoch cycle : ℕ} {before after : List ℕ} {heard hears : Option Recording}
-    → d < length nodes → length nodes ≤ length counts → talking_on (node_at nodes d) ≡ Some channel → IsPlayer nodes counts d channel p
-    → Sends R channel p q epoch cycle before after heard hears → IsPlayer (map (passed 1) nodes) (counted_on 1 nodes counts) d channel q
+pub turned : {R : BlockRelation} {nodes : List NodeState} {counts : List ℕ} (channel d : ℕ) {p q : TalkingPlug} {epoch cycle : ℕ} {before after : List ℕ} {heard hears : Option Recording}
+    → d < length nodes → length nodes ≤ length counts → talking_on (node_at nodes d) ≡ Some channel → IsTalkingPlug nodes counts d channel p
+    → Sends R channel p q epoch cycle before after heard hears → IsTalkingPlug (map (passed 1) nodes) (counted_on 1 nodes counts) d channel q
 turned {R} {nodes} {counts} channel d {p} {q} low few on x s = record {
   number = ap (λ (n : NodeState). n.number) at ∙ (x.number ∙ ap (λ k. Some k) (sym s.own));
   low = let small = x.low in let same = s.own in omega (arith, small, same);
@@ -81,7 +81,7 @@ turned {R} {nodes} {counts} channel d {p} {q} low few on x s = record {
     given = given_count R (tape_of n) s.block (subst (λ (o : Option Cassette). Gives R (block_now o) s.block) (s.tape ∙ ap (option_map (passed_on 1)) x.tape) s.gives)
 
 -- it may be taken
-pub may_turn : (nodes : List NodeState) (counts : List ℕ) (channel : ℕ) (o : Option ℕ) (q : Option Player) → IsAt nodes counts channel o q
+pub may_turn : (nodes : List NodeState) (counts : List ℕ) (channel : ℕ) (o : Option ℕ) (q : Option TalkingPlug) → IsAt nodes counts channel o q
     → ((d : ℕ) → o ≡ Some d → MayPass 1 (tape_of (node_at nodes d))) → MayTakeTurn channel q
 may_turn nodes counts channel None q is may = subst (MayTakeTurn channel) (sym is) tt
 may_turn nodes counts channel (Some d) q is may =
@@ -90,41 +90,41 @@ may_turn nodes counts channel (Some d) q is may =
 
 -- ---- they are gathered by channel
 
-pub past_end : (xs : List (Option Player)) (i : ℕ) → length xs ≤ i → slice_index_or xs i None ≡ None
+pub past_end : (xs : List (Option TalkingPlug)) (i : ℕ) → length xs ≤ i → slice_index_or xs i None ≡ None
 past_end [] i le = refl
 past_end (x ∷ xs) zero le = absurd (omega (arith, le))
 past_end (x ∷ xs) (suc i) le = past_end xs i (omega (arith, le))
 
-pub at_more : (nodes : List NodeState) (counts : List ℕ) (talkers : List (Option ℕ)) (players more : List (Option Player)) (i : ℕ) (p : Option Player) → more ≡ players ++ p ∷ []
-    → length players ≡ i → ((c : ℕ) → c < i → IsAt nodes counts c (slice_index_or talkers c None) (slice_index_or players c None))
+pub at_more : (nodes : List NodeState) (counts : List ℕ) (talkers : List (Option ℕ)) (talking_plugs more : List (Option TalkingPlug)) (i : ℕ) (p : Option TalkingPlug) → more ≡ talking_plugs ++ p ∷ []
+    → length talking_plugs ≡ i → ((c : ℕ) → c < i → IsAt nodes counts c (slice_index_or talkers c None) (slice_index_or talking_plugs c None))
     → IsAt nodes counts i (slice_index_or talkers i None) p → (c : ℕ) → c < i + 1 → IsAt nodes counts c (slice_index_or talkers c None) (slice_index_or more c None)
-at_more nodes counts talkers players more i p is size at here c low =
+at_more nodes counts talkers talking_plugs more i p is size at here c low =
     subst (λ l. IsAt nodes counts c (slice_index_or talkers c None) (slice_index_or l c None)) (sym is) (elim (cases_lt c i) [
-      | inl lt ↦ subst (IsAt nodes counts c (slice_index_or talkers c None)) (sym (get_or_append_left players (p ∷ []) None c (omega (arith, lt, size)))) (at c lt)
+      | inl lt ↦ subst (IsAt nodes counts c (slice_index_or talkers c None)) (sym (get_or_append_left talking_plugs (p ∷ []) None c (omega (arith, lt, size)))) (at c lt)
       | inr le ↦
           let e : i ≡ c = omega (arith, low, le) in
-          subst (λ j. IsAt nodes counts j (slice_index_or talkers j None) (slice_index_or (players ++ p ∷ []) j None)) e
-          (subst (IsAt nodes counts i (slice_index_or talkers i None)) (sym (get_or_push players p None i size)) here)
+          subst (λ j. IsAt nodes counts j (slice_index_or talkers j None) (slice_index_or (talking_plugs ++ p ∷ []) j None)) e
+          (subst (IsAt nodes counts i (slice_index_or talkers i None)) (sym (get_or_push talking_plugs p None i size)) here)
     ])
 
-pub all_there : {nodes : List NodeState} {counts : List ℕ} (talkers : List (Option ℕ)) (players : List (Option Player)) (i : ℕ) → i ≤ 64 → AreTalkers (length nodes) nodes talkers
-    → ((channel : ℕ) → i ≤ channel → slice_index_or talkers channel None ≡ None) → length players ≡ i
-    → ((c : ℕ) → c < i → IsAt nodes counts c (slice_index_or talkers c None) (slice_index_or players c None)) → ArePlayers nodes counts players
-all_there {nodes} {counts} talkers players i few are silent size at = record {
+pub all_there : {nodes : List NodeState} {counts : List ℕ} (talkers : List (Option ℕ)) (talking_plugs : List (Option TalkingPlug)) (i : ℕ) → i ≤ 64 → AreTalkers (length nodes) nodes talkers
+    → ((channel : ℕ) → i ≤ channel → slice_index_or talkers channel None ≡ None) → length talking_plugs ≡ i
+    → ((c : ℕ) → c < i → IsAt nodes counts c (slice_index_or talkers c None) (slice_index_or talking_plugs c None)) → AreTalkingPlugs nodes counts talking_plugs
+all_there {nodes} {counts} talkers talking_plugs i few are silent size at = record {
   talkers = talkers;
   are = are;
   few = omega (arith, few, size);
   at = λ c. elim (cases_lt c i) [
     | inl low ↦ at c low
-    | inr le ↦ subst (λ t. IsAt nodes counts c t (slice_index_or players c None)) (sym (silent c le)) (past_end players c (omega (arith, le, size)))
+    | inr le ↦ subst (λ t. IsAt nodes counts c t (slice_index_or talking_plugs c None)) (sym (silent c le)) (past_end talking_plugs c (omega (arith, le, size)))
   ];
 }
 
 -- ---- they were lent, and have come back
 
-whole : (items now : List (Option Player)) → length now ≡ length items → refill (length items) items now ≡ now
+whole : (items now : List (Option TalkingPlug)) → length now ≡ length items → refill (length items) items now ≡ now
 whole items now same = grind (arith, common_steps)
 
-pub lent_back : {nodes : List NodeState} {counts : List ℕ} {items old now : List (Option Player)} → old ≡ items → length now ≡ length old → ArePlayers nodes counts now
-    → ArePlayers nodes counts (refill (length items) items now)
-lent_back {nodes} {counts} {items} {old} {now} is same are = subst (ArePlayers nodes counts) (sym (whole items now (same ∙ ap (λ (l : List (Option Player)). length l) is))) are
+pub lent_back : {nodes : List NodeState} {counts : List ℕ} {items old now : List (Option TalkingPlug)} → old ≡ items → length now ≡ length old → AreTalkingPlugs nodes counts now
+    → AreTalkingPlugs nodes counts (refill (length items) items now)
+lent_back {nodes} {counts} {items} {old} {now} is same are = subst (AreTalkingPlugs nodes counts) (sym (whole items now (same ∙ ap (λ (l : List (Option TalkingPlug)). length l) is))) are

@@ -3,7 +3,7 @@ use Rattle.fw_bus_engine.proofs.Common.{◌≡◌, ℕ, ◌+◌, ◌<◌, ◌≤
 use Rattle.fw_bus_engine.proofs.Common.{sym, subst, ◌∙◌, arith, length, IsTrue, Result, Reset, Topology, is_node, MOST_RESETS, at_most}
 use Rattle.fw_bus_engine.proofs.Common.{State, is_on, is_deaf, Resets, IsGood, Machine, BeginsReset, GivesReset, between}
 use Rattle.fw_bus_engine.proofs.Common.{StandsFor, IsReady, Pairs, HasWire, TakesAction, Performed, Performs, is_node_same}
-use Rattle.fw_bus_engine.proofs.Common.{on_within, step_beside, CandidateTable, HasElection}
+use Rattle.fw_bus_engine.proofs.Common.{on_within, step_beside, CandidateTable, HasElection, Transition, Timed}
 use Rattle.fw_tree.specs.Cables.{IsOnBus}
 use Rattle.fw_model_run.specs.Actions.{ResetBus}
 use Rattle.fw_model_run.specs.Afterwards.{after_reset_entry, counting}
@@ -105,12 +105,19 @@ pub reset_turns : (m now : Machine) (d : ℕ) → IsTrue (is_node m.devices.node
 reset_turns m now d node few b = record {
   shown = λ s g st.
       let low : s.resets < MOST_RESETS = let resets = st.clock.resets in omega (arith, resets, few) in
+      let begins : (out : List Timed) (t : State) → Resets (counting s) d out t → Transition s (ResetBus d) out t = λ out t r. record {
+        found = r.entry;
+        waits = st.answered;
+        may = record { on = on_of m s d g st node; begins = record { counts = low; reset = record { is_entry = r.is_entry; few = r.few } } };
+        out_is = r.out_is;
+        state_is = r.state_is;
+      } in
       let may : MayBegin (counting_in m) s (counting s) d = record {
         is_good = g;
         around = st.around;
         dub = refl;
         action = ResetBus d;
-        begins = λ out t r. (st.answered, (on_of m s d g st node, (low, r)));
+        begins = begins;
         extends = record { account = refl; cycle = refl; decks = refl; streams = refl; kinds = λ d lt. refl };
         stands = resets_stand m s (m.resets + 1) (s.resets + 1) (ap (λ n. n + 1) st.clock.resets) st;
         declared = g.declared;
@@ -119,7 +126,7 @@ reset_turns m now d node few b = record {
         walks = λ c on. on;
       } in
       let r = reset_of (counting_in m) now s (counting s) d may b (few_epochs m s g st few) in
-      (r.state, (st.answered, (on_of m s d g st node, (low, r.resets))), r.stands);
+      (r.state, begins (at_most m.cycle (Some (Reset now.devices.latest))) r.state r.resets, r.stands);
 }
 
 -- ---- what a bus reset of the code asks

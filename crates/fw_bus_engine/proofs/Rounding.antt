@@ -1,14 +1,14 @@
 -- One round: a half step of each living controller.
 use Rattle.fw_bus_engine.proofs.Common.{◌≡◌, ℕ, ◌+◌, ◌-◌, ◌<◌, ◌≤◌, List, [], ◌∷◌, ◌++◌, length, true, false, cond}
 use Rattle.fw_bus_engine.proofs.Common.{Option, refl, ap, sym, subst, ◌∙◌, arith, append-nil, IsTrue, IsFalse, Ok, IsErr, Result}
-use Rattle.fw_bus_engine.proofs.Common.{MOST_HALF_STEPS, State, is_living, numbers_to, HalfStep, Steps, half_steps_of, steps_then, Machine, between, is_living_in, living_in, Performs, Performed}
+use Rattle.fw_bus_engine.proofs.Common.{MOST_HALF_STEPS, State, is_living, numbers_to, HalfStep, Transitions, half_steps_of, steps_then, Machine, between, is_living_in, living_in, Performs, Performed}
 use Rattle.fw_bus_engine.proofs.Common.{living_same}
 use Rattle.std.proofs.lemmas.List.{map-append, length-append}
 use Rattle.fw_bus_engine.specs.Performing.{RoundTo, OneRound}
 use Rattle.fw_bus_engine.proofs.Doings.{GoesOn, Follows, does_when, does_cut, does_nothing, does_then}
 use Rattle.fw_bus_engine.proofs.Halves.{AllLive, all_live, all_live_still, halves_after, halves_given}
 use Rattle.fw_bus_state.proofs.Living.{living_list}
-use Rattle.fw_bus_state.proofs.Numbers.{numbers_front, numbers_more}
+use Rattle.fw_bus_state.proofs.Numbers.{numbers_prefix, numbers_more}
 
 -- ---- the others
 
@@ -32,7 +32,7 @@ round_skips i {m} off d = does_when (λ s t xs out g st p f.
     let none : is_living s i ≡ false = sym (living_same m s i g st) ∙ off in
     let same : numbers_to i (is_living s) ≡ numbers_to (i + 1) (is_living s) =
     sym (append-nil (numbers_to i (is_living s))) ∙ (sym (ap (λ b. numbers_to i (is_living s) ++ cond b (i ∷ []) []) none) ∙ sym (numbers_more i (is_living s))) in
-    (p.0 ∙ ap half_steps_of same, subst (λ z. Steps s (half_steps_of z) out t) same p.1)) d
+    (p.0 ∙ ap half_steps_of same, subst (λ z. Transitions s (half_steps_of z) out t) same p.1)) d
 
 round_follows : {m : Machine} (i : ℕ) → IsTrue (is_living_in m i) → Follows m (RoundTo i) (Performs (HalfStep i ∷ [])) (RoundTo (i + 1))
 round_follows {m} i lives s mid t xs ys a b g st p f q h =
@@ -41,7 +41,7 @@ round_follows {m} i lives s mid t xs ys a b g st p f q h =
     sym (halves_append (numbers_to i (is_living s)) (i ∷ []))
     ∙ ap half_steps_of (sym (ap (λ b. numbers_to i (is_living s) ++ cond b (i ∷ []) []) on) ∙ sym (numbers_more i (is_living s))) in
     let both = (λ j. p.0 j ++ q.0 j) ∙ same in
-    (both, subst (λ z. Steps s z (a ++ b) t) both (steps_then s mid t xs ys a b f h))
+    (both, subst (λ z. Transitions s z (a ++ b) t) both (steps_then s mid t xs ys a b f h))
 
 -- one device more, whose controller lives
 pub round_then : {T E U F : Type 0} (i : ℕ) {m mid now : Machine} {a b c : Option (List ℕ)} {k l n : ℕ} {u : T} {r : Result U F} → IsTrue (is_living_in m i)
@@ -54,7 +54,7 @@ round_goes_on m j le few s u xs a g st p f =
     let names = ap (λ (z : List (List ℕ)). length z) st.devices.names in
     let count = length s.declared.names in
     let all : j + (count - j) ≡ count = omega (arith, le, names) in
-    let rest = numbers_front j (count - j) (is_living s) in
+    let rest = numbers_prefix j (count - j) (is_living s) in
     let split : numbers_to count (is_living s) ≡ numbers_to j (is_living s) ++ rest.0 = ap (λ n. numbers_to n (is_living s)) (sym all) ∙ rest.1 in
     let lives : AllLive s rest.0 = live_rest s (numbers_to j (is_living s)) rest.0 (subst (AllLive s) split (all_live s count)) in
     let after = halves_after (numbers_to j (is_living s)) s a u g st.answered p.1 in
@@ -68,7 +68,7 @@ round_goes_on m j le few s u xs a g st p f =
       half_steps_of rest.0,
       r.out,
       r.state,
-      (both, subst (λ z. Steps s z (a ++ r.out) r.state) both (steps_then s u r.state xs (half_steps_of rest.0) a r.out f r.steps)),
+      (both, subst (λ z. Transitions s z (a ++ r.out) r.state) both (steps_then s u r.state xs (half_steps_of rest.0) a r.out f r.steps)),
       r.steps,
     )
 

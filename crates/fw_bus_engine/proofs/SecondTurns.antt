@@ -1,7 +1,25 @@
 -- Time and the end of the second, of the machine and of the run.
 use Rattle.fw_bus_engine.proofs.Common.{◌≡◌, ℕ, ◌+◌, ◌<◌, ◌≤◌, ◌^◌, length, map, List, [], ◌∷◌, true, Option}
 use Rattle.fw_bus_engine.proofs.Common.{Some, None, refl, ap, sym, subst, ◌∙◌, arith, IsTrue, NodeState, Network, kinds_of, node_at}
-use Rattle.fw_bus_engine.proofs.Common.{Account, Result, at_most, GivesEntry, State, number_in, Pass, EndSecond, Step, IsGood, Directory, Machine, Gives, between, HasLingering, IsNodeAt, HasNodes}
+use Rattle.fw_bus_engine.proofs.Common.{
+  Account,
+  Result,
+  at_most,
+  GivesEntry,
+  State,
+  number_in,
+  Pass,
+  EndSecond,
+  Transition,
+  IsGood,
+  Directory,
+  Machine,
+  Gives,
+  between,
+  HasLingering,
+  IsNodeAt,
+  HasNodes,
+}
 use Rattle.fw_bus_engine.proofs.Common.{StandsFor, HasStreams, Performs, Performed, TakesAction, Pairs, HasWire, HasHearers}
 use Rattle.fw_node.specs.State as Nodes
 use Rattle.fw_cmp.specs.Losses.{after_end}
@@ -106,14 +124,17 @@ pass_turns m now n few before is = record { shown = shown_ }
       around = st.around;
     }
 
-    shown_ : (s : State) → IsGood s → StandsFor m s → (t : State) × Step s (Pass n) (at_most m.cycle None) t × StandsFor now t
+    shown_ : (s : State) → IsGood s → StandsFor m s → (t : State) × Transition s (Pass n) (at_most m.cycle None) t × StandsFor now t
     shown_ s g st =
         let cycle = st.clock.cycle in
         let over_at : m.directory.over_at ≡ s.clock.over_at = ap (λ (x : Directory). x.over_at) st.directory in
         let second : IsTrue s.account.reclaiming → s.clock.cycle + n < s.clock.over_at =
         λ runs. let b = before (st.clock.reclaiming ∙ runs) in omega (arith, b, cycle, over_at) in
-        let P : Machine → Type 0 = λ x. StandsFor x (after_cycles s n) in
-        (after_cycles s n, (st.answered, (subst (λ c. c + n ≤ 2 ^ 52) cycle few, second, refl, refl)), subst P (sym is) (stands s g st))
+        let P : Machine → Type 0 = λ x. StandsFor x (after_cycles s n) in (
+          after_cycles s n,
+          record { found = tt; waits = st.answered; may = record { fits = subst (λ c. c + n ≤ 2 ^ 52) cycle few; within = second }; out_is = refl; state_is = refl },
+          subst P (sym is) (stands s g st),
+        )
 
 -- ---- the second is over
 
@@ -212,7 +233,7 @@ pub second_turns : (m now : Machine) → m.reclaiming ≡ true → m.cycle + 1 �
 unfolding heard over
 second_turns m now runs at few r = record { shown = shown_ }
   where
-    shown_ : (s : State) → IsGood s → StandsFor m s → (t : State) × Step s EndSecond (at_most (m.cycle + 1) (Some second_over)) t × StandsFor now t
+    shown_ : (s : State) → IsGood s → StandsFor m s → (t : State) × Transition s EndSecond (at_most (m.cycle + 1) (Some second_over)) t × StandsFor now t
     shown_ s g st =
         let running : s.account.reclaiming ≡ true = sym st.clock.reclaiming ∙ runs in
         let cycle = st.clock.cycle in
@@ -222,7 +243,13 @@ second_turns m now runs at few r = record { shown = shown_ }
         subst (λ l. IsGood (over s l)) (second_ends s.account running) (second_good s g running small) in
         let P : Account → Type 0 = λ l. StandsFor now (over s l) in (
           after_cycles (after_second s) 1,
-          (st.answered, (small, running, over_at, ap (λ c. at_most (c + 1) (Some second_over)) cycle, refl)),
+          record {
+            found = tt;
+            waits = st.answered;
+            may = record { fits = small; runs = running; over = over_at };
+            out_is = ap (λ c. at_most (c + 1) (Some second_over)) cycle;
+            state_is = refl;
+          },
           subst P (sym (second_ends s.account running)) (rests_stands m now s g good st r),
         )
 

@@ -3,7 +3,24 @@ use Rattle.fw_bus_engine.proofs.Common.{◌≡◌, ◌≢◌, ◌⊎◌, inl, in
 use Rattle.fw_bus_engine.proofs.Common.{Bool, true, false, Option, Some, None, option_map, refl, ap, sym, subst, ◌∙◌, arith}
 use Rattle.fw_bus_engine.proofs.Common.{append_assoc, Ok, Err, IsErr, Result, cases_eq, false≢true, get_or-set_other}
 use Rattle.fw_bus_engine.proofs.Common.{get_or-set_same, length-set, Grows-nothing, Relay, Request, Timed, Frame, NodeState}
-use Rattle.fw_bus_engine.proofs.Common.{after_request, first_state, Network, node_at, Action, Receive, Steps, State, steps_then, steps_good, Machine, Task, Performs, Performed, between, StandsFor}
+use Rattle.fw_bus_engine.proofs.Common.{
+  after_request,
+  first_state,
+  Network,
+  node_at,
+  Action,
+  Receive,
+  Transitions,
+  State,
+  steps_then,
+  steps_good,
+  Machine,
+  Execution,
+  Performs,
+  Performed,
+  between,
+  StandsFor,
+}
 use Rattle.fw_avc.specs.State.{UnitState}
 use Rattle.fw_node.specs.Fcp as Fcp
 use Rattle.fw_model_run.specs.Actions.{SendFrame}
@@ -17,7 +34,7 @@ use Rattle.fw_bus_engine.proofs.FrameTurns.{next_is, quiet_stands, taken_of}
 -- ---- results
 
 -- what was done does not depend on the value that the call gives
-pub does_ok : {T E U F : Type 0} {P : Task} {m now : Machine} {a b : Option (List ℕ)} {k l : ℕ} {u : T} (v : U) → Performed {T = T} {E = E} P m now (between a b k l) (Ok u)
+pub does_ok : {T E U F : Type 0} {P : Execution} {m now : Machine} {a b : Option (List ℕ)} {k l : ℕ} {u : T} (v : U) → Performed {T = T} {E = E} P m now (between a b k l) (Ok u)
     → Performed {T = U} {E = F} P m now (between a b k l) (Ok v)
 does_ok v d = record {
   faults = record { cause = record { later = d.faults.cause.later; failed = d.faults.cause.failed }; same = d.faults.same };
@@ -111,10 +128,10 @@ pub first_none : {T E : Type 0} (d : ℕ) (m : Machine) (held : Option (List ℕ
 first_none d m held k u = does_nothing m held k u (λ s g st. (st.answered, st.unsent, λ zs more t r. r))
 
 -- after the answer no frame waits
-sent_answered : (s u : State) (d : ℕ) (a : List Timed) → Steps s (SendFrame d ∷ Receive None ∷ []) a u → (u.transaction ≡ None) × (u.frame ≡ None)
+sent_answered : (s u : State) (d : ℕ) (a : List Timed) → Transitions s (SendFrame d ∷ Receive None ∷ []) a u → (u.transaction ≡ None) × (u.frame ≡ None)
 sent_answered s u d a f = (
-  ap (λ (x : State). x.transaction) f.5.5.1 ∙ (ap (λ (x : State). x.transaction) f.5.3.1.state_is ∙ f.5.3.0),
-  ap (λ (x : State). x.frame) f.5.5.1 ∙ ap (λ (x : State). x.frame) f.5.3.1.state_is,
+  ap (λ (x : State). x.transaction) f.5.5.1 ∙ (ap (λ (x : State). x.transaction) f.5.3.state_is ∙ f.5.3.waits),
+  ap (λ (x : State). x.frame) f.5.5.1 ∙ ap (λ (x : State). x.frame) f.5.3.state_is,
 )
 
 first_follows : {m : Machine} (d : ℕ) → Follows m (SendsFirst d) (Performs (SendFrame d ∷ Receive None ∷ [])) (SendsFirst d)
@@ -123,9 +140,9 @@ first_follows d s mid t xs ys a b g st p f q h =
       done.0,
       done.1,
       λ zs more u r.
-          let front : SendsAll d mid (ys ++ zs) (b ++ more) u = subst (λ z. SendsAll d mid (z ++ zs) (b ++ more) u) (sym q.0) (sends t zs b more q.1 r) in
+          let prefix : SendsAll d mid (ys ++ zs) (b ++ more) u = subst (λ z. SendsAll d mid (z ++ zs) (b ++ more) u) (sym q.0) (sends t zs b more q.1 r) in
           subst (λ z. SendsAll d s z ((a ++ b) ++ more) u) (sym (append_assoc xs ys zs))
-          (subst (λ z. SendsAll d s (xs ++ (ys ++ zs)) z u) (sym (append_assoc a b more)) (p.2 (ys ++ zs) (b ++ more) u front)),
+          (subst (λ z. SendsAll d s (xs ++ (ys ++ zs)) z u) (sym (append_assoc a b more)) (p.2 (ys ++ zs) (b ++ more) u prefix)),
     )
 
 pub first_then : {T E F : Type 0} (d : ℕ) {m mid now : Machine} {a b c : Option (List ℕ)} {k l n : ℕ} {u : T}
@@ -147,7 +164,7 @@ sends_all {F = F} {G = G} d v f false is g = does_ok {F = G} v (does_then {Q = S
 sends_all d v f true is g = absurd (false≢true (sym is))
 
 -- what is sent is done
-pub all_steps : (d : ℕ) (s : State) (actions : List Action) (out : List Timed) (t : State) → SendsAll d s actions out t → Steps s actions out t
+pub all_steps : (d : ℕ) (s : State) (actions : List Action) (out : List Timed) (t : State) → SendsAll d s actions out t → Transitions s actions out t
 all_steps d s actions out t (quiet e) = (refl, refl)
 all_steps d s actions out t (sends m more first last f g) = steps_then s m t (SendFrame d ∷ Receive None ∷ []) more first last f (all_steps d m more last t g)
 

@@ -1,7 +1,7 @@
 -- Rounds, and what is written after them.
 use Rattle.fw_bus_engine.proofs.Common.{◌≡◌, ◌⊎◌, inl, inr, ℕ, suc, ◌+◌, ◌*◌, ◌-◌, ◌<◌, ◌≤◌, List, [], ◌∷◌, ◌++◌, length, Bool, true, false, Option, None, Some, refl, ap, sym, subst, ◌∙◌, arith}
 use Rattle.fw_bus_engine.proofs.Common.{append_assoc, append-nil, IsTrue, IsFalse, Ok, IsErr, Result, Grows-nothing, Timed}
-use Rattle.fw_bus_engine.proofs.Common.{MOST_HALF_STEPS, at_most, State, entered, numbers_to, Action, Steps, counted}
+use Rattle.fw_bus_engine.proofs.Common.{MOST_HALF_STEPS, at_most, State, entered, numbers_to, Action, Transitions, counted, Transition}
 use Rattle.fw_bus_engine.proofs.Common.{Carries, half_steps_of, IsGood, steps_good, Machine, between, StandsFor, is_living_in, living_in, Performs, Performed, TakesAction}
 use Rattle.fw_order.specs.declared.order.Order.TheVariants.{Settle}
 use Rattle.fw_model_run.specs.State.{living}
@@ -36,8 +36,8 @@ rounds_follow i s mid t xs ys a b g st p f q h =
       after.answered,
       λ k zs last u r.
           let one : i + suc k ≡ i + 1 + k = omega arith in
-          let front = subst (λ z. Rounds (suc k) mid (z ++ zs) (b ++ last) u) (sym q.0) (Rounds.round t zs b last q.1 r) in
-          let all = p.3 (suc k) (ys ++ zs) (b ++ last) u front in
+          let prefix = subst (λ z. Rounds (suc k) mid (z ++ zs) (b ++ last) u) (sym q.0) (Rounds.round t zs b last q.1 r) in
+          let all = p.3 (suc k) (ys ++ zs) (b ++ last) u prefix in
           subst (λ n. Rounds n s ((xs ++ ys) ++ zs) ((a ++ b) ++ last) u) one
           (subst (λ z. Rounds (i + suc k) s z ((a ++ b) ++ last) u) (sym (append_assoc xs ys zs))
           (subst (λ z. Rounds (i + suc k) s (xs ++ (ys ++ zs)) z u) (sym (append_assoc a b last)) all)),
@@ -72,7 +72,14 @@ does_rest n m held k u calm few = record {
       let half_steps = st.clock.half_steps in
       let many : n * length (living_in m) ≡ n * length (living s) = ap (λ j. n * j) same in
       let t = counted s (n * length (living s)) in
-      let f : Steps s (Rest (n * length (living s)) ∷ []) [] t = one_step s t (Rest (n * length (living s))) [] (st.answered, (calm s g st, omega (arith, few, half_steps, many), refl, refl)) in
+      let rests : Transition s (Rest (n * length (living s))) [] t = record {
+        found = tt;
+        waits = st.answered;
+        may = record { settled = calm s g st; few = omega (arith, few, half_steps, many) };
+        out_is = refl;
+        state_is = refl;
+      } in
+      let f : Transitions s (Rest (n * length (living s)) ∷ []) [] t = one_step s t (Rest (n * length (living s))) [] rests in
       record {
         actions = Rest (n * length (living s)) ∷ [];
         out = [];
@@ -122,23 +129,23 @@ rounds_cut i n {m} q r lt few was is f e = does_cut q r (rounds_go_on m (i + 1) 
 -- ---- what is written after them
 
 unsettled_step : (s : State) → s.transaction ≡ None → IsTrue (is_unsettled s)
-    → Steps s (Unsettled ∷ []) (at_most s.clock.cycle (Some unsettled_entry)) (record s { account = entered s.account unsettled_entry })
-unsettled_step s quiet busy = one_step s _ Unsettled _ (quiet, (busy, refl, refl))
+    → Transitions s (Unsettled ∷ []) (at_most s.clock.cycle (Some unsettled_entry)) (record s { account = entered s.account unsettled_entry })
+unsettled_step s quiet busy = one_step s _ Unsettled _ (record { found = tt; waits = quiet; may = busy; out_is = refl; state_is = refl })
 
 pub busy_looks_back : {T E : Type 0} {m now : Machine} {a b : Option (List ℕ)} {k l : ℕ} {r : Result T E} → Performed (Performs (Unsettled ∷ [])) m now (between a b k l) r
     → Performed TellsUnsettled m now (between a b k l) r
-busy_looks_back d = does_as (λ s t xs out p. inr (p.0, subst (λ z. Steps s z out t) (sym p.0) p.1)) d
+busy_looks_back d = does_as (λ s t xs out p. inr (p.0, subst (λ z. Transitions s z out t) (sym p.0) p.1)) d
 
 settles : {m : Machine} (n : ℕ) → Follows m (SomeRounds n) TellsUnsettled (λ s. Carries s (Settle n))
 settles n s mid t xs ys a b g st p f q h = go q
   where
-    go : (((ys ≡ []) × IsFalse (is_unsettled mid) × (b ≡ []) × (t ≡ mid)) ⊎ ((ys ≡ Unsettled ∷ []) × Steps mid ys b t)) → Carries s (Settle n) (xs ++ ys) (a ++ b) t
+    go : (((ys ≡ []) × IsFalse (is_unsettled mid) × (b ≡ []) × (t ≡ mid)) ⊎ ((ys ≡ Unsettled ∷ []) × Transitions mid ys b t)) → Carries s (Settle n) (xs ++ ys) (a ++ b) t
     go (inl x) =
         let actions = ap (λ z. xs ++ z) x.0 ∙ append-nil xs in
         let out = ap (λ z. a ++ z) x.2 ∙ append-nil a in
         subst (λ z. Carries s (Settle n) z (a ++ b) t) (sym actions) (subst (λ z. Carries s (Settle n) xs z t) (sym out)
         (subst (λ z. Carries s (Settle n) xs a z) (sym x.3) (Carries.settled p x.1)))
-    go (inr x) = subst (λ z. Carries s (Settle n) (xs ++ z) (a ++ b) t) (sym x.0) (Carries.unsettled mid xs a b p (subst (λ z. Steps mid z b t) x.0 x.1))
+    go (inr x) = subst (λ z. Carries s (Settle n) (xs ++ z) (a ++ b) t) (sym x.0) (Carries.unsettled mid xs a b p (subst (λ z. Transitions mid z b t) x.0 x.1))
 
 pub settle_then : {T E U F : Type 0} (n : ℕ) {m mid now : Machine} {a b c : Option (List ℕ)} {k l o : ℕ} {u : T} (r : Result U F)
     → Performed {T = T} {E = E} (SomeRounds n) m mid (between a b k l) (Ok u) → Performed TellsUnsettled mid now (between b c l o) r → Performed (λ s. Carries s (Settle n)) m now (between a c k o) r
@@ -150,14 +157,14 @@ taken_answered s d out t quiet (listens hears said is) = ap (λ (z : State). z.t
 taken_answered s d out t quiet (keeps_deaf deaf said is) = ap (λ (z : State). z.transaction) is ∙ quiet
 taken_answered s d out t quiet (forces_reset deaf r) = ap (λ (z : State). z.transaction) r.state_is ∙ quiet
 
-halves_answered : (ds : List ℕ) (s : State) (out : List Timed) (t : State) → s.transaction ≡ None → Steps s (half_steps_of ds) out t → t.transaction ≡ None
+halves_answered : (ds : List ℕ) (s : State) (out : List Timed) (t : State) → s.transaction ≡ None → Transitions s (half_steps_of ds) out t → t.transaction ≡ None
 halves_answered [] s out t quiet f = ap (λ (z : State). z.transaction) f.1 ∙ quiet
-halves_answered (d ∷ ds) s out t quiet f = halves_answered ds f.2 f.1 t (taken_answered s d f.0 f.2 quiet (taken_as s d f.0 f.2 f.3.1.2)) f.5
+halves_answered (d ∷ ds) s out t quiet f = halves_answered ds f.2 f.1 t (taken_answered s d f.0 f.2 quiet (taken_as s d f.0 f.2 f.3)) f.5
 
 rounds_answered : (n : ℕ) (s : State) (xs : List Action) (out : List Timed) (t : State) → s.transaction ≡ None → Rounds n s xs out t → t.transaction ≡ None
 rounds_answered n s xs out t quiet Rounds.none = quiet
 rounds_answered n s xs out t quiet (Rounds.round {n = k} mid more first last f r) = rounds_answered k mid more last t (halves_answered (living s) s first mid quiet f) r
-rounds_answered n s xs out t quiet (Rounds.rest f) = ap (λ (z : State). z.transaction) f.5.1 ∙ (ap (λ (z : State). z.transaction) f.3.1.3 ∙ quiet)
+rounds_answered n s xs out t quiet (Rounds.rest f) = ap (λ (z : State). z.transaction) f.5.1 ∙ (ap (λ (z : State). z.transaction) f.3.state_is ∙ quiet)
 
 settle_goes_on : (m : Machine) (n : ℕ) → (m.half_steps + n * length (living_in m) ≤ MOST_HALF_STEPS) → GoesOn m (SomeRounds n) (λ s. Carries s (Settle n))
 settle_goes_on m n few s u xs a g st p f = go (is_unsettled u) refl
@@ -165,7 +172,7 @@ settle_goes_on m n few s u xs a g st p f = go (is_unsettled u) refl
     quiet : u.transaction ≡ None
     quiet = rounds_answered n s xs a u st.answered p
 
-    go : (b : Bool) → is_unsettled u ≡ b → (ys : List Action) × (b : List Timed) × (t : State) × Carries s (Settle n) (xs ++ ys) (a ++ b) t × Steps u ys b t
+    go : (b : Bool) → is_unsettled u ≡ b → (ys : List Action) × (b : List Timed) × (t : State) × Carries s (Settle n) (xs ++ ys) (a ++ b) t × Transitions u ys b t
     go false e = ([], [], u, subst (λ z. Carries s (Settle n) z (a ++ []) u) (sym (append-nil xs)) (subst (λ z. Carries s (Settle n) xs z u) (sym (append-nil a)) (Carries.settled p e)), (refl, refl))
     go true e =
         let last = unsettled_step u quiet e in (
@@ -204,7 +211,7 @@ pub unsettled_turns : (m : Machine) → ((s : State) → IsGood s → StandsFor 
 unsettled_turns m busy = record {
   shown = λ s g st.
       let t = record s { account = entered s.account unsettled_entry } in
-      (t, (st.answered, (busy s g st, ap (λ c. at_most c (Some unsettled_entry)) st.clock.cycle, refl)), st);
+      (t, record { found = tt; waits = st.answered; may = busy s g st; out_is = ap (λ c. at_most c (Some unsettled_entry)) st.clock.cycle; state_is = refl }, st);
 }
 
 -- so is the next one

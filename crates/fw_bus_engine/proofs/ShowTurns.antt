@@ -14,16 +14,13 @@ show_turns m d offset linked low complete = record {
       let on : IsTrue (is_linked s d) = sym (linked_same m.devices s d g st.devices) ∙ linked in
       let same : read_in m d offset ≡ read_at s d offset = read_same m s g st d offset on in (
         s,
-        (
-          st.answered,
-          (
-            on,
-            low,
-            sym (ap (λ (r : Reply). r.rcode) same) ∙ complete,
-            (λ i. at_most (st.clock.cycle i) (Some (shown_entry d offset (same i).value))),
-            refl,
-          ),
-        ),
+        record {
+          found = tt;
+          waits = st.answered;
+          may = record { linked = on; fits = low; complete = sym (ap (λ (r : Reply). r.rcode) same) ∙ complete };
+          out_is = λ i. at_most (st.clock.cycle i) (Some (shown_entry d offset (same i).value));
+          state_is = refl;
+        },
         st,
       );
 }

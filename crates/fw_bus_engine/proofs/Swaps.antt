@@ -15,11 +15,11 @@ use Rattle.fw_model_account.specs.Moves.{Move, after}
 use Rattle.fw_model_account.specs.Sound.{IsSound}
 use Rattle.fw_model_account.proofs.Bounds.{word_below}
 use Rattle.fw_model_account.proofs.Moves.{moves_keep}
-use Rattle.fw_cmp.specs.declared.job.Job.{Job}
-use Rattle.fw_cmp.specs.declared.request.Target.TheVariants as target
-use Rattle.fw_cmp.specs.declared.stage.Stage.TheVariants.{SwapChannels, SwapBandwidth, ConnectOutput, OverlayOutput, ConnectInput, LeaveInput, LeaveOutput, RaiseBandwidth, RestoreChannel}
-use Rattle.fw_cmp.specs.Fits.{StageFits}
-use Rattle.fw_cmp.specs.Requests.{swap_of}
+use Rattle.fw_cmp_jobs.specs.declared.job.Job.{Job}
+use Rattle.fw_cmp_jobs.specs.declared.request.Target.TheVariants as target
+use Rattle.fw_cmp_jobs.specs.declared.stage.Stage.TheVariants.{SwapChannels, SwapBandwidth, ConnectOutput, OverlayOutput, ConnectInput, LeaveInput, LeaveOutput, RaiseBandwidth, RestoreChannel}
+use Rattle.fw_cmp_jobs.specs.Fits.{StageFits}
+use Rattle.fw_cmp_jobs.specs.Requests.{swap_of}
 use Rattle.fw_model_controllers.specs.InStep.{Others, HalfStep, IsRegister}
 use Rattle.fw_model_controllers.specs.Moves.{move_of, after_move, carried_out}
 use Rattle.fw_model_controllers.specs.Registers.{succeeds, IsAnswer}

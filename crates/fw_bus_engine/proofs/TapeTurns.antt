@@ -68,7 +68,7 @@ insert_turns m after d tape system e low deck few entry is = record {
       let out : at_most m.cycle (Some e) ≡ at_most s.clock.cycle (Some (Entries.inserted d tape system)) =
       (λ i. at_most (st.clock.cycle i) (Some (entry i))) in (
         t,
-        (st.answered, (named_low m s d st low, sym (deck_same m s d st) ∙ deck, few, out, refl)),
+        record { found = tt; waits = st.answered; may = record { declared = named_low m s d st low; deck = sym (deck_same m s d st) ∙ deck; fits = few }; out_is = out; state_is = refl },
         subst (λ (n : Network). StandsFor (record m { devices = n }) t) (sym is) (taped_stands m s d (Some (inserted tape system)) st low),
       );
 }
@@ -89,7 +89,13 @@ eject_turns m after d e low deck was entry is = record {
       let t : State = with_cassette s d None in
       let out : at_most m.cycle (Some e) ≡ at_most s.clock.cycle (Some (Entries.ejected d)) = (λ i. at_most (st.clock.cycle i) (Some (entry i))) in (
         t,
-        (st.answered, (named_low m s d st low, sym (deck_same m s d st) ∙ deck, sym (tape_in m s d st low deck) ∙ was, out, refl)),
+        record {
+          found = tt;
+          waits = st.answered;
+          may = record { declared = named_low m s d st low; deck = sym (deck_same m s d st) ∙ deck; tape = sym (tape_in m s d st low deck) ∙ was };
+          out_is = out;
+          state_is = refl;
+        },
         subst (λ (n : Network). StandsFor (record m { devices = n }) t) (sym is) (taped_stands m s d None st low),
       );
 }
@@ -138,7 +144,7 @@ eject_follows d s mid t xs ys a b g st p f q h = subst (λ z. Carries s (Orders.
 insert_goes : (m : Machine) (d tape : ℕ) (system : TapeSystem) → GoesOn m (Performs (InsertTape d tape system ∷ [])) (λ s. Carries s (Orders.Insert d tape system))
 insert_goes m d tape system s u xs a g st p f =
     let good = steps_good s u xs a g f in
-    let is : u ≡ with_cassette s d (Some (inserted tape system)) = p.1.5.1 ∙ p.1.3.1.4 in
+    let is : u ≡ with_cassette s d (Some (inserted tape system)) = p.1.5.1 ∙ p.1.3.state_is in
     let r = can_send_all u d good (ap (λ (x : State). x.transaction) is ∙ st.answered) (ap (λ (x : State). x.frame) is ∙ st.unsent) in
     let goes = all_steps d u r.actions r.out r.after r.sends in
     (r.actions, r.out, r.after, insert_follows {m = m} d tape system s u r.after xs r.actions a r.out g st p f r.sends goes, goes)
@@ -146,7 +152,7 @@ insert_goes m d tape system s u xs a g st p f =
 eject_goes : (m : Machine) (d : ℕ) → GoesOn m (Performs (EjectTape d ∷ [])) (λ s. Carries s (Orders.Eject d))
 eject_goes m d s u xs a g st p f =
     let good = steps_good s u xs a g f in
-    let is : u ≡ with_cassette s d None = p.1.5.1 ∙ p.1.3.1.4 in
+    let is : u ≡ with_cassette s d None = p.1.5.1 ∙ p.1.3.state_is in
     let r = can_send_all u d good (ap (λ (x : State). x.transaction) is ∙ st.answered) (ap (λ (x : State). x.frame) is ∙ st.unsent) in
     let goes = all_steps d u r.actions r.out r.after r.sends in
     (r.actions, r.out, r.after, eject_follows {m = m} d s u r.after xs r.actions a r.out g st p f r.sends goes, goes)

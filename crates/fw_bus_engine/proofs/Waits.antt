@@ -1,7 +1,7 @@
--- A wait by its parts: cycles go by, and where the second is over on the way, that comes at its own cycle.
+-- A wait by its parts: cycles go by, and if the second is over on the way, that comes at its own cycle.
 use Rattle.fw_bus_engine.proofs.Common.{◌≡◌, ℕ, ◌+◌, ◌-◌, ◌<◌, ◌≤◌, ◌^◌, List, [], ◌∷◌, ◌++◌, true, false, Option}
 use Rattle.fw_bus_engine.proofs.Common.{None, refl, ap, sym, subst, ◌∙◌, arith, IsTrue, Result, Ok, IsErr, Account, Timed, State}
-use Rattle.fw_bus_engine.proofs.Common.{Action, Pass, EndSecond, Steps, Carries, steps_then, Directory, Machine, between, IsReady, Performs, Performed, Failed}
+use Rattle.fw_bus_engine.proofs.Common.{Action, Pass, EndSecond, Transitions, Carries, steps_then, Directory, Machine, between, IsReady, Performs, Performed, Failed}
 use Rattle.fw_order.specs.declared.order.Order.TheVariants.{Wait}
 use Rattle.fw_model_run.specs.Afterwards.{after_cycles, after_second}
 use Rattle.fw_model_run.specs.Carrying.{waits, waits_over}
@@ -40,8 +40,8 @@ over_carries : (n before after : ℕ) → n ≡ before + 1 + after → (s t : St
 over_carries n before after same s t xs out f = subst (λ ys. Carries s (Wait n) ys out t) (sym f.0) (waits_over same f.1)
 
 -- the state after the end of the second
-ended_is : (s u : State) (a : List Timed) → Steps s (EndSecond ∷ []) a u → u ≡ after_cycles (after_second s) 1
-ended_is s u a f = f.5.1 ∙ f.3.1.4
+ended_is : (s u : State) (a : List Timed) → Transitions s (EndSecond ∷ []) a u → u ≡ after_cycles (after_second s) 1
+ended_is s u a f = f.5.1 ∙ f.3.state_is
 
 -- it no longer runs
 ended_rests : (s : State) → IsTrue s.account.reclaiming → (after_cycles (after_second s) 1).account.reclaiming ≡ false
@@ -59,7 +59,8 @@ pass_goes m n runs few s u xs a g st p steps =
     let answered : u.transaction ≡ None = ap (λ (x : State). x.transaction) is ∙ st.answered in
     let second : IsTrue u.account.reclaiming → u.clock.cycle + n < u.clock.over_at =
     λ runs. let no : false ≡ true = sym rests ∙ runs in let bad : ⊥ = cc in absurd bad in
-    let passes : Steps u (Pass n ∷ []) [] t = one_step u t (Pass n) [] (answered, (small, second, refl, refl)) in
+    let passes : Transitions u (Pass n ∷ []) [] t = one_step u t (Pass n) []
+    (record { found = tt; waits = answered; may = record { fits = small; within = second }; out_is = refl; state_is = refl }) in
     (Pass n ∷ [], [], t, (ap (λ z. z ++ Pass n ∷ []) p.0, steps_then s u t (EndSecond ∷ []) (Pass n ∷ []) a [] p.1 passes), passes)
 
 -- the machine at the cycle before the second is over
@@ -73,10 +74,10 @@ pub waits_all : {T E : Type 0} (m mid now : Machine) (last : ℕ) (held after : 
     → now ≡ passed_by mid (last - mid.cycle)
     → Performed {T = T} {E = E} (λ s. Carries s (Wait (last - m.cycle))) m now (between held after k l) (Ok u)
 waits_all {T} {E} m mid now last held after k l u ready runs late few ended rests is =
-    does_as {P = Performs (Pass before ∷ EndSecond ∷ Pass behind ∷ [])} {Q = λ s. Carries s (Wait (last - m.cycle))}
-    (over_carries (last - m.cycle) before behind same)
-    (does_then (Ok u) (acts_follow (Pass before ∷ []) (EndSecond ∷ Pass behind ∷ [])) first
-    (does_then (Ok u) (acts_follow (EndSecond ∷ []) (Pass behind ∷ [])) ended onward))
+    does_as {P = Performs (Pass before ∷ EndSecond ∷ Pass following ∷ [])} {Q = λ s. Carries s (Wait (last - m.cycle))}
+    (over_carries (last - m.cycle) before following same)
+    (does_then (Ok u) (acts_follow (Pass before ∷ []) (EndSecond ∷ Pass following ∷ [])) first
+    (does_then (Ok u) (acts_follow (EndSecond ∷ []) (Pass following ∷ [])) ended onward))
   where
     second : m.cycle < m.directory.over_at
     second = ready_second ready runs
@@ -84,8 +85,8 @@ waits_all {T} {E} m mid now last held after k l u ready runs late few ended rest
     before : ℕ
     before = m.directory.over_at - 1 - m.cycle
 
-    behind : ℕ
-    behind = last - mid.cycle
+    following : ℕ
+    following = last - mid.cycle
 
     cycle : mid.cycle ≡ m.cycle + (m.directory.over_at - 1 - m.cycle) + 1
     cycle = ap (λ (x : Machine). x.cycle) rests.after
@@ -96,11 +97,11 @@ waits_all {T} {E} m mid now last held after k l u ready runs late few ended rest
     first : Performed {T = T} {E = E} (Performs (Pass before ∷ [])) m (before_end m) (between held held k k) (Ok u)
     first = does_silent held k m.cycle u (pass_turns m (before_end m) before (omega (arith, second, late, few)) (λ x. omega (arith, second)) refl)
 
-    none : mid.reclaiming ≡ true → mid.cycle + behind < mid.directory.over_at
+    none : mid.reclaiming ≡ true → mid.cycle + following < mid.directory.over_at
     none x = let no : false ≡ true = sym (ap (λ (z : Machine). z.reclaiming) rests.after) ∙ x in let bad : ⊥ = cc in absurd bad
 
-    onward : Performed {T = T} {E = E} (Performs (Pass behind ∷ [])) mid now (between after after l l) (Ok u)
-    onward = does_silent after l mid.cycle u (pass_turns mid now behind (omega (arith, second, late, few, cycle)) none is)
+    onward : Performed {T = T} {E = E} (Performs (Pass following ∷ [])) mid now (between after after l l) (Ok u)
+    onward = does_silent after l mid.cycle u (pass_turns mid now following (omega (arith, second, late, few, cycle)) none is)
 
 -- the entry of the end of the second was cut off
 pub waits_cut : {T E U F : Type 0} (m mid now : Machine) (last : ℕ) (held after : Option (List ℕ)) (k l : ℕ) (u : T) (q : Result U F) (r : Result T E)
@@ -108,11 +109,11 @@ pub waits_cut : {T E U F : Type 0} (m mid now : Machine) (last : ℕ) (held afte
     → IsErr q → IsErr r → Performed (Performs (EndSecond ∷ [])) (before_end m) mid (between held after k l) q
     → Performed (λ s. Carries s (Wait (last - m.cycle))) m now (between held after k l) r
 waits_cut {T} {E} m mid now last held after k l u q r ready runs late few was is ended =
-    does_as {P = Performs (Pass before ∷ EndSecond ∷ Pass behind ∷ [])} {Q = λ s. Carries s (Wait (last - m.cycle))}
-    (over_carries (last - m.cycle) before behind same)
-    (does_then r (acts_follow (Pass before ∷ []) (EndSecond ∷ Pass behind ∷ [])) first
-    (does_cut {P = Performs (EndSecond ∷ [])} {R = Performs (EndSecond ∷ Pass behind ∷ [])} q r
-    (pass_goes (before_end m) behind runs (omega (arith, second, late, few))) was is ended))
+    does_as {P = Performs (Pass before ∷ EndSecond ∷ Pass following ∷ [])} {Q = λ s. Carries s (Wait (last - m.cycle))}
+    (over_carries (last - m.cycle) before following same)
+    (does_then r (acts_follow (Pass before ∷ []) (EndSecond ∷ Pass following ∷ [])) first
+    (does_cut {P = Performs (EndSecond ∷ [])} {R = Performs (EndSecond ∷ Pass following ∷ [])} q r
+    (pass_goes (before_end m) following runs (omega (arith, second, late, few))) was is ended))
   where
     second : m.cycle < m.directory.over_at
     second = ready_second ready runs
@@ -120,8 +121,8 @@ waits_cut {T} {E} m mid now last held after k l u q r ready runs late few was is
     before : ℕ
     before = m.directory.over_at - 1 - m.cycle
 
-    behind : ℕ
-    behind = last - m.directory.over_at
+    following : ℕ
+    following = last - m.directory.over_at
 
     same : last - m.cycle ≡ m.directory.over_at - 1 - m.cycle + 1 + (last - m.directory.over_at)
     same = omega (arith, second, late)

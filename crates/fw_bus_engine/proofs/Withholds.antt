@@ -53,7 +53,7 @@ withhold_turns m n e none free entry is = record {
       let empty : s.declared.names ≡ [] = sym st.devices.names ∙ none in
       let out : at_most m.cycle (Some e) ≡ at_most s.clock.cycle (Some withheld) = (λ i. at_most (st.clock.cycle i) (Some (entry i))) in (
         record s { account = entered s.account withheld },
-        (st.answered, (empty, sym st.devices.withheld ∙ free, out, refl)),
+        record { found = tt; waits = st.answered; may = record { early = empty; once = sym st.devices.withheld ∙ free }; out_is = out; state_is = refl },
         subst (λ d. StandsFor (record m { devices = d }) (record s { account = entered s.account withheld })) (sym is)
             (subst (λ l. StandsFor (record m { devices = record m.devices { withheld = true } }) (record s { account = l })) (sym (withholding_is s.account (none_before s g empty)))
             (withheld_stands m s st none)),

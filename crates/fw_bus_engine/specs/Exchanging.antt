@@ -1,4 +1,4 @@
--- Requests that stand on a wire, and what is written of an exchange.
+-- Requests that are outstanding on a wire, and what is written of an exchange.
 use Rattle.std.specs.Prelude.{ℕ, ◌≡◌, ◌<◌, ◌%◌, List, length, Option, Some, Ok, IsErr, IsSome, IsTrue}
 use Rattle.std.specs.declared.result.Result.{Result}
 use Rattle.fw_async.specs.Async.{Fits, spelling}

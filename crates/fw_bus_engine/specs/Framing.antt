@@ -19,7 +19,7 @@ use Rattle.fw_model_run.specs.Good.{IsGood}
 use Rattle.fw_model_run.specs.Spaces.{script_head}
 use Rattle.fw_model_run.specs.State.{State}
 use Rattle.fw_bus_state.specs.declared.machine.Machine.{Machine}
-use Rattle.fw_bus_engine.specs.Performing.{Task, Performs, CutOff, Completed}
+use Rattle.fw_bus_engine.specs.Performing.{Execution, Performs, CutOff, Completed}
 use Rattle.fw_bus_state.specs.Faults.{CountsFaults}
 use Rattle.fw_bus_state.specs.Giving.{Sides}
 use Rattle.fw_bus_state.specs.Stands.{StandsFor}
@@ -27,7 +27,7 @@ use Rattle.fw_bus_state.specs.Stands.{StandsFor}
 -- ---- deeds
 
 -- an order is carried out, with what the desk gives
-abbrev pub CarriesWithDesk : DeskRelations → Order → Task
+abbrev pub CarriesWithDesk : DeskRelations → Order → Execution
 CarriesWithDesk D o s ys out t = Carries s o ys out t × AreGiven D ys
 
 -- All was done with what the desk gives, or it was cut off. Then the desk gave what was done, and what was to follow is any that could
@@ -38,23 +38,23 @@ CompletedWithDesk D P s now held after (Ok _) = Completed (λ ys out t. P ys out
 CompletedWithDesk D P s now held after (Err _) = (cut : CutOff P s held after) × AreGiven D cut.done
 
 -- what a call did with what the desk gave, from any good state that the machine stood for
-pub record PerformedWithDesk {T E : Type 0} (D : DeskRelations) (P : Task)
+pub record PerformedWithDesk {T E : Type 0} (D : DeskRelations) (P : Execution)
     (m now : Machine) (sides : Sides) (result : Result T E) : Type 0 where
   pub faults : CountsFaults sides.count sides.counts result
   pub shown : (s : State) → IsGood s → StandsFor m s → CompletedWithDesk D (P s) s now sides.held sides.after result
 
 -- bytes are written to FCP_COMMAND of a device, and the write is answered
-abbrev pub Commands : DeskRelations → ℕ → ℕ → List ℕ → Task
+abbrev pub Commands : DeskRelations → ℕ → ℕ → List ℕ → Execution
 Commands D a b bytes s ys out t = (obeyed : Option Obeyed) × IsGiven D (Receive obeyed) × Performs (SendCommand a b bytes ∷ Receive obeyed ∷ []) s ys out t
 
 -- a device sends its next frame, whose write is answered; or it has none, and nothing is done
-abbrev pub SendsNext : {E : Type 0} → ℕ → Result Bool E → Task
+abbrev pub SendsNext : {E : Type 0} → ℕ → Result Bool E → Execution
 SendsNext d (Ok false) s ys out t = (next_told s d ≡ None) × Performs [] s ys out t
 SendsNext d (Ok true) s ys out t = Performs (SendFrame d ∷ Receive None ∷ []) s ys out t
 SendsNext d (Err _) s ys out t = Performs (SendFrame d ∷ Receive None ∷ []) s ys out t
 
 -- first these frames, whatever frames follow
-abbrev pub SendsFirst : ℕ → Task
+abbrev pub SendsFirst : ℕ → Execution
 SendsFirst d s ys out m =
     (m.transaction ≡ None) × (m.frame ≡ None)
     × ((zs : List Action) (more : List Timed) (t : State) → SendsAll d m zs more t → SendsAll d s (ys ++ zs) (out ++ more) t)

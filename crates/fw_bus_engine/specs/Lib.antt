@@ -6,6 +6,7 @@ pub mod Resetting
 pub mod Transacting
 pub mod Serving
 pub mod Exchanging
+pub mod Requesting
 pub mod Cycling
 pub mod Leaving
 pub mod Playing

@@ -3,7 +3,7 @@ use Rattle.std.specs.Prelude.{ℕ, ◌≡◌, ◌+◌, List, [], Bool, Option, S
 use Rattle.std.specs.declared.result.Result.{Result}
 use Rattle.fw_log_entry.specs.declared.entry.Entry.TheVariants.{Reset}
 use Rattle.fw_cmp.specs.Losses.{after_bus_reset as controller_reset, after_end as controller_second}
-use Rattle.fw_cmp.specs.declared.directory.Directory.{Directory}
+use Rattle.fw_cmp_jobs.specs.declared.directory.Directory.{Directory}
 use Rattle.fw_node.specs.State.{after_second}
 use Rattle.fw_devices.specs.Decks.{passed}
 use Rattle.fw_devices.specs.Network.{Network, is_node, node_at}

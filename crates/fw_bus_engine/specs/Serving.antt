@@ -5,8 +5,9 @@ use Rattle.fw_async.specs.Wire.{without}
 use Rattle.fw_async.specs.declared.packet.Packet.{Packet}
 use Rattle.fw_terms.specs.declared.label.Label.TheVariants.{Procedure}
 use Rattle.fw_csr.specs.declared.reply.Reply.{Reply}
-use Rattle.fw_cmp.specs.declared.request.Access.{Access}
-use Rattle.fw_cmp.specs.Requests.{standing_in, addressee_of, request_of}
+use Rattle.fw_cmp_jobs.specs.declared.request.Access.{Access}
+use Rattle.fw_cmp.specs.Works.{standing_in}
+use Rattle.fw_cmp_jobs.specs.Requests.{addressee_of, request_of}
 use Rattle.fw_node.specs.Packets.{packet_of, request_head, request_in, response_of, reply_in}
 use Rattle.fw_node.specs.State.{NodeState, space_of, after_request}
 use Rattle.fw_devices.specs.Network.{node_at}
@@ -15,7 +16,7 @@ use Rattle.fw_bus_state.specs.declared.machine.Machine.{Machine}
 use Rattle.fw_bus_state.specs.Streaming.{looked_at}
 use Rattle.fw_bus_state.specs.Tables.{states_of}
 
--- what the machine did: the packet of the request that stands went to the node of its addressee, which answered
+-- what the machine did: the packet of the outstanding request went to the node of its addressee, which answered
 pub record Sent (m : Machine) (d : ℕ) (a : Access) (to device own : ℕ) (packet response : Packet) : Type 0 where
   pub asks : Some a ≡ standing_in (states_of m.controllers d).state.current
   pub goes : Some to ≡ addressee_of m.directory a.target
@@ -29,7 +30,7 @@ pub record Sent (m : Machine) (d : ℕ) (a : Access) (to device own : ℕ) (pack
 abbrev pub nodes_after : List NodeState → ℕ → Packet → List NodeState
 nodes_after nodes device packet = slice_set nodes device (after_request (request_in packet) (node_at nodes device))
 
--- The request that stands of device d is carried out and off the wire; these are the bytes of the response, and the reply in it. The
+-- The outstanding request of device d is carried out and off the wire; these are the bytes of the response, and the reply in it. The
 -- controller has not heard it yet.
 pub record Serves (m now : Machine) (d : ℕ) (bytes : List ℕ) (reply : Reply) : Type 0 where
   pub access : Access

@@ -8,20 +8,27 @@ ghost use Rattle.fw_model_run.specs.Actions.{Contend};
 ghost use Rattle.fw_model_run.specs.Carrying.{times, Carries};
 ghost use Rattle.fw_terms.specs.Devices.{is_capable};
 ghost use Rattle.fw_bus_state.specs.Candidates.{candidate_in};
-ghost use Rattle.fw_bus_engine.specs.Contending.{BidRests, BidStands, TakesBid};
+ghost use Rattle.fw_bus_engine.specs.Contending.{BidRests, BidStands};
 ghost use Rattle.fw_bus_engine.specs.Performing.{Performs, Performed};
+ghost use Rattle.fw_bus_engine.specs.Requesting.{TurnsCandidate};
 ghost use Rattle.fw_bus_state.specs.Giving.{sides_of};
 ghost use Rattle.fw_bus_state.specs.Stands.{IsReady, is_living_in};
 
 use crate::exchange::{send, serve};
+use crate::requester::{Requester, turn};
+use fw_async::PacketRoom;
 use fw_bus_state::entries::{defeated, elected};
-use fw_bus_state::{Machine, Room, give, give_packet};
+use fw_bus_state::{Candidates, Machine, WriteBuffers, emit, emit_packet};
 use fw_manager::Bid;
 use fw_outside::{Failed, Sink};
 use fw_terms::Label;
 
 /// A computer becomes a candidate. One that is stays as it is, and nothing is written.
-pub(crate) fn stand<K: Sink>(machine: &mut Machine, device: u8, sink: &mut K) -> Result<(), Failed>
+pub(crate) fn become_candidate<K: Sink>(
+    machine: &mut Machine,
+    device: u8,
+    sink: &mut K,
+) -> Result<(), Failed>
     requires ready { IsReady machine.old }
     requires living { IsTrue (is_living_in machine.old device) }
     requires capable { IsTrue (is_capable (kind_at (kinds_of machine.old.devices.nodes) device)) }
@@ -35,73 +42,71 @@ pub(crate) fn stand<K: Sink>(machine: &mut Machine, device: u8, sink: &mut K) ->
     Ok(())
 }
 
-/// The request of a device's candidate stands: the resource manager carries it out, and the candidate hears the word that it found.
-fn hear_bid<K: Sink>(
-    machine: &mut Machine,
-    device: u8,
-    room: &mut Room,
-    sink: &mut K,
-) -> Result<(), Failed>
-    requires ready { IsReady machine.old }
-    requires stands { (manager : ℕ) × BidStands machine.old device manager }
-    ensures takes { TakesBid machine.old machine.new device (sides_of K.held K.faults sink.old sink.new) result }
-    ensures count { machine.new.half_steps ≡ machine.old.half_steps + 1 }
-{
-    let own = machine.number(device);
-    let (_manager, reply) = serve(
-        &mut machine.devices,
-        machine.cycle,
-        own,
-        &mut machine.bids,
-        &mut room.packet,
-    );
-    machine.candidates.hear(device, &reply);
-    machine.half_steps += 1;
-    give_packet(machine, &mut room.packet, sink)
-}
+impl Requester for Candidates {
+    ghost May = { λ m d. IsTrue (is_some (candidate_in m.candidates d)) × (m.half_steps < MOST_HALF_STEPS) };
 
-/// No request of a device's candidate stands: it says what it does next. A request that goes out is put on the wire.
-fn make_bid<K: Sink>(
-    machine: &mut Machine,
-    device: u8,
-    manager: u8,
-    room: &mut Room,
-    sink: &mut K,
-) -> Result<(), Failed>
-    requires ready { IsReady machine.old }
-    requires rests { BidRests machine.old device manager }
-    ensures takes { TakesBid machine.old machine.new device (sides_of K.held K.faults sink.old sink.new) result }
-    ensures count { machine.new.half_steps ≡ machine.old.half_steps + 1 }
-{
-    machine.half_steps += 1;
-    let own = machine.number(device);
-    let to = machine.number(manager);
-    match machine
-        .candidates
-        .next(device, machine.devices.epoch(), own, to)
-    {
-        Bid::Send { to, request } => {
-            send(
-                own,
-                to,
-                Label::BusManager,
-                &request,
-                &mut machine.bids,
-                &mut room.packet,
-            );
-            give_packet(machine, &mut room.packet, sink)
+    ghost Awaits = { λ m d. (manager : ℕ) × BidStands m d manager };
+
+    ghost Rests = { λ m d. (manager : ℕ) × BidRests m d manager };
+
+    ghost Turns = { TurnsCandidate };
+
+    fn has_request(machine: &Machine, device: u8) -> bool {
+        machine
+            .candidates
+            .has_request(device, machine.devices.epoch())
+    }
+
+    fn hear(machine: &mut Machine, device: u8, packet: &mut PacketRoom) {
+        let own = machine.number(device);
+        let (_manager, reply) = serve(
+            &mut machine.devices,
+            machine.cycle,
+            own,
+            &mut machine.bids,
+            packet,
+        );
+        machine.candidates.hear(device, &reply);
+    }
+
+    fn ask<K: Sink>(
+        machine: &mut Machine,
+        device: u8,
+        room: &mut WriteBuffers,
+        sink: &mut K,
+    ) -> Result<(), Failed> {
+        let Some(manager) = machine.devices.manager() else {
+            unreachable!();
+        };
+        let own = machine.number(device);
+        let to = machine.number(manager);
+        match machine
+            .candidates
+            .next(device, machine.devices.epoch(), own, to)
+        {
+            Bid::Send { to, request } => {
+                send(
+                    own,
+                    to,
+                    Label::BusManager,
+                    &request,
+                    &mut machine.bids,
+                    &mut room.packet,
+                );
+                emit_packet(machine, &mut room.packet, sink)
+            }
+            Bid::Elected => emit(machine, elected(device), room, sink),
+            Bid::Defeated { .. } => emit(machine, defeated(device), room, sink),
+            Bid::Done => Ok(()),
         }
-        Bid::Elected => give(machine, elected(device), room, sink),
-        Bid::Defeated { .. } => give(machine, defeated(device), room, sink),
-        Bid::Done => Ok(()),
     }
 }
 
-/// One half step of a device's candidate: its request is carried out and it hears the answer, or it says what it does next.
+/// One half step of a device's candidate.
 fn bid_step<K: Sink>(
     machine: &mut Machine,
     device: u8,
-    room: &mut Room,
+    room: &mut WriteBuffers,
     sink: &mut K,
 ) -> Result<(), Failed>
     requires ready { IsReady machine.old }
@@ -111,17 +116,9 @@ fn bid_step<K: Sink>(
     ensures candidate { IsTrue (is_some (candidate_in machine.new.candidates device)) }
     ensures count { machine.new.half_steps ≡ machine.old.half_steps + 1 }
 {
-    let Some(manager) = machine.devices.manager() else {
-        unreachable!();
-    };
-    if machine
-        .candidates
-        .has_request(device, machine.devices.epoch())
-    {
-        hear_bid(machine, device, room, sink)
-    } else {
-        make_bid(machine, device, manager, room, sink)
-    }
+    let done = turn::<Candidates, K>(machine, device, room, sink);
+    machine.half_steps += 1;
+    done
 }
 
 /// Half steps of a device's candidate.
@@ -129,7 +126,7 @@ pub(crate) fn contend<K: Sink>(
     machine: &mut Machine,
     device: u8,
     count: u32,
-    room: &mut Room,
+    room: &mut WriteBuffers,
     sink: &mut K,
 ) -> Result<(), Failed>
     requires ready { IsReady machine.old }

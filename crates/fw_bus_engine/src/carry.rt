@@ -5,7 +5,7 @@ ghost use Rattle.fw_bus_state.specs.Giving.{sides_of};
 ghost use Rattle.fw_bus_state.specs.Orders.{MayCarry};
 ghost use Rattle.fw_bus_state.specs.Stands.{IsReady};
 
-use crate::bids::{contend, stand};
+use crate::bids::{become_candidate, contend};
 use crate::cycles::cycles;
 use crate::dubs::dub;
 use crate::frames::command;
@@ -15,7 +15,7 @@ use crate::second::wait;
 use crate::steps::{settle, steps};
 use crate::tapes::{eject, insert};
 use crate::transact::{show, transact};
-use fw_bus_state::{Machine, Room, give};
+use fw_bus_state::{Machine, WriteBuffers, emit};
 use fw_log_entry::Entry;
 use fw_order::Order;
 use fw_outside::{Failed, Sink};
@@ -29,7 +29,7 @@ pub fn carry_out<K: Sink, F: Fn(u16, u32, u16) -> [u8; 480], H: Fn(u32, u8) -> u
     machine: &mut Machine,
     order: &Order,
     desk: &Desk<F, H>,
-    room: &mut Room,
+    room: &mut WriteBuffers,
     sink: &mut K,
 ) -> Result<(), Failed>
     requires ready { IsReady machine.old }
@@ -63,9 +63,9 @@ pub fn carry_out<K: Sink, F: Fn(u16, u32, u16) -> [u8; 480], H: Fn(u32, u8) -> u
         }
         Order::Eject(device) => eject(machine, *device, room, sink),
         Order::Show(device, offset) => show(machine, *device, *offset, room, sink),
-        Order::Candidate(device) => stand(machine, *device, sink),
+        Order::Candidate(device) => become_candidate(machine, *device, sink),
         Order::Contend(device, count) => contend(machine, *device, *count, room, sink),
         Order::Dub(device) => dub(machine, *device, room, sink),
-        Order::End => give(machine, Entry::End, room, sink),
+        Order::End => emit(machine, Entry::End, room, sink),
     }
 }

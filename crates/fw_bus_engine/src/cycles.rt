@@ -16,19 +16,19 @@ ghost use Rattle.fw_tape.specs.Desks.{AnyBlock};
 ghost use Rattle.fw_bus_engine.specs.Cycling.{Comes, WritesCycle};
 ghost use Rattle.fw_bus_engine.specs.Filling.{Fills, FillsBy, Passes};
 ghost use Rattle.fw_bus_engine.specs.Framing.{PerformedWithDesk};
-ghost use Rattle.fw_bus_engine.specs.Playing.{IsBandOf, ahead};
+ghost use Rattle.fw_bus_engine.specs.Playing.{IsCycleStreamsOf, ahead};
 ghost use Rattle.fw_bus_state.specs.Faults.{CountsFaults};
 ghost use Rattle.fw_bus_state.specs.Giving.{sides_of};
 ghost use Rattle.fw_bus_state.specs.Stands.{IsReady, StandsFor};
 ghost use Rattle.fw_bus_state.specs.Streaming.{AreStillFrom};
 
-use crate::band::Band;
+use crate::cycle_streams::CycleStreams;
 use crate::playing::put_plain;
 use crate::second::{pass_one, pass_second};
 use crate::streams::{put_heard, put_packets};
 use fw_async::{Head, Packet, node_id};
 use fw_bus_state::entries::second_over;
-use fw_bus_state::{Machine, Room, keep, put_entry, recording_on};
+use fw_bus_state::{Machine, WriteBuffers, keep, put_entry, recording_on};
 use fw_csr::offset::CYCLE_TIME;
 use fw_devices::Talkers;
 use fw_log_entry::{CycleRoom, Entry};
@@ -70,7 +70,7 @@ fn root(machine: &Machine) -> Option<u8>
 
 /// The next cycle comes: if the second of the latest bus reset is over at it, that is put into the room first. `talkers` are those
 /// that talk before it, and then after it; so with `end`, from which on all devices are still.
-fn next_cycle(machine: &mut Machine, talkers: &mut Talkers, end: &mut u8, room: &mut Room)
+fn next_cycle(machine: &mut Machine, talkers: &mut Talkers, end: &mut u8, room: &mut WriteBuffers)
     requires ready { IsReady machine.old }
     requires few { machine.old.cycle + 1 ≤ 2 ^ 52 }
     requires talkers { AreTalkers (length machine.old.devices.nodes) machine.old.devices.nodes talkers.old }
@@ -99,7 +99,7 @@ fn put_cycle<F: Fn(u16, u32, u16) -> [u8; 480], H: Fn(u32, u8) -> u8>(
     talkers: &mut Talkers,
     end: &mut u8,
     desk: &Desk<F, H>,
-    room: &mut Room,
+    room: &mut WriteBuffers,
 )
     requires ready { IsReady machine.old }
     requires desk { AnyBlock (F.pre desk.now.blocks) }
@@ -173,49 +173,49 @@ fn is_plain(machine: &Machine) -> bool
 #[inline(never)]
 fn put_any<F: Fn(u16, u32, u16) -> [u8; 480], H: Fn(u32, u8) -> u8>(
     machine: &mut Machine,
-    band: &mut Band,
+    cycle_streams: &mut CycleStreams,
     desk: &Desk<F, H>,
-    room: &mut Room,
+    room: &mut WriteBuffers,
 )
-    requires ready { IsReady (ahead band.old.gone machine.old) }
+    requires ready { IsReady (ahead cycle_streams.old.gone machine.old) }
     requires desk { AnyBlock (F.pre desk.now.blocks) }
     requires few { machine.old.cycle + 1 ≤ 2 ^ 52 }
-    requires written { 0 < length (ahead band.old.gone machine.old).devices.nodes → machine.old.written < MOST_WRITTEN_CYCLES }
+    requires written { 0 < length (ahead cycle_streams.old.gone machine.old).devices.nodes → machine.old.written < MOST_WRITTEN_CYCLES }
     requires room { length room.old.cycle + 37096 ≤ 102632 }
-    ensures band { IsBandOf (ahead band.new.gone machine.new) band.new }
-    ensures gone { band.new.gone ≤ machine.new.cycle }
-    ensures fills { FillsBy (record { blocks = F.post desk.now.blocks; vendor = H.post desk.now.vendor }) WritesCycle (ahead band.old.gone machine.old) (ahead band.new.gone machine.new) room.old.cycle room.new.cycle }
+    ensures cycle_streams { IsCycleStreamsOf (ahead cycle_streams.new.gone machine.new) cycle_streams.new }
+    ensures gone { cycle_streams.new.gone ≤ machine.new.cycle }
+    ensures fills { FillsBy (record { blocks = F.post desk.now.blocks; vendor = H.post desk.now.vendor }) WritesCycle (ahead cycle_streams.old.gone machine.old) (ahead cycle_streams.new.gone machine.new) room.old.cycle room.new.cycle }
 {
-    band.settle(machine);
+    cycle_streams.settle(machine);
     let mut talkers = machine.devices.talkers();
     let mut end = machine.streams.end(&machine.devices);
     put_cycle(machine, &mut talkers, &mut end, desk, room);
-    *band = Band::of(machine);
+    *cycle_streams = CycleStreams::of(machine);
 }
 
 /// The next cycle comes and is put into the room.
 #[inline(always)]
 fn put_next<F: Fn(u16, u32, u16) -> [u8; 480], H: Fn(u32, u8) -> u8>(
     machine: &mut Machine,
-    band: &mut Band,
+    cycle_streams: &mut CycleStreams,
     desk: &Desk<F, H>,
-    room: &mut Room,
+    room: &mut WriteBuffers,
 )
-    requires ready { IsReady (ahead band.old.gone machine.old) }
+    requires ready { IsReady (ahead cycle_streams.old.gone machine.old) }
     requires desk { AnyBlock (F.pre desk.now.blocks) }
     requires few { machine.old.cycle + 1 ≤ 2 ^ 52 }
-    requires gone { band.old.gone ≤ machine.old.cycle }
-    requires written { 0 < length (ahead band.old.gone machine.old).devices.nodes → machine.old.written < MOST_WRITTEN_CYCLES }
-    requires band { IsBandOf (ahead band.old.gone machine.old) band.old }
+    requires gone { cycle_streams.old.gone ≤ machine.old.cycle }
+    requires written { 0 < length (ahead cycle_streams.old.gone machine.old).devices.nodes → machine.old.written < MOST_WRITTEN_CYCLES }
+    requires cycle_streams { IsCycleStreamsOf (ahead cycle_streams.old.gone machine.old) cycle_streams.old }
     requires room { length room.old.cycle + 37096 ≤ 102632 }
-    ensures band { IsBandOf (ahead band.new.gone machine.new) band.new }
-    ensures gone { band.new.gone ≤ machine.new.cycle }
-    ensures fills { FillsBy (record { blocks = F.post desk.now.blocks; vendor = H.post desk.now.vendor }) WritesCycle (ahead band.old.gone machine.old) (ahead band.new.gone machine.new) room.old.cycle room.new.cycle }
+    ensures cycle_streams { IsCycleStreamsOf (ahead cycle_streams.new.gone machine.new) cycle_streams.new }
+    ensures gone { cycle_streams.new.gone ≤ machine.new.cycle }
+    ensures fills { FillsBy (record { blocks = F.post desk.now.blocks; vendor = H.post desk.now.vendor }) WritesCycle (ahead cycle_streams.old.gone machine.old) (ahead cycle_streams.new.gone machine.new) room.old.cycle room.new.cycle }
 {
     if is_plain(machine) {
-        put_plain(machine, band, desk, room);
+        put_plain(machine, cycle_streams, desk, room);
     } else {
-        put_any(machine, band, desk, room);
+        put_any(machine, cycle_streams, desk, room);
     }
 }
 
@@ -224,7 +224,7 @@ pub(crate) fn cycles<K: Sink, F: Fn(u16, u32, u16) -> [u8; 480], H: Fn(u32, u8) 
     machine: &mut Machine,
     count: u32,
     desk: &Desk<F, H>,
-    room: &mut Room,
+    room: &mut WriteBuffers,
     sink: &mut K,
 ) -> Result<(), Failed>
     requires ready { IsReady machine.old }
@@ -234,12 +234,12 @@ pub(crate) fn cycles<K: Sink, F: Fn(u16, u32, u16) -> [u8; 480], H: Fn(u32, u8) 
     ensures does { PerformedWithDesk (record { blocks = F.post desk.now.blocks; vendor = H.post desk.now.vendor }) (λ s. Carries s (Cycles count))
         machine.old machine.new (sides_of K.held K.faults sink.old sink.new) result }
 {
-    let mut band = Band::of(machine);
+    let mut cycle_streams = CycleStreams::of(machine);
     room.cycle.clear();
     for i in 0..count {
         make_room(&mut room.cycle, sink)?;
-        put_next(machine, &mut band, desk, room);
+        put_next(machine, &mut cycle_streams, desk, room);
     }
-    band.settle(machine);
+    cycle_streams.settle(machine);
     write_out(&mut room.cycle, sink)
 }

@@ -9,14 +9,14 @@ ghost use Rattle.fw_bus_state.specs.Orders.{has_deck_in};
 ghost use Rattle.fw_bus_state.specs.Stands.{IsReady};
 
 use fw_bus_state::entries::dubbing;
-use fw_bus_state::{Machine, Room, give};
+use fw_bus_state::{Machine, WriteBuffers, emit};
 use fw_outside::{Failed, Sink};
 
 /// The reel is emptied, and tied to this deck.
 pub(crate) fn dub<K: Sink>(
     machine: &mut Machine,
     device: u8,
-    room: &mut Room,
+    room: &mut WriteBuffers,
     sink: &mut K,
 ) -> Result<(), Failed>
     requires ready { IsReady machine.old }
@@ -27,5 +27,5 @@ pub(crate) fn dub<K: Sink>(
 {
     machine.reel.clear();
     machine.tied = Some(device);
-    give(machine, dubbing(device), room, sink)
+    emit(machine, dubbing(device), room, sink)
 }

@@ -1,4 +1,4 @@
-//! What goes from node to node and back: a request that stands on a wire until its node carries it out, and a request that is
+//! What goes from node to node and back: an outstanding request on a wire until its node carries it out, and a request that is
 //! answered at once.
 
 ghost use Rattle.std.specs.Prelude.{◌≡◌, ◌≤◌, ◌++◌, ◌%◌, [], ◌∷◌, ℕ, None};

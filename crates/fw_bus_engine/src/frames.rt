@@ -17,7 +17,7 @@ ghost use Rattle.fw_bus_state.specs.Stands.{IsReady, is_linked_in, is_living_in}
 
 use crate::exchange::exchange;
 use fw_async::{Packet, number_of};
-use fw_bus_state::{Machine, Room};
+use fw_bus_state::{Machine, WriteBuffers};
 use fw_csr::Request;
 use fw_csr::offset::FCP_COMMAND;
 use fw_node::request_packet;
@@ -80,7 +80,7 @@ fn write_command<K: Sink, F: Fn(u16, u32, u16) -> [u8; 480], H: Fn(u32, u8) -> u
     to: u8,
     bytes: &Data,
     desk: &Desk<F, H>,
-    room: &mut Room,
+    room: &mut WriteBuffers,
     sink: &mut K,
 ) -> Result<(), Failed>
     requires ready { IsReady machine.old }
@@ -107,7 +107,7 @@ pub(crate) fn command<K: Sink, F: Fn(u16, u32, u16) -> [u8; 480], H: Fn(u32, u8)
     to: u8,
     bytes: &Data,
     desk: &Desk<F, H>,
-    room: &mut Room,
+    room: &mut WriteBuffers,
     sink: &mut K,
 ) -> Result<(), Failed>
     requires ready { IsReady machine.old }
@@ -140,7 +140,7 @@ fn send_frame<K: Sink>(
     machine: &mut Machine,
     device: u8,
     bytes: &mut Bytes512,
-    room: &mut Room,
+    room: &mut WriteBuffers,
     sink: &mut K,
 ) -> Result<bool, Failed>
     requires ready { IsReady machine.old }
@@ -163,7 +163,7 @@ fn send_frame<K: Sink>(
 pub(crate) fn send_frames<K: Sink>(
     machine: &mut Machine,
     device: u8,
-    room: &mut Room,
+    room: &mut WriteBuffers,
     sink: &mut K,
 ) -> Result<(), Failed>
     requires ready { IsReady machine.old }

@@ -3,9 +3,9 @@
 //! What an order asks of the machine stands with the machine; which command gives it is asked before.
 #![tactic(auto)]
 
-mod band;
 mod bids;
 mod carry;
+mod cycle_streams;
 mod cycles;
 mod dubs;
 mod exchange;
@@ -13,6 +13,7 @@ mod frames;
 mod half;
 mod lives;
 mod playing;
+mod requester;
 mod reset;
 mod rounds;
 mod second;

@@ -2,7 +2,7 @@
 
 ghost use Rattle.std.specs.Prelude.{◌≡◌, ◌<◌, [], ◌∷◌, None, Ok, IsTrue, true};
 ghost use Rattle.fw_cmp.specs.Losses.{Awaits};
-ghost use Rattle.fw_cmp.specs.Fits.{SlotFits};
+ghost use Rattle.fw_cmp_jobs.specs.Fits.{SlotFits};
 ghost use Rattle.fw_cmp.specs.Starts.{break_fault};
 ghost use Rattle.fw_order.specs.declared.limits.TheConstants.{MOST_RESETS};
 ghost use Rattle.fw_model_run.specs.Actions.{CarryOut, Die as Dies, StartConnection, StartBreak};
@@ -14,9 +14,10 @@ ghost use Rattle.fw_bus_state.specs.Giving.{sides_of};
 ghost use Rattle.fw_bus_state.specs.Stands.{IsReady, is_linked_in, is_living_in};
 ghost use Rattle.fw_bus_state.specs.Tables.{states_of};
 
-use crate::half::{hear, lose_response};
+use crate::half::lose_response;
+use crate::requester::hear;
 use fw_bus_state::entries::{died, lost, started};
-use fw_bus_state::{Machine, Room, give};
+use fw_bus_state::{Controllers, Machine, WriteBuffers, emit};
 use fw_order::Wanted;
 use fw_outside::{Failed, Sink};
 
@@ -54,11 +55,11 @@ pub(crate) fn break_connection<K: Sink>(
     Ok(())
 }
 
-/// The request that stands of a device's controller is carried out.
+/// The outstanding request of a device's controller is carried out.
 fn carry_request<K: Sink>(
     machine: &mut Machine,
     device: u8,
-    room: &mut Room,
+    room: &mut WriteBuffers,
     sink: &mut K,
 ) -> Result<(), Failed>
     requires ready { IsReady machine.old }
@@ -67,14 +68,14 @@ fn carry_request<K: Sink>(
     ensures does { Performed (Performs (CarryOut device ∷ [])) machine.old machine.new (sides_of K.held K.faults sink.old sink.new) result }
     ensures living { IsTrue (is_living_in machine.new device) }
 {
-    hear(machine, device, room, sink)
+    hear::<Controllers, K>(machine, device, room, sink)
 }
 
-/// The request that stands of a device's controller is carried out, and the controller does not hear the response.
+/// The outstanding request of a device's controller is carried out, and the controller does not hear the response.
 pub(crate) fn lose<K: Sink>(
     machine: &mut Machine,
     device: u8,
-    room: &mut Room,
+    room: &mut WriteBuffers,
     sink: &mut K,
 ) -> Result<(), Failed>
     requires ready { IsReady machine.old }
@@ -84,14 +85,14 @@ pub(crate) fn lose<K: Sink>(
     ensures does { Performed (λ s. Carries s (Lose device)) machine.old machine.new (sides_of K.held K.faults sink.old sink.new) result }
 {
     lose_response(machine, device, room, sink)?;
-    give(machine, lost(device), room, sink)
+    emit(machine, lost(device), room, sink)
 }
 
 /// A device's controller stops.
 fn stop<K: Sink>(
     machine: &mut Machine,
     device: u8,
-    room: &mut Room,
+    room: &mut WriteBuffers,
     sink: &mut K,
 ) -> Result<(), Failed>
     requires ready { IsReady machine.old }
@@ -103,14 +104,14 @@ fn stop<K: Sink>(
     machine.wire.remove(own);
     machine.bids.remove(own);
     machine.candidates.leave(device);
-    give(machine, died(device), room, sink)
+    emit(machine, died(device), room, sink)
 }
 
-/// The request that stands of a device's controller is carried out, and then the controller stops.
+/// The outstanding request of a device's controller is carried out, and then the controller stops.
 fn stop_late<K: Sink>(
     machine: &mut Machine,
     device: u8,
-    room: &mut Room,
+    room: &mut WriteBuffers,
     sink: &mut K,
 ) -> Result<(), Failed>
     requires ready { IsReady machine.old }
@@ -122,12 +123,12 @@ fn stop_late<K: Sink>(
     stop(machine, device, room, sink)
 }
 
-/// A device's controller dies; with `late` the request that stands is carried out before.
+/// A device's controller dies; with `late` the outstanding request is carried out before.
 pub(crate) fn die<K: Sink>(
     machine: &mut Machine,
     device: u8,
     late: bool,
-    room: &mut Room,
+    room: &mut WriteBuffers,
     sink: &mut K,
 ) -> Result<(), Failed>
     requires ready { IsReady machine.old }
@@ -145,7 +146,7 @@ pub(crate) fn die<K: Sink>(
 pub(crate) fn start<K: Sink>(
     machine: &mut Machine,
     device: u8,
-    room: &mut Room,
+    room: &mut WriteBuffers,
     sink: &mut K,
 ) -> Result<(), Failed>
     requires ready { IsReady machine.old }
@@ -156,5 +157,5 @@ pub(crate) fn start<K: Sink>(
         return Ok(());
     }
     machine.controllers.start(device);
-    give(machine, started(device), room, sink)
+    emit(machine, started(device), room, sink)
 }

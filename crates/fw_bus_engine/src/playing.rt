@@ -6,16 +6,16 @@ ghost use Rattle.fw_tape.specs.Desks.{AnyBlock};
 ghost use Rattle.fw_tape.specs.Motion.{MayPass};
 ghost use Rattle.fw_bus_engine.specs.Cycling.{HadSent, HearsTo, PutsIntoRoom, WritesCycle, unheard};
 ghost use Rattle.fw_bus_engine.specs.Filling.{FillsBy};
-ghost use Rattle.fw_bus_engine.specs.Playing.{ArePlayers, IsBandOf, MayTakeTurn, PutsRecorded, Sends, TakesTurn, ahead};
+ghost use Rattle.fw_bus_engine.specs.Playing.{AreTalkingPlugs, IsCycleStreamsOf, MayTakeTurn, PutsRecorded, Sends, TakesTurn, ahead};
 ghost use Rattle.fw_bus_state.specs.Stands.{IsReady};
 
-use crate::band::{Band, Deck, Player};
+use crate::cycle_streams::{CycleStreams, RecordingDeck, TalkingPlug};
 use crate::cycles::cycle_start;
-use fw_bus_state::{Machine, Recording, Room, hear_block, keep, put_entry};
+use fw_bus_state::{Machine, Recording, WriteBuffers, hear_block, keep, put_entry};
 use fw_log_entry::{CycleRoom, Entry};
 use fw_tape::Desk;
 
-impl Player {
+impl TalkingPlug {
     /// Its next cycle comes, which has this number, and its packet is put into the room: with a block if its tape gives one, else an empty one.
     #[inline(always)]
     fn send<F: Fn(u16, u32, u16) -> [u8; 480], H: Fn(u32, u8) -> u8>(
@@ -57,7 +57,7 @@ impl Player {
 /// The next cycle of the output plug that talks on a channel, if one does.
 #[inline(always)]
 fn take_turn<F: Fn(u16, u32, u16) -> [u8; 480], H: Fn(u32, u8) -> u8>(
-    player: &mut Option<Player>,
+    talking_plug: &mut Option<TalkingPlug>,
     channel: u8,
     epoch: u32,
     cycle: u64,
@@ -66,14 +66,14 @@ fn take_turn<F: Fn(u16, u32, u16) -> [u8; 480], H: Fn(u32, u8) -> u8>(
     heard: &mut Option<Recording>,
 )
     requires desk { AnyBlock (F.pre desk.now.blocks) }
-    requires may { MayTakeTurn channel player.old }
+    requires may { MayTakeTurn channel talking_plug.old }
     requires low { channel < 64 }
     requires room { length room.old + 508 ≤ 102632 }
-    ensures turn { TakesTurn (F.post desk.now.blocks) channel player.old player.new epoch cycle room.old room.new heard.old heard.new }
+    ensures turn { TakesTurn (F.post desk.now.blocks) channel talking_plug.old talking_plug.new epoch cycle room.old room.new heard.old heard.new }
     ensures size { length room.new ≤ length room.old + 508 }
 {
-    if let Some(player) = player {
-        player.send(channel, epoch, cycle, desk, room, heard);
+    if let Some(talking_plug) = talking_plug {
+        talking_plug.send(channel, epoch, cycle, desk, room, heard);
     }
 }
 
@@ -81,28 +81,28 @@ fn take_turn<F: Fn(u16, u32, u16) -> [u8; 480], H: Fn(u32, u8) -> u8>(
 /// the machine's devices before it, and one more after it.
 // Inlined at each call, if it is known whether a deck records.
 #[inline(always)]
-fn put_players<F: Fn(u16, u32, u16) -> [u8; 480], H: Fn(u32, u8) -> u8>(
+fn put_talking_plugs<F: Fn(u16, u32, u16) -> [u8; 480], H: Fn(u32, u8) -> u8>(
     machine: &Machine,
     gone: u64,
-    players: &mut [Option<Player>],
+    talking_plugs: &mut [Option<TalkingPlug>],
     desk: &Desk<F, H>,
     room: &mut CycleRoom,
     heard: &mut Option<Recording>,
 )
     requires ready { IsReady (ahead (gone + 1) machine.now) }
     requires desk { AnyBlock (F.pre desk.now.blocks) }
-    requires players { ArePlayers (ahead gone machine.now).devices.nodes (ahead gone machine.now).streams players.old }
+    requires talking_plugs { AreTalkingPlugs (ahead gone machine.now).devices.nodes (ahead gone machine.now).streams talking_plugs.old }
     requires nothing { IfSome heard.old (λ r. r.block ≡ None) }
     requires room { length room.old + 32512 ≤ 102632 }
     ensures puts { PutsIntoRoom (HadSent (ahead gone machine.now).streams) (record { blocks = F.post desk.now.blocks; vendor = H.post desk.now.vendor }) (HearsTo 64 heard.old heard.new) (ahead (gone + 1) machine.now) room.old room.new }
     ensures same { unheard heard.new ≡ unheard heard.old }
-    ensures players { ArePlayers (ahead (gone + 1) machine.now).devices.nodes (ahead (gone + 1) machine.now).streams players.new }
-    ensures count { length players.new ≡ length players.old }
+    ensures talking_plugs { AreTalkingPlugs (ahead (gone + 1) machine.now).devices.nodes (ahead (gone + 1) machine.now).streams talking_plugs.new }
+    ensures count { length talking_plugs.new ≡ length talking_plugs.old }
 {
     let epoch = machine.devices.epoch();
-    for channel in 0..players.len() {
+    for channel in 0..talking_plugs.len() {
         take_turn(
-            &mut players[channel],
+            &mut talking_plugs[channel],
             channel as u8,
             epoch,
             machine.cycle,
@@ -119,26 +119,26 @@ fn put_players<F: Fn(u16, u32, u16) -> [u8; 480], H: Fn(u32, u8) -> u8>(
 fn put_recorded<F: Fn(u16, u32, u16) -> [u8; 480], H: Fn(u32, u8) -> u8>(
     machine: &mut Machine,
     gone: u64,
-    players: &mut [Option<Player>],
-    deck: Deck,
+    talking_plugs: &mut [Option<TalkingPlug>],
+    deck: RecordingDeck,
     desk: &Desk<F, H>,
     room: &mut CycleRoom,
 )
     requires ready { IsReady (ahead (gone + 1) machine.old) }
     requires desk { AnyBlock (F.pre desk.now.blocks) }
-    requires players { ArePlayers (ahead gone machine.old).devices.nodes (ahead gone machine.old).streams players.old }
+    requires talking_plugs { AreTalkingPlugs (ahead gone machine.old).devices.nodes (ahead gone machine.old).streams talking_plugs.old }
     requires limit { deck.limit ≤ 4800 }
     requires room { length room.old + 32512 ≤ 102632 }
     ensures puts { PutsRecorded (record { blocks = F.post desk.now.blocks; vendor = H.post desk.now.vendor }) gone deck machine.old machine.new room.old room.new }
-    ensures players { ArePlayers (ahead (gone + 1) machine.old).devices.nodes (ahead (gone + 1) machine.old).streams players.new }
-    ensures count { length players.new ≡ length players.old }
+    ensures talking_plugs { AreTalkingPlugs (ahead (gone + 1) machine.old).devices.nodes (ahead (gone + 1) machine.old).streams talking_plugs.new }
+    ensures count { length talking_plugs.new ≡ length talking_plugs.old }
 {
     let mut heard = Some(Recording {
         channel: deck.channel,
         limit: deck.limit,
         block: None,
     });
-    put_players(machine, gone, players, desk, room, &mut heard);
+    put_talking_plugs(machine, gone, talking_plugs, desk, room, &mut heard);
     keep(machine, &heard);
 }
 
@@ -146,34 +146,41 @@ fn put_recorded<F: Fn(u16, u32, u16) -> [u8; 480], H: Fn(u32, u8) -> u8>(
 #[inline(always)]
 pub(crate) fn put_plain<F: Fn(u16, u32, u16) -> [u8; 480], H: Fn(u32, u8) -> u8>(
     machine: &mut Machine,
-    band: &mut Band,
+    cycle_streams: &mut CycleStreams,
     desk: &Desk<F, H>,
-    room: &mut Room,
+    room: &mut WriteBuffers,
 )
-    requires ready { IsReady (ahead band.old.gone machine.old) }
+    requires ready { IsReady (ahead cycle_streams.old.gone machine.old) }
     requires desk { AnyBlock (F.pre desk.now.blocks) }
     requires some { 0 < length machine.old.devices.names }
     requires apart { machine.old.reclaiming ≡ true → machine.old.cycle + 1 ≡ machine.old.directory.over_at → ⊥ }
     requires few { machine.old.cycle + 1 ≤ 2 ^ 52 }
-    requires gone { band.old.gone + 1 ≤ 2 ^ 52 }
+    requires gone { cycle_streams.old.gone + 1 ≤ 2 ^ 52 }
     requires written { machine.old.written < MOST_WRITTEN_CYCLES }
-    requires band { IsBandOf (ahead band.old.gone machine.old) band.old }
+    requires cycle_streams { IsCycleStreamsOf (ahead cycle_streams.old.gone machine.old) cycle_streams.old }
     requires room { length room.old.cycle + 37096 ≤ 102632 }
-    ensures band { IsBandOf (ahead band.new.gone machine.new) band.new }
-    ensures gone { band.new.gone ≡ band.old.gone + 1 }
+    ensures cycle_streams { IsCycleStreamsOf (ahead cycle_streams.new.gone machine.new) cycle_streams.new }
+    ensures gone { cycle_streams.new.gone ≡ cycle_streams.old.gone + 1 }
     ensures cycle { machine.new.cycle ≡ machine.old.cycle + 1 }
-    ensures fills { FillsBy (record { blocks = F.post desk.now.blocks; vendor = H.post desk.now.vendor }) WritesCycle (ahead band.old.gone machine.old) (ahead band.new.gone machine.new) room.old.cycle room.new.cycle }
+    ensures fills { FillsBy (record { blocks = F.post desk.now.blocks; vendor = H.post desk.now.vendor }) WritesCycle (ahead cycle_streams.old.gone machine.old) (ahead cycle_streams.new.gone machine.new) room.old.cycle room.new.cycle }
 {
     machine.cycle += 1;
     machine.written += 1;
     let start = cycle_start(machine.devices.latest().get().root, machine.cycle);
     put_entry(machine, Entry::Async(start), room);
-    let gone = band.gone;
-    band.gone += 1;
-    let players = band.players.as_mut_slice();
+    let gone = cycle_streams.gone;
+    cycle_streams.gone += 1;
+    let talking_plugs = cycle_streams.talking_plugs.as_mut_slice();
     // A block is kept for the reel only if a deck records.
-    match band.deck {
-        Some(deck) => put_recorded(machine, gone, players, deck, desk, &mut room.cycle),
-        None => put_players(machine, gone, players, desk, &mut room.cycle, &mut None),
+    match cycle_streams.deck {
+        Some(deck) => put_recorded(machine, gone, talking_plugs, deck, desk, &mut room.cycle),
+        None => put_talking_plugs(
+            machine,
+            gone,
+            talking_plugs,
+            desk,
+            &mut room.cycle,
+            &mut None,
+        ),
     }
 }

@@ -15,7 +15,7 @@ ghost use Rattle.fw_tree.specs.Cables.{IsOnBus};
 ghost use Rattle.fw_devices.specs.Network.{is_node};
 
 use fw_bus_state::entries::withheld;
-use fw_bus_state::{Machine, Room, give};
+use fw_bus_state::{Machine, WriteBuffers, emit};
 use fw_cmp::Directory;
 use fw_csr::CYCLES_PER_SECOND;
 use fw_log_entry::Entry;
@@ -69,7 +69,7 @@ fn begin_reset(machine: &mut Machine, initiator: u8)
 pub(crate) fn give_reset<K: Sink>(
     machine: &mut Machine,
     initiator: u8,
-    room: &mut Room,
+    room: &mut WriteBuffers,
     sink: &mut K,
 ) -> Result<(), Failed>
     requires declared { initiator < length machine.old.devices.nodes }
@@ -79,14 +79,14 @@ pub(crate) fn give_reset<K: Sink>(
     ensures { GivesReset machine.old machine.new initiator (sides_of K.held K.faults sink.old sink.new) result }
 {
     begin_reset(machine, initiator);
-    give(machine, Entry::Reset(machine.devices.latest()), room, sink)
+    emit(machine, Entry::Reset(machine.devices.latest()), room, sink)
 }
 
 /// A bus reset that a device on the bus begins.
 pub(crate) fn reset<K: Sink>(
     machine: &mut Machine,
     device: u8,
-    room: &mut Room,
+    room: &mut WriteBuffers,
     sink: &mut K,
 ) -> Result<(), Failed>
     requires ready { IsReady machine.old }
@@ -101,7 +101,7 @@ pub(crate) fn reset<K: Sink>(
 /// The bus withholds channel 31. If it does so already, nothing is written.
 pub(crate) fn withhold<K: Sink>(
     machine: &mut Machine,
-    room: &mut Room,
+    room: &mut WriteBuffers,
     sink: &mut K,
 ) -> Result<(), Failed>
     requires ready { IsReady machine.old }
@@ -112,7 +112,7 @@ pub(crate) fn withhold<K: Sink>(
         return Ok(());
     }
     machine.devices.withhold();
-    give(machine, withheld(), room, sink)
+    emit(machine, withheld(), room, sink)
 }
 
 /// A device more. The first begins the first bus reset; each other is off.
@@ -122,7 +122,7 @@ pub(crate) fn declare<K: Sink>(
     kind: DeviceKind,
     ports: u8,
     speed: u8,
-    room: &mut Room,
+    room: &mut WriteBuffers,
     sink: &mut K,
 ) -> Result<(), Failed>
     requires ready { IsReady machine.old }
@@ -149,7 +149,7 @@ pub(crate) fn join<K: Sink>(
     machine: &mut Machine,
     a: End,
     b: End,
-    room: &mut Room,
+    room: &mut WriteBuffers,
     sink: &mut K,
 ) -> Result<(), Failed>
     requires ready { IsReady machine.old }

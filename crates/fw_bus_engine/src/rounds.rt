@@ -12,7 +12,7 @@ ghost use Rattle.fw_bus_state.specs.Stands.{EndsAt, IsReady, StandsFor, is_livin
 ghost use Rattle.fw_bus_state.specs.Tables.{states_of};
 
 use crate::steps::half_step;
-use fw_bus_state::{Machine, Room};
+use fw_bus_state::{Machine, WriteBuffers};
 use fw_outside::{Failed, Sink};
 
 /// Where the controllers end that may have something to do: of those from there on and before `end`, each that lives has
@@ -61,7 +61,7 @@ fn round<K: Sink>(
     living: &[bool; 63],
     each: u32,
     end: u8,
-    room: &mut Room,
+    room: &mut WriteBuffers,
     sink: &mut K,
 ) -> Result<(), Failed>
     requires ready { IsReady machine.old }
@@ -119,7 +119,7 @@ fn is_unsettled(machine: &Machine, living: &[bool; 63], end: u8) -> bool
 pub(crate) fn rounds<K: Sink>(
     machine: &mut Machine,
     count: u32,
-    room: &mut Room,
+    room: &mut WriteBuffers,
     sink: &mut K,
 ) -> Result<(), Failed>
     requires ready { IsReady machine.old }

@@ -11,7 +11,7 @@ ghost use Rattle.fw_bus_state.specs.Stands.{IsReady};
 ghost use Rattle.fw_bus_state.specs.Streaming.{AreStillFrom, counted_on};
 
 use fw_bus_state::entries::second_over;
-use fw_bus_state::{Machine, Room, give};
+use fw_bus_state::{Machine, WriteBuffers, emit};
 use fw_outside::{Failed, Sink};
 
 /// Cycles go by, in which nothing happens but that tapes move, and that each plug that talks counts the blocks that its tape gives.
@@ -50,7 +50,11 @@ pub(crate) fn pass_second(machine: &mut Machine)
 }
 
 /// The same, and it is written.
-fn end_second<K: Sink>(machine: &mut Machine, room: &mut Room, sink: &mut K) -> Result<(), Failed>
+fn end_second<K: Sink>(
+    machine: &mut Machine,
+    room: &mut WriteBuffers,
+    sink: &mut K,
+) -> Result<(), Failed>
     requires ready { IsReady machine.old }
     requires runs { IsTrue machine.old.reclaiming }
     requires now { machine.old.cycle + 1 ≡ machine.old.directory.over_at }
@@ -59,14 +63,14 @@ fn end_second<K: Sink>(machine: &mut Machine, room: &mut Room, sink: &mut K) -> 
     ensures rests { RestsAfterSecond machine.old machine.new }
 {
     pass_second(machine);
-    give(machine, second_over(), room, sink)
+    emit(machine, second_over(), room, sink)
 }
 
 /// Cycles go by unwritten. If the second of the latest bus reset is over on the way, that is written at its own cycle.
 pub(crate) fn wait<K: Sink>(
     machine: &mut Machine,
     cycles: u32,
-    room: &mut Room,
+    room: &mut WriteBuffers,
     sink: &mut K,
 ) -> Result<(), Failed>
     requires ready { IsReady machine.old }
@@ -86,7 +90,7 @@ pub(crate) fn wait<K: Sink>(
 fn wait_over<K: Sink>(
     machine: &mut Machine,
     last: u64,
-    room: &mut Room,
+    room: &mut WriteBuffers,
     sink: &mut K,
 ) -> Result<(), Failed>
     requires ready { IsReady machine.old }

@@ -12,21 +12,21 @@ ghost use Rattle.fw_bus_state.specs.Halves.{counted_in};
 ghost use Rattle.fw_bus_state.specs.Stands.{IsReady, is_living_in, living_in};
 ghost use Rattle.fw_bus_state.specs.Tables.{states_of};
 
-use crate::half::turn;
+use crate::requester::turn;
 use crate::reset::give_reset;
 use crate::rounds::rounds;
 use fw_bus_state::entries::unsettled;
-use fw_bus_state::{Machine, Room, give};
+use fw_bus_state::{Controllers, Machine, WriteBuffers, emit};
 use fw_cmp::Next;
 use fw_outside::{Failed, Sink};
 
 /// One half step of a device's controller, which lives: it writes at most one entry. Of the controllers it changes that one alone, unless
-/// it begins a bus reset, and where it writes nothing it is only counted.
+/// it begins a bus reset, and if it writes nothing it is only counted.
 #[inline(always)]
 pub fn half_step<K: Sink>(
     machine: &mut Machine,
     device: u8,
-    room: &mut Room,
+    room: &mut WriteBuffers,
     sink: &mut K,
 ) -> Result<(), Failed>
     requires ready { IsReady machine.old }
@@ -47,7 +47,7 @@ pub fn half_step<K: Sink>(
         return deaf_step(machine, device, room, sink);
     }
     // Counted in each arm, so that the next half step follows at once where the sink took the entry.
-    match turn(machine, device, room, sink) {
+    match turn::<Controllers, K>(machine, device, room, sink) {
         Ok(()) => {
             machine.half_steps += 1;
             Ok(())
@@ -63,7 +63,7 @@ pub fn half_step<K: Sink>(
 fn deaf_step<K: Sink>(
     machine: &mut Machine,
     device: u8,
-    room: &mut Room,
+    room: &mut WriteBuffers,
     sink: &mut K,
 ) -> Result<(), Failed>
     requires ready { IsReady machine.old }
@@ -94,7 +94,7 @@ pub(crate) fn steps<K: Sink>(
     machine: &mut Machine,
     device: u8,
     count: u32,
-    room: &mut Room,
+    room: &mut WriteBuffers,
     sink: &mut K,
 ) -> Result<(), Failed>
     requires ready { IsReady machine.old }
@@ -111,14 +111,14 @@ pub(crate) fn steps<K: Sink>(
 /// If a living controller has something to do, or waits for an answer, that is written.
 fn tell_unsettled<K: Sink>(
     machine: &mut Machine,
-    room: &mut Room,
+    room: &mut WriteBuffers,
     sink: &mut K,
 ) -> Result<(), Failed>
     requires ready { IsReady machine.old }
     ensures does { Performed TellsUnsettled machine.old machine.new (sides_of K.held K.faults sink.old sink.new) result }
 {
     if machine.is_unsettled() {
-        give(machine, unsettled(), room, sink)
+        emit(machine, unsettled(), room, sink)
     } else {
         Ok(())
     }
@@ -128,7 +128,7 @@ fn tell_unsettled<K: Sink>(
 pub(crate) fn settle<K: Sink>(
     machine: &mut Machine,
     count: u32,
-    room: &mut Room,
+    room: &mut WriteBuffers,
     sink: &mut K,
 ) -> Result<(), Failed>
     requires ready { IsReady machine.old }

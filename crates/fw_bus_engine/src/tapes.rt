@@ -10,7 +10,7 @@ ghost use Rattle.fw_bus_state.specs.Stands.{IsReady};
 
 use crate::frames::send_frames;
 use fw_bus_state::entries::{ejected, inserted};
-use fw_bus_state::{Machine, Room, give};
+use fw_bus_state::{Machine, WriteBuffers, emit};
 use fw_outside::{Failed, Sink};
 use fw_tape::TapeSystem;
 
@@ -20,7 +20,7 @@ pub(crate) fn insert<K: Sink>(
     device: u8,
     tape: u16,
     system: TapeSystem,
-    room: &mut Room,
+    room: &mut WriteBuffers,
     sink: &mut K,
 ) -> Result<(), Failed>
     requires ready { IsReady machine.old }
@@ -29,7 +29,7 @@ pub(crate) fn insert<K: Sink>(
     ensures does { Performed (λ s. Carries s (Insert device tape system)) machine.old machine.new (sides_of K.held K.faults sink.old sink.new) result }
 {
     machine.devices.insert(device, tape, system);
-    give(machine, inserted(device, tape, system), room, sink)?;
+    emit(machine, inserted(device, tape, system), room, sink)?;
     send_frames(machine, device, room, sink)
 }
 
@@ -37,7 +37,7 @@ pub(crate) fn insert<K: Sink>(
 pub(crate) fn eject<K: Sink>(
     machine: &mut Machine,
     device: u8,
-    room: &mut Room,
+    room: &mut WriteBuffers,
     sink: &mut K,
 ) -> Result<(), Failed>
     requires ready { IsReady machine.old }
@@ -48,6 +48,6 @@ pub(crate) fn eject<K: Sink>(
     if !machine.devices.eject(device) {
         return Ok(());
     }
-    give(machine, ejected(device), room, sink)?;
+    emit(machine, ejected(device), room, sink)?;
     send_frames(machine, device, room, sink)
 }

@@ -15,7 +15,7 @@ ghost use Rattle.fw_bus_state.specs.Stands.{IsReady, is_linked_in, is_living_in,
 use crate::exchange::exchange;
 use fw_async::Packet;
 use fw_bus_state::entries::shown_entry;
-use fw_bus_state::{Machine, Room, give};
+use fw_bus_state::{Machine, WriteBuffers, emit};
 use fw_csr::{REGISTER_SPACE, Request};
 use fw_node::request_packet;
 use fw_order::{Access, Transaction};
@@ -64,7 +64,7 @@ fn transaction_packet(machine: &Machine, transaction: Transaction) -> Packet<'st
 pub(crate) fn transact<K: Sink>(
     machine: &mut Machine,
     transaction: Transaction,
-    room: &mut Room,
+    room: &mut WriteBuffers,
     sink: &mut K,
 ) -> Result<(), Failed>
     requires ready { IsReady machine.old }
@@ -86,7 +86,7 @@ pub(crate) fn show<K: Sink>(
     machine: &mut Machine,
     device: u8,
     offset: u16,
-    room: &mut Room,
+    room: &mut WriteBuffers,
     sink: &mut K,
 ) -> Result<(), Failed>
     requires ready { IsReady machine.old }
@@ -97,5 +97,5 @@ pub(crate) fn show<K: Sink>(
 {
     let reply = machine.read(device, offset);
     let entry = shown_entry(device, offset, reply.value);
-    give(machine, entry, room, sink)
+    emit(machine, entry, room, sink)
 }

@@ -23,10 +23,10 @@ IsItself kept part = kept ≡ part
 
 module _ (p : Places) (m : Machine) (rests : List Rest) (reels : List (List (List ℕ))) (mid letters : List (List (Option (List ℕ)))) (nodes : List NodeState) (controllers : List Listening)
     (n0 n1 n2 n3 count : ℕ)
-    (front words : List ℕ) (rest : Keeps IsRestOf p.rests rests m n0) (reel : Keeps IsItself p.reels reels m.reel n1) (wire : Keeps AreLetters p.letters mid m.wire n2)
+    (prefix words : List ℕ) (rest : Keeps IsRestOf p.rests rests m n0) (reel : Keeps IsItself p.reels reels m.reel n1) (wire : Keeps AreLetters p.letters mid m.wire n2)
     (bids : Keeps AreLetters mid letters m.bids n3)
-    (all_nodes : KeepsAll IsItself p.nodes nodes m.devices.nodes (n0 ∷ n1 ∷ n2 ∷ n3 ∷ m.half_steps ∷ count ∷ []) front)
-    (all_controllers : KeepsAll IsItself p.controllers controllers m.controllers.list front words) where
+    (all_nodes : KeepsAll IsItself p.nodes nodes m.devices.nodes (n0 ∷ n1 ∷ n2 ∷ n3 ∷ m.half_steps ∷ count ∷ []) prefix)
+    (all_controllers : KeepsAll IsItself p.controllers controllers m.controllers.list prefix words) where
   abbrev pub places : Places
   places = record { rests = rests; reels = reels; letters = letters; nodes = nodes; controllers = controllers; turns = tt; requests = tt; next_nodes = tt; next_controllers = tt }
 
@@ -35,8 +35,8 @@ module _ (p : Places) (m : Machine) (rests : List Rest) (reels : List (List (Lis
     rests = more_of IsRestOf p.rests rests m n0 rest;
     reels = more_of IsItself p.reels reels m.reel n1 reel;
     letters = more_more p.letters mid letters (more_of AreLetters p.letters mid m.wire n2 wire) (more_of AreLetters mid letters m.bids n3 bids);
-    nodes = more_all IsItself p.nodes nodes m.devices.nodes (n0 ∷ n1 ∷ n2 ∷ n3 ∷ m.half_steps ∷ count ∷ []) front all_nodes;
-    controllers = more_all IsItself p.controllers controllers m.controllers.list front words all_controllers;
+    nodes = more_all IsItself p.nodes nodes m.devices.nodes (n0 ∷ n1 ∷ n2 ∷ n3 ∷ m.half_steps ∷ count ∷ []) prefix all_nodes;
+    controllers = more_all IsItself p.controllers controllers m.controllers.list prefix words all_controllers;
   }
 
   pub kept_place : IsNetwork m.devices → length m.devices.names ≤ 63 → length m.devices.nodes ≡ length m.devices.names → count ≡ length m.devices.nodes → length m.controllers.list ≤ 63
@@ -68,8 +68,8 @@ module _ (p : Places) (m : Machine) (rests : List Rest) (reels : List (List (Lis
           same = same;
           frame = refl;
           within = all_nodes.within;
-          nodes = parts_are p.nodes nodes m.devices.nodes (n0 ∷ n1 ∷ n2 ∷ n3 ∷ m.half_steps ∷ count ∷ []) front _ all_nodes;
+          nodes = parts_are p.nodes nodes m.devices.nodes (n0 ∷ n1 ∷ n2 ∷ n3 ∷ m.half_steps ∷ count ∷ []) prefix _ all_nodes;
         };
         controllers_within = all_controllers.within;
-        controllers = parts_are p.controllers controllers m.controllers.list front words first_listening all_controllers;
+        controllers = parts_are p.controllers controllers m.controllers.list prefix words first_listening all_controllers;
       }

@@ -78,7 +78,7 @@ pub record IsWider (old new : Places) : Type 0 where
 abbrev pub HasSameLetters : Pairs → Pairs → Type 0
 HasSameLetters pairs others = (node : ℕ) → bytes_from node pairs ≡ bytes_from node others
 
--- the two are the same but for the order of the requests that stand
+-- the two are the same but for the order of the outstanding requests
 pub record IsAsGood (m n : Machine) : Type 0 where
   pub same : m ≡ record n { wire = m.wire; bids = m.bids }
   pub wire : HasSameLetters m.wire n.wire

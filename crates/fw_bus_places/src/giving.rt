@@ -60,7 +60,7 @@ impl Places {
         }
     }
 
-    /// A machine becomes one that was kept under these numbers, but for the order of the requests that stand: it stands for every state
+    /// A machine becomes one that was kept under these numbers, but for the order of the outstanding requests: it stands for every state
     /// for which that one stood.
     pub fn give_back(&self, words: &[u32], m: &mut Machine)
         requires { (n : MachineRecord) × IsPlace self.now words.now n }

@@ -21,7 +21,7 @@ use fw_devices::Devices;
 use fw_kept_parts::{Full, Table};
 use fw_node::Node;
 
-// The number of what only lines, bus resets and streams change: where streams are as they were it is the number from before.
+// The number of what only lines, bus resets and streams change: if streams are as they were it is the number from before.
 fn keep_rest(rests: &mut Table<Rest>, now: u32, asks: bool, m: &Machine) -> Result<u32, Full>
     requires within { now < length rests.old }
     requires half { (n : MachineRecord) × (device : ℕ) × ((d : RestRecord) → IsRestOf (slice_index_or rests.old now d) n) × IsHalfFrom device asks n m.now }

@@ -3,7 +3,7 @@
 ghost use Rattle.std.specs.Prelude.{◌≡◌, ◌≤◌, ◌+◌, length, slice_index, take, drop};
 
 /// How many numbers stand before those of the nodes.
-pub(crate) const FRONT: usize = 6;
+pub(crate) const PREFIX: usize = 6;
 
 /// The numbers of a machine's parts, told apart.
 #[derive(Drop)]
@@ -28,7 +28,7 @@ pub(crate) fn told_apart(words: &[u32]) -> Numbers<'_>
     ensures nodes { result.nodes.now ≡ take (slice_index words.now 5) (drop 6 words.now) }
     ensures controllers { result.controllers.now ≡ drop (slice_index words.now 5) (drop 6 words.now) }
 {
-    let (nodes, controllers) = words[FRONT..].split_at(words[5] as usize);
+    let (nodes, controllers) = words[PREFIX..].split_at(words[5] as usize);
     Numbers {
         rest: words[0],
         reel: words[1],

@@ -4,7 +4,7 @@ ghost use Rattle.std.specs.Prelude.{◌≡◌, [], IfOk, OnOk};
 ghost use Rattle.fw_bus_places.specs.Places.{IsPlace, IsWider};
 
 use crate::guesses::{Guesses, keep_all_guessed};
-use crate::numbers::{FRONT, number_at, numbers_from};
+use crate::numbers::{PREFIX, number_at, numbers_from};
 use crate::rest::Rest;
 use fw_async::Letters;
 use fw_bus_state::Machine;
@@ -22,7 +22,7 @@ pub struct Places {
     pub(crate) letters: Table<Letters>,
     pub(crate) nodes: Table<Node>,
     pub(crate) controllers: Table<Controller>,
-    // What half steps led to last: which controllers, and which requests that stand.
+    // What half steps led to last: which controllers, and which requests that are outstanding.
     pub(crate) turns: Guesses,
     pub(crate) requests: Guesses,
     // What all else led to last: which nodes and which controllers.
@@ -49,8 +49,8 @@ impl Places {
     }
 
     /// Keeps the parts of a machine. Their numbers come in place of what `out` has: those of what only lines change, of the reel, of the
-    /// requests that stand and of those of candidates, then how many half steps were given, how many nodes there are, and the numbers of
-    /// each node and of each controller. `near` are those of a machine that is mostly the same, or none.
+    /// requests that are outstanding and of those of candidates, then how many half steps were given, how many nodes there are, and the
+    /// numbers of each node and of each controller. `near` are those of a machine that is mostly the same, or none.
     pub fn keep(&mut self, m: &Machine, near: &[u32], out: &mut Vec<u32>) -> Result<(), Full>
         ensures place { OnOk result (IsPlace self.new out.new.items m.now) }
         ensures wider { OnOk result (IsWider self.old self.new) }
@@ -62,11 +62,11 @@ impl Places {
         let count = m.devices.count();
         out.clear();
         out.extend_from_slice(&[rest, reel, wire, bids, m.half_steps, u32::from(count)])?;
-        let later = FRONT + usize::from(count);
+        let later = PREFIX + usize::from(count);
         keep_all_guessed(
             &mut self.nodes,
             &mut self.next_nodes,
-            numbers_from(near, FRONT),
+            numbers_from(near, PREFIX),
             m.devices.nodes(),
             out,
         )?;

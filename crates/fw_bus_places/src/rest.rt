@@ -9,7 +9,7 @@ use fw_devices::{Frame, MOST_DEVICES};
 use fw_kept_parts::{Part, mixed};
 use std::alloc::{AllocError, Global};
 
-/// All of a machine but its nodes, controllers, requests that stand, half steps and reel.
+/// All of a machine but its nodes, controllers, requests that are outstanding, half steps and reel.
 #[derive(Drop)]
 pub struct Rest {
     // What is large lies apart, so that a table of these moves little.

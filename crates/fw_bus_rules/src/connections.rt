@@ -1,7 +1,7 @@
 //! The rules of what controllers are asked for.
 
 ghost use Rattle.std.specs.Prelude.{◌≡◌, ◌<◌, None, Some, IfOk, IfErr, length};
-ghost use Rattle.fw_cmp.specs.Fits.{AskedFits, SlotFits};
+ghost use Rattle.fw_cmp_jobs.specs.Fits.{AskedFits, SlotFits};
 ghost use Rattle.fw_model_run.specs.Afterwards.{slot_of};
 ghost use Rattle.fw_order.specs.declared.rule.RuleFault.TheVariants.{UnknownName};
 ghost use Rattle.fw_script_command.specs.declared.command.Command.TheVariants as Commands;

@@ -8,7 +8,7 @@ use Rattle.fw_model_run.specs.State.{is_deaf}
 use Rattle.fw_model_run.specs.Truth.{controller_at}
 use Rattle.fw_model_run.proofs.Truth.{quiet_at}
 use Rattle.fw_cmp.specs.Holdings.{CanGoOn}
-use Rattle.fw_cmp.specs.declared.directory.Directory.{Directory}
+use Rattle.fw_cmp_jobs.specs.declared.directory.Directory.{Directory}
 use Rattle.fw_model_run.specs.Good.{Asks}
 use Rattle.fw_bus_state.specs.Tables.{Listens}
 
@@ -28,7 +28,7 @@ whole_same m s d st quiet = at_same m s d st ∙ quiet_at s d (quiet_here m s d 
 pub state_same : (m : Machine) (s : State) (d : ℕ) → StandsFor m s → IsFalse (states_of m.controllers d).lost → (states_of m.controllers d).state ≡ s.controllers d
 state_same m s d st quiet = ap (λ (x : Listening). x.state) (whole_same m s d st quiet)
 
--- no request of it stands
+-- no request of it is outstanding
 pub heard_here : (m : Machine) (s : State) (d : ℕ) → StandsFor m s → Listens (states_of m.controllers d) → IsHeard (s.controllers d).current
 heard_here m s d st h = subst (λ (c : ControllerState). IsHeard c.current) (state_same m s d st h.0) h.1
 
@@ -52,7 +52,7 @@ pub listens_of : (x : Listening) → MayTurn x → IsFalse x.lost → Listens x
 listens_of x (inl lost) quiet = absurd (grind (arith, lost, quiet))
 listens_of x (inr heard) quiet = (quiet, heard)
 
--- ---- the request that stands
+-- ---- the outstanding request
 
 pub stands_request : (x : Current) → IsStanding x → IsTrue (has_request x)
 stands_request Nothing h = absurd h

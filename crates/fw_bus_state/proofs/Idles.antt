@@ -2,7 +2,7 @@
 use Rattle.fw_bus_state.proofs.Common.{◌≡◌, ℕ, ◌||◌, Bool, true, false, Option, None, Some, refl, ap, sym}
 use Rattle.fw_bus_state.proofs.Common.{subst, ◌∙◌, IsTrue, IsFalse, Current, IsAtRest, Nothing, Asking, Hearing, Overtaken, Listening}
 use Rattle.fw_bus_state.proofs.Common.{next, State, directory_of, IsGood, is_busy_at, Machine, StandsFor, states_of}
-use Rattle.fw_cmp.specs.declared.stage.Stage.{Stage}
+use Rattle.fw_cmp_jobs.specs.declared.stage.Stage.{Stage}
 use Rattle.fw_cmp.specs.Losses.{MayTurn, Awaits, turn_of}
 use Rattle.fw_cmp.specs.Turns.{is_busy}
 use Rattle.fw_cmp.proofs.Resting.{rest_idles}

@@ -3,7 +3,8 @@ use Rattle.fw_bus_state.proofs.Common.{◌≡◌, ◌==◌, ℕ, Bool, true, fal
 use Rattle.std.specs.Prelude.{Result, Ok, Err, if◌then◌else◌}
 use Rattle.fw_cmp.specs.declared.outcome.StartFault.{StartFault}
 use Rattle.fw_cmp.specs.declared.outcome.StartFault.TheVariants.{NotOwnPlug}
-use Rattle.fw_cmp.specs.Starts.{IsMaking, start}
+use Rattle.fw_cmp.specs.Starts.{start}
+use Rattle.fw_cmp_jobs.specs.Slots.{IsMaking}
 use Rattle.fw_order.specs.declared.order.Wanted.{Wanted}
 use Rattle.fw_order.specs.declared.order.Wanted.TheVariants.{BroadcastIn, BroadcastOut, PlugToPlug}
 use Rattle.fw_model_run.specs.Afterwards.{slot_of, start_of}

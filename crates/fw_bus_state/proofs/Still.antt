@@ -49,11 +49,11 @@ map_same f (n ∷ nodes) h =
     let more = map_same f nodes (λ d low. h (suc d) (omega (arith, low))) in
     λ i. e i ∷ more i
 
-front_nodes : (f : NodeState → NodeState) (nodes : List NodeState) (end : ℕ) → ((d : ℕ) → end ≤ d → d < length nodes → f (node_at nodes d) ≡ node_at nodes d)
+prefix_nodes : (f : NodeState → NodeState) (nodes : List NodeState) (end : ℕ) → ((d : ℕ) → end ≤ d → d < length nodes → f (node_at nodes d) ≡ node_at nodes d)
     → map f (take end nodes) ++ drop end nodes ≡ map f nodes
-front_nodes f nodes zero h = map_same f nodes (λ d low. h d (omega arith) low)
-front_nodes f [] (suc end) h = refl
-front_nodes f (n ∷ nodes) (suc end) h = ap (λ ns. f n ∷ ns) (front_nodes f nodes end (λ d above low. h (suc d) (omega (arith, above)) (omega (arith, low))))
+prefix_nodes f nodes zero h = map_same f nodes (λ d low. h d (omega arith) low)
+prefix_nodes f [] (suc end) h = refl
+prefix_nodes f (n ∷ nodes) (suc end) h = ap (λ ns. f n ∷ ns) (prefix_nodes f nodes end (λ d above low. h (suc d) (omega (arith, above)) (omega (arith, low))))
 
 counts_same : (cycles : ℕ) (nodes : List NodeState) (counts : List ℕ)
     → ((d : ℕ) → d < length nodes → counted_for cycles (node_at nodes d) (count_at counts d) ≡ count_at counts d) → counts ≡ counted_on cycles nodes counts
@@ -64,14 +64,14 @@ counts_same cycles (n ∷ nodes) (k ∷ counts) h =
     let more = counts_same cycles nodes counts (λ d low. h (suc d) (omega (arith, low))) in
     λ i. e i ∷ more i
 
-front_counts : (cycles : ℕ) (nodes : List NodeState) (counts : List ℕ) (end : ℕ)
+prefix_counts : (cycles : ℕ) (nodes : List NodeState) (counts : List ℕ) (end : ℕ)
     → ((d : ℕ) → end ≤ d → d < length nodes → counted_for cycles (node_at nodes d) (count_at counts d) ≡ count_at counts d)
     → counted_on cycles (take end nodes) counts ≡ counted_on cycles nodes counts
-front_counts cycles nodes counts zero h = counts_same cycles nodes counts (λ d low. h d (omega arith) low)
-front_counts cycles [] counts (suc end) h = refl
-front_counts cycles (n ∷ nodes) [] (suc end) h = refl
-front_counts cycles (n ∷ nodes) (k ∷ counts) (suc end) h =
-    ap (λ ks. counted_for cycles n k ∷ ks) (front_counts cycles nodes counts end (λ d above low. h (suc d) (omega (arith, above)) (omega (arith, low))))
+prefix_counts cycles nodes counts zero h = counts_same cycles nodes counts (λ d low. h d (omega arith) low)
+prefix_counts cycles [] counts (suc end) h = refl
+prefix_counts cycles (n ∷ nodes) [] (suc end) h = refl
+prefix_counts cycles (n ∷ nodes) (k ∷ counts) (suc end) h =
+    ap (λ ks. counted_for cycles n k ∷ ks) (prefix_counts cycles nodes counts end (λ d above low. h (suc d) (omega (arith, above)) (omega (arith, low))))
 
 -- ---- all of them
 
@@ -83,13 +83,13 @@ none_left end nodes counts e = record { few = omega (arith, e); each = λ d abov
 pub still_counts : (cycles at : ℕ) (nodes : List NodeState) (counts : List ℕ) {end : ℕ} → end ≤ at → AreStillFrom end nodes counts
     → counted_on cycles (take at nodes) counts ≡ counted_on cycles nodes counts
 still_counts cycles at nodes counts past s =
-    front_counts cycles nodes counts at (λ d above low. still_counted cycles (node_at nodes d) (count_at counts d) (s.each d (omega (arith, past, above)) low))
+    prefix_counts cycles nodes counts at (λ d above low. still_counted cycles (node_at nodes d) (count_at counts d) (s.each d (omega (arith, past, above)) low))
 
 pub still_devices : (cycles at : ℕ) (n : Network) (counts : List ℕ) {end : ℕ} → end ≤ at → AreStillFrom end n.nodes counts
     → record n { nodes = map (passed cycles) (take at n.nodes) ++ drop at n.nodes } ≡ record n { nodes = map (passed cycles) n.nodes }
 still_devices cycles at n counts past s =
     ap (λ (ns : List NodeState). record n { nodes = ns })
-    (front_nodes (passed cycles) n.nodes at (λ d above low. still_passed cycles (node_at n.nodes d) (count_at counts d) (s.each d (omega (arith, past, above)) low)))
+    (prefix_nodes (passed cycles) n.nodes at (λ d above low. still_passed cycles (node_at n.nodes d) (count_at counts d) (s.each d (omega (arith, past, above)) low)))
 
 -- they stay still
 pub still_after : (cycles end : ℕ) (nodes : List NodeState) (counts : List ℕ) → length nodes ≤ length counts → AreStillFrom end nodes counts

@@ -6,8 +6,8 @@ use Rattle.fw_bus_state.proofs.Common.{length-replicate, length-map, length-appe
 use Rattle.std.proofs.Common.{set, append_assoc}
 use Rattle.std.proofs.lemmas.List.{get_or-map, get_or_past, get_or_read}
 use Rattle.std.proofs.lemmas.List.{length-drop, length-take, get_or-take, drop_all, drop_more, map_more, append-nil}
-use Rattle.fw_cmp.specs.declared.connection.Slot.TheVariants.{Free}
-use Rattle.fw_cmp.specs.Controllers.{is_restoring}
+use Rattle.fw_cmp_jobs.specs.declared.connection.Slot.TheVariants.{Free}
+use Rattle.fw_cmp_jobs.specs.Slots.{is_restoring}
 use Rattle.fw_bus_state.specs.Tables.{AreCalm, AreFresh, AreHearing, AreMarked, ControllerTable, IsTable, dead_of}
 
 -- ---- lists
@@ -150,9 +150,9 @@ fresh_map f marks list fixed h = record { size = h.size; each = λ k marked. map
 pub map_skip : {A : Type 0} (f : A → A) (xs ys : List A) (i : ℕ) (e : A) → i < length xs → f (get_or xs i e) ≡ get_or xs i e → ys ≡ map f (take i xs) ++ drop i xs
     → ys ≡ map f (take (i + 1) xs) ++ drop (i + 1) xs
 map_skip f xs ys i e lt same is =
-    let front = map f (take i xs) in
-    is ∙ ap (λ l. front ++ l) (drop_more xs i e lt) ∙ sym (append_assoc front (get_or xs i e ∷ []) (drop (i + 1) xs))
-    ∙ ap (λ l. l ++ drop (i + 1) xs) (ap (λ x. front ++ x ∷ []) (sym same) ∙ sym (map_more f xs i e lt))
+    let prefix = map f (take i xs) in
+    is ∙ ap (λ l. prefix ++ l) (drop_more xs i e lt) ∙ sym (append_assoc prefix (get_or xs i e ∷ []) (drop (i + 1) xs))
+    ∙ ap (λ l. l ++ drop (i + 1) xs) (ap (λ x. prefix ++ x ∷ []) (sym same) ∙ sym (map_more f xs i e lt))
 
 -- a change that leaves a new controller as it is, of all controllers, may leave out those that are marked as new
 pub fresh_skip : (f : Listening → Listening) (marks : List Bool) (xs ys : List Listening) (i : ℕ) → f first_listening ≡ first_listening → AreFresh marks xs → i < length xs
@@ -170,10 +170,10 @@ take_few (suc n) (x ∷ xs) = let h = take_few n xs in omega (arith, h)
 pub few_after : {A : Type 0} (n most : ℕ) (new old : List A) → length new ≡ length old → length old ≤ most
     → length (take n (new ++ drop (length new) old)) ≤ most
 few_after n most new old same few =
-    let front = take_few n (new ++ drop (length new) old) in
+    let prefix = take_few n (new ++ drop (length new) old) in
     let all = length-append new (drop (length new) old) in
     let rest = length-drop (length new) old in
-    omega (arith, front, all, rest, same, few)
+    omega (arith, prefix, all, rest, same, few)
 
 -- what marks say is so of it, if it is so of what was written
 marked_take : (says : Listening → Type 0) (marks : List Bool) (n : ℕ) (list : List Listening) → says first_listening → AreMarked says marks list → AreMarked says marks (take n list)

@@ -57,7 +57,7 @@ talks_there nodes s d g h linger low on =
     ap (λ b. cond b (Some (field (slice_index (node_at nodes d).plugs.outputs 0) 10 15)) None) (talks_same nodes s d g h linger low ∙ on)
     ∙ ap Some (channel_same nodes s d g h on)
 
--- and where it talks, the account says so
+-- and if it talks, the account says so
 pub talks_here : (nodes : List NodeState) (s : State) (d channel : ℕ) → IsGood s → HasNodes nodes (seen s) → HasLingering nodes s.account.continues → d < length nodes
     → talking_on (node_at nodes d) ≡ Some channel → IsTrue (talks s.account (at_plug d 0)) × ((s.account.settings (at_plug d 0)).channel ≡ channel)
 talks_here nodes s d channel g h linger low is = (on, same_Some _ channel (sym (talks_there nodes s d g h linger low on) ∙ is))

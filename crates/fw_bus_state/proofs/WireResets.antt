@@ -1,27 +1,27 @@
 -- What a bus reset, a death, and what controllers are asked for make of the wire.
-use Rattle.fw_bus_state.proofs.Common.{◌≡◌, ◌≢◌, ◌⊎◌, inl, inr, ℕ, [], Bool, true, false, Option, Some, None, option_map, refl, ap, sym, ◌∙◌, cases_eq, update, Current, Nothing, Asking, Hearing}
+use Rattle.fw_bus_state.proofs.Common.{◌≡◌, ◌≢◌, ◌⊎◌, inl, inr, ℕ, [], Bool, true, false, Option, Some, None, refl, ap, sym, ◌∙◌, cases_eq, update, Current, Nothing, Asking, Hearing}
 use Rattle.fw_bus_state.proofs.Common.{Overtaken, ControllerState, State, directory_of}
 use Rattle.std.specs.Prelude.{Ok, Err}
 use Rattle.std.specs.declared.result.Result.{Result}
-use Rattle.fw_async.specs.Async.{spelling}
-use Rattle.fw_cmp.specs.declared.connection.Slot.{Slot}
-use Rattle.fw_cmp.specs.declared.job.Job.{Job}
-use Rattle.fw_cmp.specs.declared.job.Ending.{Ending}
-use Rattle.fw_cmp.specs.declared.job.Purpose.{Purpose}
-use Rattle.fw_cmp.specs.declared.job.Purpose.TheVariants.{Make, Restore, Break}
+use Rattle.fw_cmp_jobs.specs.declared.connection.Slot.{Slot}
+use Rattle.fw_cmp_jobs.specs.declared.job.Job.{Job}
+use Rattle.fw_cmp_jobs.specs.declared.job.Ending.{Ending}
+use Rattle.fw_cmp_jobs.specs.declared.job.Purpose.{Purpose}
+use Rattle.fw_cmp_jobs.specs.declared.job.Purpose.TheVariants.{Make, Restore, Break}
 use Rattle.fw_cmp.specs.declared.outcome.StartFault.{StartFault}
-use Rattle.fw_cmp.specs.declared.stage.Stage.{Stage}
-use Rattle.fw_cmp.specs.declared.stage.Stage.TheVariants.{Begin, ReadOutput, ReadChannels, SwapChannels, ReadBandwidth, SwapBandwidth, ConnectOutput}
-use Rattle.fw_cmp.specs.declared.stage.Stage.TheVariants.{OverlayOutput, ReadInput, ConnectInput, ReadInputToLeave, LeaveInput, ReadOutputToLeave, LeaveOutput}
-use Rattle.fw_cmp.specs.declared.stage.Stage.TheVariants.{ReadBandwidthToRelease, RaiseBandwidth, ReadChannelsToRelease, RestoreChannel, Made, Ended}
-use Rattle.fw_cmp.specs.Requests.{access_of, standing_in}
+use Rattle.fw_cmp_jobs.specs.declared.stage.Stage.{Stage}
+use Rattle.fw_cmp_jobs.specs.declared.stage.Stage.TheVariants.{Begin, ReadOutput, ReadChannels, SwapChannels, ReadBandwidth, SwapBandwidth, ConnectOutput}
+use Rattle.fw_cmp_jobs.specs.declared.stage.Stage.TheVariants.{OverlayOutput, ReadInput, ConnectInput, ReadInputToLeave, LeaveInput, ReadOutputToLeave, LeaveOutput}
+use Rattle.fw_cmp_jobs.specs.declared.stage.Stage.TheVariants.{ReadBandwidthToRelease, RaiseBandwidth, ReadChannelsToRelease, RestoreChannel, Made, Ended}
+use Rattle.fw_cmp_jobs.specs.Requests.{access_of}
+use Rattle.fw_cmp.specs.Works.{standing_in}
 use Rattle.fw_cmp.specs.Resets.{interrupted, decided, overtaken, current_reset, lost_reset, state_reset}
 use Rattle.fw_cmp.specs.Starts.{started, with_task, break_fault, break_started}
-use Rattle.fw_model_run.specs.State.{device_in}
 use Rattle.fw_model_run.proofs.Turns.{update_new, update_others}
-use Rattle.fw_bus_state.specs.Wires.{HasWire, packet_for, packet_by}
+use Rattle.fw_bus_state.specs.Wires.{HasWire, controller_asks, packet_for}
+use Rattle.fw_bus_state.proofs.Wires.{no_requests}
 
--- ---- no request stands after a bus reset
+-- ---- no request is outstanding after a bus reset
 
 interrupted_quiet : (epoch : ℕ) (c : ControllerState) (j : Job) → standing_in (interrupted epoch c j).current ≡ None
 interrupted_quiet epoch c j = go j.purpose
@@ -68,13 +68,9 @@ reset_quiet epoch c (Overtaken i o) e = ap standing_in e
 reset_quiet epoch c (Asking j s) e = overtaken_quiet epoch c j s (λ x same. ap standing_in e)
 reset_quiet epoch c (Hearing j s) e = overtaken_quiet epoch c j s (λ x same. ap standing_in e ∙ ap (access_of j) same)
 
--- a wire on which nothing lies, if no request stands
+-- a wire on which nothing lies, if no request is outstanding
 pub wire_empty : (t : State) → ((d : ℕ) → standing_in (t.controllers d).current ≡ None) → HasWire [] t
-wire_empty t quiet = record { each = λ n. sym (ap (option_map spelling) (go (device_in t.account.latest n))) }
-  where
-    go : (o : Option ℕ) → packet_by t.account.latest (directory_of t) (λ d. (t.controllers d).current) o ≡ None
-    go None = refl
-    go (Some d) = ap (packet_for t.account.latest (directory_of t) d) (quiet d)
+wire_empty t quiet = no_requests t.account.latest (controller_asks t) (λ d. ap (packet_for t.account.latest (directory_of t) d) (quiet d))
 
 -- nor if the job counts as one whose answer was not heard
 lost_quiet : (epoch : ℕ) (c : ControllerState) (x : Current) → c.current ≡ x → standing_in (lost_reset epoch c x).current ≡ None

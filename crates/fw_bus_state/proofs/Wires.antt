@@ -8,11 +8,12 @@ use Rattle.std.proofs.lemmas.Map.Entries.{lookup-filter-keys}
 use Rattle.fw_async.specs.declared.packet.Packet.{Packet}
 use Rattle.fw_async.specs.Async.{spelling}
 use Rattle.fw_async.specs.Wire.{Pairs, bytes_from, without}
-use Rattle.fw_cmp.specs.Requests.{standing_in}
+use Rattle.fw_cmp.specs.Works.{standing_in}
 use Rattle.fw_model_run.specs.State.{device_in}
 use Rattle.fw_model_run.proofs.Turns.{update_new, update_others}
 use Rattle.fw_model_run.proofs.Words.{device_of_number}
-use Rattle.fw_bus_state.specs.Wires.{HasWire, packet_for, packet_by, packet_at}
+use Rattle.fw_bus_state.specs.Wires.{HasRequests, HasWire, controller_asks, packet_for}
+use Rattle.std.specs.Option.{option_and_then}
 
 -- ---- pairs
 
@@ -41,21 +42,19 @@ take_own w q = lookup-filter-keys (eqb q) (λ x. not (eqb q x)) false (λ k e. a
 pub take_other : (w : Pairs) (q n : ℕ) → n ≢ q → bytes_from n (without q w) ≡ bytes_from n w
 take_other w q n ne = lookup-filter-keys (eqb n) (λ x. not (eqb q x)) true (λ k e. ap not (apart q k (λ same. ne (eqb-true n k e ∙ sym same)))) w
 
--- ---- the same requests stand
+-- ---- requests that stand, whoever asks
 
--- if the bus, what controllers are told, and what they are at is the same
-pub wire_same : (w : Pairs) (s t : State) → t.account.latest ≡ s.account.latest → directory_of t ≡ directory_of s
-    → ((d : ℕ) → (t.controllers d).current ≡ (s.controllers d).current) → HasWire w s → HasWire w t
-wire_same w s t latest told currents h =
-    record { each = λ n. h.each n ∙ ap (option_map spelling) (λ i. packet_by (sym latest i) (sym told i) (λ d. sym (currents d) i) (device_in (sym latest i) n)) }
+-- nothing lies on a wire if nobody asks
+pub no_requests : (latest : Option ResetEntry) (asked : ℕ → Option Packet) → ((d : ℕ) → asked d ≡ None) → HasRequests [] latest asked
+no_requests latest asked none = record { each = λ n. sym (ap (option_map spelling) (go (device_in latest n))) }
+  where
+    go : (o : Option ℕ) → option_and_then asked o ≡ None
+    go None = refl
+    go (Some d) = none d
 
--- ---- one controller is another one
-
--- the state with this controller of device d, and the same bus
-pub record Becomes (s t : State) (d : ℕ) (c : ControllerState) : Type 0 where
-  pub latest : t.account.latest ≡ s.account.latest
-  pub told : directory_of t ≡ directory_of s
-  pub controllers : t.controllers ≡ update s.controllers d c
+-- the same requests stand if all ask what they asked
+pub requests_same : (w : Pairs) (latest : Option ResetEntry) (asked now : ℕ → Option Packet) → ((d : ℕ) → now d ≡ asked d) → HasRequests w latest asked → HasRequests w latest now
+requests_same w latest asked now same h = record { each = λ n. h.each n ∙ (λ i. option_map spelling (option_and_then (λ d. sym (same d) i) (device_in latest n))) }
 
 -- the device of a node has its number
 pub number_of_device : (s : State) (d n : ℕ) → IsGood s → device_in s.account.latest n ≡ Some d → number_in s.account.latest d ≡ Some n
@@ -71,66 +70,68 @@ number_of_device s d n g at = go s.account.latest g.latest at
     go (Some e) h x = row e h (slice_get e.nodes n) refl x
 
 -- what stands of a node, by its device
-pub stands_at : (s : State) (d own : ℕ) → IsGood s → number_in s.account.latest d ≡ Some own
-    → packet_at s own ≡ packet_for s.account.latest (directory_of s) d (standing_in (s.controllers d).current)
-stands_at s d own g at = ap (packet_by s.account.latest (directory_of s) (λ k. (s.controllers k).current)) (device_of_number s d own g at)
+pub stands_at : (w : Pairs) (s : State) (asked : ℕ → Option Packet) (d own : ℕ) → IsGood s → number_in s.account.latest d ≡ Some own → HasRequests w s.account.latest asked
+    → bytes_from own w ≡ option_map spelling (asked d)
+stands_at w s asked d own g at h = h.each own ∙ ap (λ o. option_map spelling (option_and_then asked o)) (device_of_number s d own g at)
 
--- what stands of another node
-other_stands : (s t : State) (d own n : ℕ) (c : ControllerState) → IsGood s → Becomes s t d c → number_in s.account.latest d ≡ Some own → n ≢ own
-    → packet_at t n ≡ packet_at s n
-other_stands s t d own n c g b at ne =
-    (λ i. packet_by (b.latest i) (b.told i) (λ k. (b.controllers i k).current) (device_in (b.latest i) n)) ∙ go (device_in s.account.latest n) refl
+-- v are the pairs w, but that this request of node own stands, or none
+pub record WithRequest (w v : Pairs) (own : ℕ) (o : Option Packet) : Type 0 where
+  pub here : bytes_from own v ≡ option_map spelling o
+  pub others : (n : ℕ) → n ≢ own → bytes_from n v ≡ bytes_from n w
+
+-- it goes out
+pub put_request : (w : Pairs) (own : ℕ) (p : Packet) → bytes_from own w ≡ None → WithRequest w (w ++ (own, spelling p) ∷ []) own (Some p)
+put_request w own p free = record { here = put_own w own (spelling p) free; others = λ n ne. put_other w own n (spelling p) ne }
+
+-- it is carried out
+pub take_request : (w : Pairs) (own : ℕ) → WithRequest w (without own w) own None
+take_request w own = record { here = take_own w own; others = λ n ne. take_other w own n ne }
+
+-- it is what it was
+pub keep_request : (w : Pairs) (own : ℕ) (o : Option Packet) → bytes_from own w ≡ option_map spelling o → WithRequest w w own o
+keep_request w own o is = record { here = is; others = λ n ne. refl }
+
+-- one device asks another thing, or nothing
+pub requests_change : (w v : Pairs) (s : State) (asked now : ℕ → Option Packet) (d own : ℕ) → IsGood s → number_in s.account.latest d ≡ Some own → WithRequest w v own (now d)
+    → ((k : ℕ) → k ≢ d → now k ≡ asked k) → HasRequests w s.account.latest asked → HasRequests v s.account.latest now
+requests_change w v s asked now d own g at x same h = record { each = λ n. go n (cases_eq n own) }
   where
-    go : (o : Option ℕ) → device_in s.account.latest n ≡ o
-        → packet_by s.account.latest (directory_of s) (λ k. (update s.controllers d c k).current) o ≡ packet_by s.account.latest (directory_of s) (λ k. (s.controllers k).current) o
-    go None e = refl
-    go (Some k) e =
-        let no : k ≢ d = λ same. ne (same_Some n own (sym (number_of_device s k n g e) ∙ (ap (number_in s.account.latest) same ∙ at))) in
-        ap (λ (x : ControllerState). packet_by s.account.latest (directory_of s) (λ j. x.current) (Some k)) (update_others s.controllers d c k no)
+    r : Option ResetEntry
+    r = s.account.latest
 
--- what stands of its own
-own_stands : (s t : State) (d own : ℕ) (c : ControllerState) → IsGood s → Becomes s t d c → number_in s.account.latest d ≡ Some own
-    → packet_at t own ≡ packet_by s.account.latest (directory_of s) (λ k. c.current) (Some d)
-own_stands s t d own c g b at =
-    (λ i. packet_by (b.latest i) (b.told i) (λ k. (b.controllers i k).current) (device_in (b.latest i) own))
-    ∙ (ap (packet_by s.account.latest (directory_of s) (λ k. (update s.controllers d c k).current)) (device_of_number s d own g at)
-    ∙ ap (λ (x : ControllerState). packet_by s.account.latest (directory_of s) (λ k. x.current) (Some d)) (update_new s.controllers d c))
+    elsewhere : (n : ℕ) → n ≢ own → (o : Option ℕ) → device_in r n ≡ o → option_and_then now o ≡ option_and_then asked o
+    elsewhere n ne None is = refl
+    elsewhere n ne (Some k) is = same k (λ e. ne (same_Some n own (sym (number_of_device s k n g is) ∙ (ap (number_in r) e ∙ at))))
 
--- a request of its goes out
-pub wire_put : (w : Pairs) (s t : State) (d own : ℕ) (c : ControllerState) (p : Packet) → IsGood s → Becomes s t d c → number_in s.account.latest d ≡ Some own
-    → packet_by s.account.latest (directory_of s) (λ k. c.current) (Some d) ≡ Some p → bytes_from own w ≡ None → HasWire w s
-    → HasWire (w ++ (own, spelling p) ∷ []) t
-wire_put w s t d own c p g b at goes free h = record { each = λ n. go n (cases_eq n own) }
-  where
-    go : (n : ℕ) → (n ≡ own) ⊎ (n ≢ own) → bytes_from n (w ++ (own, spelling p) ∷ []) ≡ option_map spelling (packet_at t n)
-    go n (inl same) =
-        subst (λ k. bytes_from k (w ++ (own, spelling p) ∷ []) ≡ option_map spelling (packet_at t k)) (sym same)
-        (put_own w own (spelling p) free ∙ sym (ap (option_map spelling) (own_stands s t d own c g b at ∙ goes)))
-    go n (inr ne) = put_other w own n (spelling p) ne ∙ (h.each n ∙ sym (ap (option_map spelling) (other_stands s t d own n c g b at ne)))
-
--- none of its stands then, and the pair is taken
-pub wire_take : (w : Pairs) (s t : State) (d own : ℕ) (c : ControllerState) → IsGood s → Becomes s t d c → number_in s.account.latest d ≡ Some own
-    → standing_in c.current ≡ None → HasWire w s → HasWire (without own w) t
-wire_take w s t d own c g b at rests h = record { each = λ n. go n (cases_eq n own) }
-  where
-    none : packet_by s.account.latest (directory_of s) (λ k. c.current) (Some d) ≡ None
-    none = ap (packet_for s.account.latest (directory_of s) d) rests
-
-    go : (n : ℕ) → (n ≡ own) ⊎ (n ≢ own) → bytes_from n (without own w) ≡ option_map spelling (packet_at t n)
-    go n (inl same) =
-        subst (λ k. bytes_from k (without own w) ≡ option_map spelling (packet_at t k)) (sym same)
-        (take_own w own ∙ sym (ap (option_map spelling) (own_stands s t d own c g b at ∙ none)))
-    go n (inr ne) = take_other w own n ne ∙ (h.each n ∙ sym (ap (option_map spelling) (other_stands s t d own n c g b at ne)))
-
--- none of its stood, and none stands then
-pub wire_kept : (w : Pairs) (s t : State) (d own : ℕ) (c : ControllerState) → IsGood s → Becomes s t d c → number_in s.account.latest d ≡ Some own
-    → standing_in c.current ≡ standing_in (s.controllers d).current → HasWire w s → HasWire w t
-wire_kept w s t d own c g b at same h = record { each = λ n. go n (cases_eq n own) }
-  where
-    kept : packet_at s own ≡ packet_by s.account.latest (directory_of s) (λ k. c.current) (Some d)
-    kept = stands_at s d own g at ∙ ap (packet_for s.account.latest (directory_of s) d) (sym same)
-
-    go : (n : ℕ) → (n ≡ own) ⊎ (n ≢ own) → bytes_from n w ≡ option_map spelling (packet_at t n)
+    go : (n : ℕ) → (n ≡ own) ⊎ (n ≢ own) → bytes_from n v ≡ option_map spelling (option_and_then now (device_in r n))
     go n (inl is) =
-        subst (λ k. bytes_from k w ≡ option_map spelling (packet_at t k)) (sym is) (h.each own ∙ ap (option_map spelling) (kept ∙ sym (own_stands s t d own c g b at)))
-    go n (inr ne) = h.each n ∙ sym (ap (option_map spelling) (other_stands s t d own n c g b at ne))
+        subst (λ k. bytes_from k v ≡ option_map spelling (option_and_then now (device_in r k))) (sym is)
+        (x.here ∙ sym (ap (λ o. option_map spelling (option_and_then now o)) (device_of_number s d own g at)))
+    go n (inr ne) = x.others n ne ∙ (h.each n ∙ sym (ap (option_map spelling) (elsewhere n ne (device_in r n) refl)))
+
+-- ---- the requests of controllers
+
+-- the same stand if the bus, what controllers are told, and what they are at is the same
+pub wire_same : (w : Pairs) (s t : State) → t.account.latest ≡ s.account.latest → directory_of t ≡ directory_of s
+    → ((d : ℕ) → (t.controllers d).current ≡ (s.controllers d).current) → HasWire w s → HasWire w t
+wire_same w s t latest told currents h = record {
+  each = λ n. h.each n
+      ∙ (λ i. option_map spelling (option_and_then (λ d. packet_for (sym latest i) (sym told i) d (standing_in (sym (currents d) i))) (device_in (sym latest i) n)));
+}
+
+-- the state with this controller of device d, and the same bus
+pub record Becomes (s t : State) (d : ℕ) (c : ControllerState) : Type 0 where
+  pub latest : t.account.latest ≡ s.account.latest
+  pub told : directory_of t ≡ directory_of s
+  pub controllers : t.controllers ≡ update s.controllers d c
+
+-- one controller is another one
+pub changed_wire : (w v : Pairs) (s t : State) (d own : ℕ) (c : ControllerState) → IsGood s → Becomes s t d c → number_in s.account.latest d ≡ Some own
+    → WithRequest w v own (packet_for s.account.latest (directory_of s) d (standing_in c.current)) → HasWire w s → HasWire v t
+changed_wire w v s t d own c g b at x h =
+    wire_same v (record s { controllers = update s.controllers d c }) t b.latest b.told (λ k. ap (λ (f : ℕ → ControllerState). (f k).current) b.controllers)
+    (requests_change w v s (controller_asks s) (λ k. asks k (update s.controllers d c k)) d own g at
+    (subst (WithRequest w v own) (sym (ap (asks d) (update_new s.controllers d c))) x) (λ k ne. ap (asks k) (update_others s.controllers d c k ne)) h)
+  where
+    asks : ℕ → ControllerState → Option Packet
+    asks k y = packet_for s.account.latest (directory_of s) k (standing_in y.current)

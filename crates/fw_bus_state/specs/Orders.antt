@@ -3,7 +3,7 @@ use Rattle.std.specs.Prelude.{ℕ, ◌≡◌, ◌+◌, ◌*◌, ◌<◌, ◌≤�
 use Rattle.fw_tree.specs.declared.facts.End.{End}
 use Rattle.fw_tree.specs.declared.TreeFault.{TreeFault}
 use Rattle.fw_tree.specs.Topology.{Topology, IsFault}
-use Rattle.fw_cmp.specs.Fits.{SlotFits}
+use Rattle.fw_cmp_jobs.specs.Fits.{SlotFits}
 use Rattle.fw_cmp.specs.Losses.{Awaits}
 use Rattle.fw_cmp.specs.Starts.{break_fault}
 use Rattle.fw_terms.specs.Devices.{has_unit}

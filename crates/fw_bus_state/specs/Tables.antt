@@ -21,7 +21,7 @@ states_of t d = slice_index_or t.list d first_listening
 abbrev pub dead_of : ControllerTable → ℕ → Bool
 dead_of t d = slice_index_or t.flags d false
 
--- it has lost no response, and no request of it stands
+-- it has lost no response, and no request of it is outstanding
 abbrev pub Listens : Listening → Type 0
 Listens x = IsFalse x.lost × IsHeard x.state.current
 

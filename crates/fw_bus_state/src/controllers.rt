@@ -3,10 +3,10 @@
 ghost use Rattle.std.specs.Prelude.{◌≡◌, ◌<◌, ◌≤◌, ◌+◌, ◌^◌, IfNone, IfOk, IfSome, IsTrue, IsFalse, ℕ, None, true, false, replicate, slice_set};
 ghost use Rattle.fw_terms.specs.Tables.{update};
 ghost use Rattle.fw_cmp.specs.Causes.{IsAtRest};
-ghost use Rattle.fw_cmp.specs.Fits.{SlotFits};
+ghost use Rattle.fw_cmp_jobs.specs.Fits.{SlotFits};
 ghost use Rattle.fw_cmp.specs.Holdings.{CanGoOn};
 ghost use Rattle.fw_cmp.specs.Losses.{first_listening, Awaits, MayTurn, turn_of, after_turn, after_answer, after_loss, with_state};
-ghost use Rattle.fw_cmp.specs.Nodes.{HasNodeNumbers};
+ghost use Rattle.fw_cmp_jobs.specs.Nodes.{HasNodeNumbers};
 ghost use Rattle.fw_cmp.specs.Starts.{break_fault, break_started, started};
 ghost use Rattle.fw_cmp.specs.Turns.{addressee_in};
 ghost use Rattle.fw_model_run.specs.Afterwards.{slot_of, start_of};
@@ -123,7 +123,7 @@ impl Controllers {
         next
     }
 
-    /// The request that the controller of a device makes next, and the number of the node that it goes to, where it is found at once
+    /// The request that the controller of a device makes next, and the number of the node that it goes to, if it is found at once
     /// (`Controller::ask`).
     #[inline(always)]
     pub fn ask(
@@ -149,7 +149,7 @@ impl Controllers {
         Some(asked)
     }
 
-    /// The controller of a device hears the reply to the request that stands (`Controller::hear`).
+    /// The controller of a device hears the reply to the outstanding request (`Controller::hear`).
     #[inline(always)]
     pub fn hear(&mut self, device: u8, reply: &Reply)
         requires device { device < count_of self.old }
@@ -162,7 +162,7 @@ impl Controllers {
         self.fresh[usize::from(device)] = false;
     }
 
-    /// The response to the request that stands is lost (`Controller::lose`).
+    /// The response to the outstanding request is lost (`Controller::lose`).
     pub fn lose(&mut self, device: u8)
         requires device { device < count_of self.old }
         requires stands { Awaits (states_of self.old device) }

@@ -10,7 +10,7 @@ ghost use Rattle.fw_bus_state.specs.Giving.{Gives, in_room, never_fails, sides_o
 ghost use Rattle.fw_model_run.specs.Giving.{at_cycle};
 
 use crate::machine::Machine;
-use crate::room::Room;
+use crate::room::WriteBuffers;
 use fw_async::PacketRoom;
 use fw_log_entry::{Entry, Timed, Version, epoch_after, write_async, write_entry};
 use fw_outside::{Failed, Sink};
@@ -28,10 +28,10 @@ fn timed<'a>(machine: &Machine, what: Entry<'a>) -> (u32, Timed<'a>)
 }
 
 /// Writes an entry of this cycle, with the epoch of the latest bus reset.
-pub fn give<K: Sink>(
+pub fn emit<K: Sink>(
     machine: &Machine,
     what: Entry<'_>,
-    room: &mut Room,
+    room: &mut WriteBuffers,
     sink: &mut K,
 ) -> Result<(), Failed>
     requires { Fits what }
@@ -42,7 +42,7 @@ pub fn give<K: Sink>(
 }
 
 /// Puts an entry of this cycle into the room of cycles, after those that it holds.
-pub fn put_entry(machine: &Machine, what: Entry<'_>, room: &mut Room)
+pub fn put_entry(machine: &Machine, what: Entry<'_>, room: &mut WriteBuffers)
     requires fits { Fits what }
     requires room { length room.old.cycle + 2292 ≤ 102632 }
     ensures gives { Gives machine.now what.entry (in_room room.old.cycle room.new.cycle) never_fails }
@@ -54,7 +54,7 @@ pub fn put_entry(machine: &Machine, what: Entry<'_>, room: &mut Room)
 
 /// Writes the entry of a packet of this cycle, which is in the room.
 #[inline(always)]
-pub fn give_packet<K: Sink>(
+pub fn emit_packet<K: Sink>(
     machine: &Machine,
     packet: &mut PacketRoom,
     sink: &mut K,
@@ -76,5 +76,5 @@ pub fn give_async<K: Sink>(
     ensures { Gives machine.now (Async packet.now) (sides_of K.held K.faults sink.old sink.new) result }
 {
     room.put(packet);
-    give_packet(machine, room, sink)
+    emit_packet(machine, room, sink)
 }

@@ -17,8 +17,8 @@ mod streams;
 
 pub use candidates::Candidates;
 pub use controllers::Controllers;
-pub use giving::{give, give_async, give_packet, put_entry};
+pub use giving::{emit, emit_packet, give_async, put_entry};
 pub use machine::Machine;
 pub use recording::{Recording, hear_block, keep, recording_on};
-pub use room::Room;
+pub use room::WriteBuffers;
 pub use streams::Streams;

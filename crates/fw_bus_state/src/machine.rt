@@ -20,7 +20,7 @@ use std::alloc::{AllocError, Global};
 pub struct Machine {
     pub devices: Devices,
     pub controllers: Controllers,
-    /// The requests that stand, by the number of the node that asks.
+    /// The outstanding requests, by the number of the node that asks.
     pub wire: Wire,
     /// What controllers know of the bus since the latest bus reset.
     pub directory: Directory,
@@ -38,7 +38,7 @@ pub struct Machine {
     pub streams: Streams,
     /// Who is a candidate for the bus manager.
     pub candidates: Candidates,
-    /// The requests of candidates that stand, by the number of the node that asks.
+    /// The requests of candidates that are outstanding, by the number of the node that asks.
     pub bids: Wire,
     /// The deck whose recording goes onto the reel, if one is tied.
     pub tied: Option<u8>,

@@ -4,7 +4,7 @@ use std::alloc::{AllocError, Global};
 
 /// Memory in which entries and packets are put together. It is made once and used again for each.
 #[derive(Drop)]
-pub struct Room {
+pub struct WriteBuffers {
     pub entry: EntryRoom,
     /// The packet that is sent.
     pub packet: PacketRoom,
@@ -12,10 +12,10 @@ pub struct Room {
     pub cycle: CycleRoom,
 }
 
-impl Room {
+impl WriteBuffers {
     /// Room for one entry and one packet.
-    pub fn new(alloc: Global) -> Result<Room, AllocError> {
-        Ok(Room {
+    pub fn new(alloc: Global) -> Result<WriteBuffers, AllocError> {
+        Ok(WriteBuffers {
             entry: EntryRoom::new(alloc)?,
             packet: PacketRoom::new(),
             cycle: CycleRoom::new(),

@@ -110,7 +110,7 @@ impl Streams {
     }
 
     /// The plug of a device begins anew if it does not talk.
-    pub fn look(&mut self, devices: &Devices, device: u8)
+    pub fn restart_if_silent(&mut self, devices: &Devices, device: u8)
         requires declared { device < length devices.now.nodes }
         requires few { device < 63 }
         ensures { self.new ≡ looked_at device devices.now.nodes self.old }

@@ -1,6 +1,6 @@
 -- What is left of a list.
 use Rattle.std.proofs.Common.{◌≡◌, ℕ, zero, suc, ◌+◌, ◌≤◌, ◌<◌, List, [], ◌∷◌, ◌++◌, length, drop, map, get_or, refl, ap, sym, ◌∙◌, arith, append_assoc, add-one, drop-cons}
-use Rattle.fw_script_command.specs.Form.{behind_first}
+use Rattle.fw_script_command.specs.Form.{after_first}
 
 -- nothing is left after all
 pub none_left : {A : Type 0} (xs : List A) (i : ℕ) → length xs ≤ i → drop i xs ≡ []
@@ -10,10 +10,10 @@ none_left (x ∷ xs) zero h = absurd (omega arith)
 none_left (x ∷ xs) (suc i) h = none_left xs i (omega arith)
 
 -- after the first of what is left
-pub behind_left : (xs : List (List ℕ)) (i : ℕ) → behind_first (drop i xs) ≡ drop (i + 1) xs
-behind_left xs i = by xs i ∙ ap (λ (k : ℕ). drop k xs) (sym (add-one i))
+pub after_left : (xs : List (List ℕ)) (i : ℕ) → after_first (drop i xs) ≡ drop (i + 1) xs
+after_left xs i = by xs i ∙ ap (λ (k : ℕ). drop k xs) (sym (add-one i))
   where
-    by : (xs : List (List ℕ)) (i : ℕ) → behind_first (drop i xs) ≡ drop (suc i) xs
+    by : (xs : List (List ℕ)) (i : ℕ) → after_first (drop i xs) ≡ drop (suc i) xs
     by [] zero = refl
     by [] (suc i) = refl
     by (x ∷ xs) zero = refl

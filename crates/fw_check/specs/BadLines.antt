@@ -1,6 +1,6 @@
 -- Why a line is no command.
 use Rattle.std.specs.Prelude.{ℕ, List, [], ◌∷◌, ◌++◌, codes, decimal, Option, Some, None, if◌then◌else◌}
-use Rattle.fw_script_command.specs.Form.{behind_first}
+use Rattle.fw_script_command.specs.Form.{after_first}
 use Rattle.fw_script_command.specs.Keyword.{keyword_in}
 use Rattle.fw_script_command.specs.Pieces.{pieces}
 use Rattle.fw_script_command.specs.Types.{types_of}
@@ -38,7 +38,7 @@ no_command line None = named_word line 1 ++ codes "; expected a command" ++ 10 �
 
 -- what is told of the words of a line, by its first word
 abbrev pub words_refusal : List ℕ → Option Keyword → List ℕ
-words_refusal line (Some k) = form_refusal k line (first_misfit 2 (types_of k) (behind_first (pieces 32 line)))
+words_refusal line (Some k) = form_refusal k line (first_misfit 2 (types_of k) (after_first (pieces 32 line)))
 words_refusal line None = no_command line (keyword_in (lowered (word_at line 1)))
 
 -- why a line has no form: a slip of the line, or its first word that is none

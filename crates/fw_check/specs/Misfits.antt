@@ -1,6 +1,6 @@
 -- The first word that a form refuses.
 use Rattle.std.specs.Prelude.{ℕ, ◌+◌, ◌<◌, ⊤, List, [], ◌∷◌, Option, Some, None, if◌then◌else◌}
-use Rattle.fw_script_command.specs.Form.{behind_first}
+use Rattle.fw_script_command.specs.Form.{after_first}
 use Rattle.fw_script_command.specs.Types.{fits, may_lack}
 use Rattle.fw_script_command.specs.declared.word_type.WordType.{WordType}
 use Rattle.fw_check.specs.declared.misfit.Misfit.{Misfit}
@@ -24,7 +24,7 @@ or_misfit None other = other
 -- the first word, numbered from this number on, that is missing, is not of its type, or is one too many
 abbrev pub first_misfit : ℕ → List WordType → List (List ℕ) → Option Misfit
 first_misfit k [] ws = surplus_at k ws
-first_misfit k (t ∷ ts) ws = or_misfit (misfit_at k t ws) (first_misfit (k + 1) ts (behind_first ws))
+first_misfit k (t ∷ ts) ws = or_misfit (misfit_at k t ws) (first_misfit (k + 1) ts (after_first ws))
 
 -- the word has a number from 1
 abbrev pub HasNumber : Option Misfit → Type 0

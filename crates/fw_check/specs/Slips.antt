@@ -5,7 +5,7 @@ use Rattle.std.specs.List.{list_all, starts_with}
 use Rattle.std.specs.Option.{option_map}
 use Rattle.fw_check.specs.Shown.{is_printable}
 use Rattle.fw_check.specs.declared.slip.Slip.{Slip}
-use Rattle.fw_check.specs.declared.slip.Slip.TheVariants.{ByteOrderMark, CarriageReturn, Tab, OtherByte, SpacesAlone, SpaceBefore, TwoSpaces, SpaceBehind, BehindEnd}
+use Rattle.fw_check.specs.declared.slip.Slip.TheVariants.{ByteOrderMark, CarriageReturn, Tab, OtherByte, SpacesAlone, SpaceBefore, TwoSpaces, SpaceAfter, FollowingEnd}
 
 -- the last byte is this one
 abbrev pub ends_with_byte : ℕ → List ℕ → Bool
@@ -41,7 +41,7 @@ two_spaces (b ∷ bs) =
 -- two spaces at a place, or a space at the end
 abbrev pub late_space : List ℕ → Option ℕ → Option Slip
 late_space line (Some k) = Some (TwoSpaces (k + 1))
-late_space line None = if ends_with_byte 32 line then Some SpaceBehind else None
+late_space line None = if ends_with_byte 32 line then Some SpaceAfter else None
 
 -- spaces that separate no two words
 abbrev pub space_slip : List ℕ → Option Slip
@@ -52,7 +52,7 @@ space_slip line =
 
 -- the line stands after `end`, which is on the line with this number, 0 if it was not read
 abbrev pub end_slip : ℕ → Option Slip
-end_slip end = if end == 0 then None else Some (BehindEnd end)
+end_slip end = if end == 0 then None else Some (FollowingEnd end)
 
 -- the first slip, or that of the rest
 abbrev pub or_slip : Option Slip → Option Slip → Option Slip
@@ -80,5 +80,5 @@ slip_text (OtherByte byte column) = codes "the byte " ++ byte_text byte ++ codes
 slip_text SpacesAlone = codes "spaces alone; an empty line has none"
 slip_text SpaceBefore = codes "a space before the first word"
 slip_text (TwoSpaces column) = codes "two spaces at column " ++ decimal column ++ codes "; words are parted by one"
-slip_text SpaceBehind = codes "a space behind the last word"
-slip_text (BehindEnd line) = codes "it stands behind `end` of line " ++ decimal line ++ codes "; only empty lines and comments may follow"
+slip_text SpaceAfter = codes "a space behind the last word"
+slip_text (FollowingEnd line) = codes "it stands behind `end` of line " ++ decimal line ++ codes "; only empty lines and comments may follow"

@@ -5,8 +5,8 @@ use Rattle.fw_csr.specs.declared.low_offset.TheConstants.{BUS_MANAGER_ID, BANDWI
 use Rattle.fw_csr.specs.declared.offset.TheConstants.{REGISTER_SPACE}
 use Rattle.fw_log_registers.specs.Places.{place_of}
 use Rattle.fw_log_registers.specs.Words.{place_text}
-use Rattle.fw_log_registers.specs.declared.place.Place.{Place}
-use Rattle.fw_log_registers.specs.declared.place.Place.TheVariants.{Named, Unnamed}
+use Rattle.fw_log_registers.specs.declared.place.RegisterPlace.{RegisterPlace}
+use Rattle.fw_log_registers.specs.declared.place.RegisterPlace.TheVariants.{Named, Unnamed}
 use Rattle.fw_check.specs.Shown.{named_word, word_at}
 use Rattle.fw_check.specs.declared.why.Why.{Why}
 use Rattle.fw_check.specs.declared.why.Why.TheVariants as Whys
@@ -78,7 +78,7 @@ candidate_text name true = name ++ codes " is no candidate; `candidate " ++ name
 candidate_text name false = name ++ codes " is no candidate"
 
 -- what stands at an offset from FFFF F000 0000
-abbrev pub register_text : Place → List ℕ
+abbrev pub register_text : RegisterPlace → List ℕ
 register_text (Named register index) = place_text (Named register index)
 register_text (Unnamed offset) = codes "register at this offset"
 

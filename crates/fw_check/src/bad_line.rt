@@ -1,7 +1,7 @@
 //! Why a line is no command.
 
 ghost use Rattle.std.specs.Prelude.{◌≡◌, ◌<◌, ◌++◌, [], None, OnOk};
-ghost use Rattle.fw_script_command.specs.Form.{behind_first};
+ghost use Rattle.fw_script_command.specs.Form.{after_first};
 ghost use Rattle.fw_script_command.specs.Pieces.{pieces};
 ghost use Rattle.fw_script_command.specs.Types.{types_of};
 ghost use Rattle.fw_check.specs.BadLines.{bad_line, form_refusal, misfit_text, surplus, words_refusal};
@@ -91,7 +91,7 @@ fn put_form_refusal(
 
 // The first word of a line that its form refuses.
 fn misfit_of(keyword: Keyword, line: &[u8]) -> Option<Misfit>
-    ensures value { result ≡ first_misfit 2 (types_of keyword) (behind_first (pieces 32 line.now)) }
+    ensures value { result ≡ first_misfit 2 (types_of keyword) (after_first (pieces 32 line.now)) }
     ensures number { HasNumber result }
 {
     let mut words = Pieces::new(line, b' ');

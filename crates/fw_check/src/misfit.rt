@@ -1,7 +1,7 @@
 //! The first word that a form refuses.
 
 ghost use Rattle.std.specs.Prelude.{◌≡◌, ◌≤◌, length};
-ghost use Rattle.fw_script_command.specs.Form.{behind_first};
+ghost use Rattle.fw_script_command.specs.Form.{after_first};
 ghost use Rattle.fw_check.specs.Misfits.{first_misfit, misfit_at, surplus_at};
 
 use fw_script_command::{Pieces, WordType};
@@ -20,7 +20,7 @@ pub enum Misfit {
 // The next word, if it is missing or not of this type.
 fn misfit_at(number: u8, ty: WordType, words: &mut Pieces) -> Option<Misfit>
     ensures found { result ≡ misfit_at number ty words.old }
-    ensures left { words.new ≡ behind_first words.old }
+    ensures left { words.new ≡ after_first words.old }
 {
     let Some(word) = words.next() else {
         return if ty.may_lack() {

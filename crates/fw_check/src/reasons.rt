@@ -10,7 +10,7 @@ use fw_csr::low_offset::{
     BANDWIDTH_AVAILABLE, BUS_MANAGER_ID, CHANNELS_AVAILABLE_HI, CHANNELS_AVAILABLE_LO, IPCR,
 };
 use fw_log_names::{Pairs, put_number, put_word};
-use fw_log_registers::{Place, put_place};
+use fw_log_registers::{RegisterPlace, put_place};
 use fw_script_command::Name;
 use std::alloc::AllocError;
 
@@ -88,7 +88,7 @@ pub(crate) fn put_no_node(text: &mut Vec<u8>, why: &NoNode) -> Result<(), AllocE
     }
 }
 
-/// Appends that no request of a controller stands, or that the response was lost.
+/// Appends that no request of a controller is outstanding, or that the response was lost.
 pub(crate) fn put_nothing(text: &mut Vec<u8>, name: &Name, lost: bool) -> Result<(), AllocError>
     ensures { OnOk result (text.new.items ≡ text.old.items ++ nothing_text name.now lost) }
 {
@@ -140,11 +140,11 @@ pub(crate) fn put_candidate(
 fn put_register(text: &mut Vec<u8>, offset: u16) -> Result<(), AllocError>
     ensures { OnOk result (text.new.items ≡ text.old.items ++ register_at offset) }
 {
-    match Place::of(REGISTER_SPACE + u64::from(offset)) {
-        Place::Named(register, index) => {
-            put_place(text, &Pairs::new(), Place::Named(register, index))
+    match RegisterPlace::of(REGISTER_SPACE + u64::from(offset)) {
+        RegisterPlace::Named(register, index) => {
+            put_place(text, &Pairs::new(), RegisterPlace::Named(register, index))
         }
-        Place::Unnamed(_) => put_word(text, "register at this offset"),
+        RegisterPlace::Unnamed(_) => put_word(text, "register at this offset"),
     }
 }
 

@@ -25,9 +25,9 @@ pub enum Slip {
     SpaceBefore,
     /// Two spaces that stand before a word begin at this column.
     TwoSpaces(usize),
-    SpaceBehind,
+    SpaceAfter,
     /// The line stands after `end`, which is on this line.
-    BehindEnd(u32),
+    FollowingEnd(u32),
 }
 
 fn mark_slip(line: &[u8]) -> Option<Slip>
@@ -102,7 +102,7 @@ fn space_slip(line: &[u8]) -> Option<Slip>
     }
     match two_spaces(line) {
         Some(place) => Some(Slip::TwoSpaces(place + 1)),
-        None if ends_with_byte(line, b' ') => Some(Slip::SpaceBehind),
+        None if ends_with_byte(line, b' ') => Some(Slip::SpaceAfter),
         None => None,
     }
 }
@@ -120,7 +120,7 @@ fn end_slip(end: u32) -> Option<Slip>
     if end == 0 {
         None
     } else {
-        Some(Slip::BehindEnd(end))
+        Some(Slip::FollowingEnd(end))
     }
 }
 
@@ -197,8 +197,8 @@ pub(crate) fn put_slip(text: &mut Vec<u8>, slip: Slip) -> Result<(), AllocError>
                 "; words are parted by one",
             )
         }
-        Slip::SpaceBehind => put_word(text, "a space behind the last word"),
-        Slip::BehindEnd(line) => {
+        Slip::SpaceAfter => put_word(text, "a space behind the last word"),
+        Slip::FollowingEnd(line) => {
             put_numbered(
                 text,
                 "it stands behind `end` of line ",

@@ -7,8 +7,8 @@ use Rattle.fw_tree.specs.Cables.{peer}
 use Rattle.fw_tree.specs.Topology.{has_port, ports_of}
 use Rattle.fw_script_command.specs.declared.command.Command.{Command}
 use Rattle.fw_script_command.specs.declared.command.Command.TheVariants as Commands
-use Rattle.fw_cmp.specs.declared.connection.Slot.{Slot}
-use Rattle.fw_cmp.specs.declared.connection.Slot.TheVariants as Slots
+use Rattle.fw_cmp_jobs.specs.declared.connection.Slot.{Slot}
+use Rattle.fw_cmp_jobs.specs.declared.connection.Slot.TheVariants as Slots
 use Rattle.fw_cmp.specs.Controllers.{slot_at, break_waits}
 use Rattle.fw_devices.specs.Network.{device_named, kind_at}
 use Rattle.fw_order.specs.declared.limits.TheConstants.{MOST_WRITTEN_CYCLES}
@@ -120,7 +120,7 @@ off s number name = of_named s name (λ d. option_map (λ why. OffBus number why
 abbrev pub slot_state : Slot → Bool → SlotState
 slot_state Slots.Free waits = Free
 slot_state (Slots.Making conn asked overhead) waits = Making
-slot_state (Slots.Standing conn f) waits = if waits then BreakWaits else Breaking
+slot_state (Slots.Established conn f) waits = if waits then BreakWaits else Breaking
 slot_state (Slots.Restoring conn f over) waits = if waits then BreakWaits else Breaking
 slot_state (Slots.Gone conn) waits = if waits then BreakWaits else Breaking
 

@@ -155,7 +155,7 @@ fn slot_state(held: Slot, waits: bool) -> SlotState
     match held {
         Slot::Free => SlotState::Free,
         Slot::Making(..) => SlotState::Making,
-        Slot::Standing(..) | Slot::Restoring(..) | Slot::Gone(_) => {
+        Slot::Established(..) | Slot::Restoring(..) | Slot::Gone(_) => {
             if waits {
                 SlotState::BreakWaits
             } else {

@@ -22,15 +22,15 @@ cip_of c = refl
 same_cip : (c d : CipHeader) → first_layout c ≡ first_layout d → second_layout c ≡ second_layout d → c ≡ d
 same_cip c d first second =
     let at = λ (i : ℕ). ap (λ fs. get_or (values fs) i 0) first in
-    let behind = λ (i : ℕ). ap (λ fs. get_or (values fs) i 0) second in
+    let following = λ (i : ℕ). ap (λ fs. get_or (values fs) i 0) second in
     let sid : c.sid ≡ d.sid = at 1 in
     let dbs : c.dbs ≡ d.dbs = at 2 in
     let fraction : c.fraction ≡ d.fraction = at 3 in
     let qpc : c.qpc ≡ d.qpc = at 4 in
     let sph : c.sph ≡ d.sph = same_bit _ _ (at 5) in
     let dbc : c.dbc ≡ d.dbc = at 7 in
-    let fmt : c.fmt ≡ d.fmt = behind 1 in
-    let fdf : c.fdf ≡ d.fdf = behind 2 in
+    let fmt : c.fmt ≡ d.fmt = following 1 in
+    let fdf : c.fdf ≡ d.fdf = following 2 in
     cc (cip_of c, cip_of d)
 
 iso : ℕ → ℕ → CipHeader → Option (List ℕ) → IsoPacket
@@ -41,9 +41,9 @@ unfolding iso
 iso_of p = refl
 
 -- what stands after the headers
-behind : (a b c : ℕ) (rest : List ℕ) → drop 12 (three a b c ++ rest) ≡ rest
+following : (a b c : ℕ) (rest : List ℕ) → drop 12 (three a b c ++ rest) ≡ rest
 unfolding three
-behind a b c rest = refl
+following a b c rest = refl
 
 same_block : (x y : Option (List ℕ)) (more : List ℕ) → data_length x ≡ data_length y → IfSome x IsBlock → IfSome y IsBlock → block_bytes y ≡ block_bytes x ++ more → (y ≡ x) × (more ≡ [])
 same_block None None more n f g e = (refl, sym e)
@@ -69,7 +69,7 @@ spelled_alone p q more f g e =
     let cips : p.cip ≡ q.cip =
     same_cip p.cip q.cip (packed-same (first_layout p.cip) (first_layout q.cip) 0 0 refl f.first g.first second).fields
     (packed-same (second_layout p.cip) (second_layout q.cip) 0 0 refl f.second g.second third).fields in
-    let rest : block_bytes q.block ≡ block_bytes p.block ++ more = sym (behind _ _ _ (block_bytes q.block)) ∙ ap (drop 12) whole ∙ behind a b c (block_bytes p.block ++ more) in
+    let rest : block_bytes q.block ≡ block_bytes p.block ++ more = sym (following _ _ _ (block_bytes q.block)) ∙ ap (drop 12) whole ∙ following a b c (block_bytes p.block ++ more) in
     let blocks = same_block p.block q.block more (at 0) f.block g.block rest in
     let channel : p.channel ≡ q.channel = at 2 in
     let sy : p.sy ≡ q.sy = at 4 in

@@ -61,14 +61,14 @@ latest_block [] = None
 latest_block (p ∷ ps) = or_else (latest_block ps) (if is_some p.block then Some p else None)
 
 -- the count after a packet's block, or this one if there is no packet
-abbrev pub dbc_behind : ℕ → Option IsoPacket → ℕ
-dbc_behind first None = first
-dbc_behind first (Some p) = (p.cip.dbc + 1) % 256
+abbrev pub dbc_after : ℕ → Option IsoPacket → ℕ
+dbc_after first None = first
+dbc_after first (Some p) = (p.cip.dbc + 1) % 256
 
 -- The DBC that is expected after these packets: the one after the latest block, or the first packet's if none had a block.
 abbrev pub expected_of : List IsoPacket → Option ℕ
 expected_of [] = None
-expected_of (p ∷ ps) = Some (dbc_behind p.cip.dbc (latest_block (p ∷ ps)))
+expected_of (p ∷ ps) = Some (dbc_after p.cip.dbc (latest_block (p ∷ ps)))
 
 -- a block, or none
 abbrev pub kind_of : Option (List ℕ) → Heard
@@ -82,4 +82,4 @@ heard (Some expected) p = if p.cip.dbc == expected then kind_of p.block else Gap
 
 -- Each packet of these, heard after those before it, is a block or empty and no gap.
 abbrev pub IsHeardWhole : List IsoPacket → Type 0
-IsHeardWhole packets = (before behind : List IsoPacket) (p : IsoPacket) → packets ≡ before ++ p ∷ behind → heard (expected_of before) p ≡ kind_of p.block
+IsHeardWhole packets = (before following : List IsoPacket) (p : IsoPacket) → packets ≡ before ++ p ∷ following → heard (expected_of before) p ≡ kind_of p.block

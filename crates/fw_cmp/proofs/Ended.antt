@@ -1,13 +1,35 @@
 -- A job ends, or a bus reset overtakes it: what a controller keeps.
 use Rattle.fw_cmp.proofs.Common.{◌≡◌, ◌≢◌, ℕ, ◌<◌, ◌≤◌, Bool, true, false, List, length, refl, ap, sym, ◌∙◌, arith, Option, Some, None, ◌⊎◌, inl, inr, ◌&&◌, ⊤, if◌then◌else◌, cases_eq, Connection}
-use Rattle.fw_cmp.proofs.Common.{Slot, Free, Making, Standing, Restoring, Gone, Current, Nothing, Asking, Hearing, Overtaken, Task, Job, Purpose, Make, Restore, Break, Stage, Made, ControllerState}
+use Rattle.fw_cmp.proofs.Common.{
+  Slot,
+  Free,
+  Making,
+  Established,
+  Restoring,
+  Gone,
+  Current,
+  Nothing,
+  Asking,
+  Hearing,
+  Overtaken,
+  WaitingJob,
+  Job,
+  Purpose,
+  Make,
+  Restore,
+  Break,
+  Stage,
+  Made,
+  ControllerState,
+}
 use Rattle.fw_cmp.proofs.Common.{slot_at, with_slot, count_of, breaks_waiting, job_for, SlotHasJobs, CurrentFits, RunsFitting, Fits, restores, SlotFits}
 use Rattle.std.proofs.Common.{◌==◌}
 use Rattle.std.proofs.lemmas.List.{length-set}
 use Rattle.std.proofs.lemmas.List.Elements.{All-set}
-use Rattle.fw_cmp.specs.Controllers.{break_waits, is_make_at, is_break_at}
+use Rattle.fw_cmp.specs.Controllers.{break_waits}
+use Rattle.fw_cmp_jobs.specs.Slots.{is_make_at, is_break_at}
 use Rattle.fw_cmp.specs.Controllers.{makes_waiting}
-use Rattle.fw_cmp.specs.Fits.{ConnectionFits}
+use Rattle.fw_cmp_jobs.specs.Fits.{ConnectionFits}
 use Rattle.fw_cmp.specs.Turns.{ended}
 use Rattle.fw_cmp.proofs.Jobs.{same_count, other_count, breaks_none, breaks_some}
 use Rattle.fw_cmp.proofs.Fitting.{slot_here, slot_elsewhere}
@@ -39,18 +61,18 @@ break_count_elsewhere Restore slot i ne = refl
 break_count_elsewhere Break slot i ne = other_count slot i ne
 
 -- what waits for the slot of a current job: no making, and no break beside a making or a break
-pub record WaitsBeside (ts : List Task) (p : Purpose) (i : ℕ) : Type 0 where
+pub record WaitsBeside (ts : List WaitingJob) (p : Purpose) (i : ℕ) : Type 0 where
   pub makes : makes_waiting ts i ≡ 0
   pub breaks : breaks_waiting ts i ≤ 1
   pub alone : p ≢ Restore → breaks_waiting ts i ≡ 0
 
-pub beside : (ts : List Task) (j : Job) (t : Stage) (s : Slot) (p : Purpose) → j.purpose ≡ p → job_for j.slot s ≡ Some j → SlotHasJobs ts (Asking j t) j.slot s → WaitsBeside ts p j.slot
+pub beside : (ts : List WaitingJob) (j : Job) (t : Stage) (s : Slot) (p : Purpose) → j.purpose ≡ p → job_for j.slot s ≡ Some j → SlotHasJobs ts (Asking j t) j.slot s → WaitsBeside ts p j.slot
 beside ts j t Free p is e h = cc
 beside ts j t (Making conn asked overhead) p is e h =
     let same : Make ≡ p = ap (λ (o : Option Job). purpose_or o Make) e ∙ is in
     let runs : count_of (is_make_at j j.slot) ≡ 1 = ap (λ (q : Purpose). make_count q j.slot j.slot) (is ∙ sym same) ∙ same_count j.slot in
     record { makes = omega (arith, h.makes); breaks = omega (arith, h.breaks); alone = λ _. omega (arith, h.breaks) }
-beside ts j t (Standing conn f) p is e h =
+beside ts j t (Established conn f) p is e h =
     let same : Break ≡ p = ap (λ (o : Option Job). purpose_or o Break) e ∙ is in
     let runs : count_of (is_break_at j j.slot) ≡ 1 = ap (λ (q : Purpose). break_count q j.slot j.slot) (is ∙ sym same) ∙ same_count j.slot in
     record { makes = omega (arith, h.makes); breaks = omega (arith, h.breaks); alone = λ _. omega (arith, h.breaks) }
@@ -70,29 +92,29 @@ IsStopped Nothing = ⊤
 IsStopped (Overtaken k o) = ⊤
 IsStopped _ = ⊥
 
-stopped : (ts : List Task) (cur : Current) (i : ℕ) (s : Slot) → IsStopped cur → SlotHasJobs ts Nothing i s → SlotHasJobs ts cur i s
+stopped : (ts : List WaitingJob) (cur : Current) (i : ℕ) (s : Slot) → IsStopped cur → SlotHasJobs ts Nothing i s → SlotHasJobs ts cur i s
 stopped ts Nothing i s h r = r
 stopped ts (Overtaken k o) i s h r = record { makes = r.makes; breaks = r.breaks; gone = r.gone }
 stopped ts (Asking j t) i s h r = absurd h
 stopped ts (Hearing j t) i s h r = absurd h
 
-stopped_elsewhere : (ts : List Task) (j : Job) (t : Stage) (i : ℕ) (s : Slot) → j.slot ≢ i → SlotHasJobs ts (Asking j t) i s → SlotHasJobs ts Nothing i s
+stopped_elsewhere : (ts : List WaitingJob) (j : Job) (t : Stage) (i : ℕ) (s : Slot) → j.slot ≢ i → SlotHasJobs ts (Asking j t) i s → SlotHasJobs ts Nothing i s
 stopped_elsewhere ts j t i s ne h =
     let m : count_of (is_make_at j i) ≡ 0 = make_count_elsewhere j.purpose j.slot i ne in
     let b : count_of (is_break_at j i) ≡ 0 = break_count_elsewhere j.purpose j.slot i ne in
     record { makes = omega (arith, h.makes); breaks = omega (arith, h.breaks); gone = omega (arith, h.gone) }
 
 -- its slot is one that what waits beside it goes with
-abbrev pub GoesWith : List Task → Purpose → ℕ → Slot → Type 0
+abbrev pub GoesWith : List WaitingJob → Purpose → ℕ → Slot → Type 0
 GoesWith ts p i Free = breaks_waiting ts i ≡ 0
-GoesWith ts p i (Standing conn f) = ⊤
+GoesWith ts p i (Established conn f) = ⊤
 GoesWith ts p i (Restoring conn f over) = ⊤
 GoesWith ts p i (Gone conn) = 1 ≤ breaks_waiting ts i
 GoesWith ts p i (Making conn asked overhead) = ⊥
 
-stopped_here : (ts : List Task) (p : Purpose) (i : ℕ) (s : Slot) → WaitsBeside ts p i → GoesWith ts p i s → SlotHasJobs ts Nothing i s
+stopped_here : (ts : List WaitingJob) (p : Purpose) (i : ℕ) (s : Slot) → WaitsBeside ts p i → GoesWith ts p i s → SlotHasJobs ts Nothing i s
 stopped_here ts p i Free w g = record { makes = omega (arith, w.makes); breaks = omega (arith, g); gone = omega arith }
-stopped_here ts p i (Standing conn f) w g = record { makes = omega (arith, w.makes); breaks = omega (arith, w.breaks); gone = omega arith }
+stopped_here ts p i (Established conn f) w g = record { makes = omega (arith, w.makes); breaks = omega (arith, w.breaks); gone = omega arith }
 stopped_here ts p i (Restoring conn f over) w g = record { makes = omega (arith, w.makes); breaks = omega (arith, w.breaks); gone = omega arith }
 stopped_here ts p i (Gone conn) w g = record { makes = omega (arith, w.makes); breaks = omega (arith, w.breaks); gone = omega (arith, g) }
 stopped_here ts p i (Making conn asked overhead) w g = absurd g
@@ -139,6 +161,6 @@ fits_ended conn true h = h
 fits_ended conn false h = tt
 
 pub ended_fits : (c : ControllerState) (j : Job) (t : Stage) → Fits c → RunsFitting c j t → ((i : ℕ) → SlotHasJobs c.waiting (Asking j t) i (slot_at c i)) → Fits (ended c j t)
-ended_fits c j (Made f) h runs jobs = stop_fits c j (Made f) (Standing j.connection f) Nothing h runs (runs.job.connection, runs.stage) tt tt tt jobs
+ended_fits c j (Made f) h runs jobs = stop_fits c j (Made f) (Established j.connection f) Nothing h runs (runs.job.connection, runs.stage) tt tt tt jobs
 ended_fits c j t h runs jobs = stop_fits c j t (if restores j && break_waits c j.slot then Gone j.connection else Free) Nothing h runs
     (fits_ended j.connection (restores j && break_waits c j.slot) runs.job.connection) tt tt (goes_ended c j t runs (jobs j.slot) j.purpose refl (break_waits c j.slot) refl) jobs

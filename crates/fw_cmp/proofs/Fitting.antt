@@ -1,6 +1,6 @@
 -- What a controller keeps at all times, as its calls change it.
 use Rattle.fw_cmp.proofs.Common.{◌≡◌, ◌≢◌, ℕ, ◌<◌, ◌≤◌, Bool, true, false, not, ◌&&◌, ◌||◌, List, [], ◌∷◌, ◌++◌, length, get_or, refl, ap, sym, subst, ◌∙◌, arith, Some, None, ◌⊎◌, inl, inr, cases_eq}
-use Rattle.fw_cmp.proofs.Common.{Slot, Free, Making, Standing, Restoring, Gone, Current, Nothing, Asking, Hearing, Overtaken, Task, Job, Stage, ControllerState, slot_at, with_slot, is_free}
+use Rattle.fw_cmp.proofs.Common.{Slot, Free, Making, Established, Restoring, Gone, Current, Nothing, Asking, Hearing, Overtaken, WaitingJob, Job, Stage, ControllerState, slot_at, with_slot, is_free}
 use Rattle.fw_cmp.proofs.Common.{break_runs, job_for, SlotHasJobs, CurrentFits, RunsFitting, Fits, IsMaking, SlotFits}
 use Rattle.std.proofs.Common.{length-append}
 use Rattle.std.specs.Prelude.{All}
@@ -8,7 +8,8 @@ use Rattle.std.specs.List.{list_any}
 use Rattle.std.proofs.lemmas.Bool.{cases_lt}
 use Rattle.std.proofs.lemmas.List.{get_or-set_same, get_or-set_other, length-set, get_or_past, get_or-replicate, length-replicate}
 use Rattle.std.proofs.lemmas.List.Elements.{All-append, All-set}
-use Rattle.fw_cmp.specs.Controllers.{first_state, is_breakable, breaks_slot}
+use Rattle.fw_cmp.specs.Controllers.{first_state, breaks_slot}
+use Rattle.fw_cmp_jobs.specs.Slots.{is_breakable}
 use Rattle.fw_cmp.specs.Starts.{with_task, can_break}
 use Rattle.fw_cmp.proofs.Jobs.{making_task, breaking_task, made_here, made_elsewhere, broken_here, broken_elsewhere}
 
@@ -23,7 +24,7 @@ slot_elsewhere c i k s ne = get_or-set_other c.slots i k s Free ne
 pub is_free-true : (s : Slot) → is_free s ≡ true → s ≡ Free
 is_free-true Free e = refl
 is_free-true (Making conn asked overhead) e = cc
-is_free-true (Standing conn f) e = cc
+is_free-true (Established conn f) e = cc
 is_free-true (Restoring conn f over) e = cc
 is_free-true (Gone conn) e = cc
 
@@ -53,7 +54,7 @@ current_slots c d (Overtaken k o) e h = h
 
 -- ---- starts
 
-within_one : (t : Task) → t.slot < 32 → All (λ (u : Task). u.slot < 32) (t ∷ [])
+within_one : (t : WaitingJob) → t.slot < 32 → All (λ (u : WaitingJob). u.slot < 32) (t ∷ [])
 within_one t lt k d k_lt = let e : k ≡ 0 = omega arith in rw e lt
 
 jobs_started : (c : ControllerState) (i k : ℕ) (s : Slot) → i < length c.slots → slot_at c i ≡ Free → IsMaking s → SlotHasJobs c.waiting c.current k (slot_at c k) → (k ≡ i) ⊎ (k ≢ i) →
@@ -70,7 +71,7 @@ start_fits c i s h lt free room fits making =
     record {
       slots = length-set c.slots i s ∙ h.slots;
       each = All-set SlotFits c.slots i s fits h.each;
-      waiting = All-append (λ (t : Task). t.slot < 32) c.waiting (making_task i ∷ []) h.waiting (within_one (making_task i) lt);
+      waiting = All-append (λ (t : WaitingJob). t.slot < 32) c.waiting (making_task i ∷ []) h.waiting (within_one (making_task i) lt);
       few = omega (arith, length-append c.waiting (making_task i ∷ []), room);
       current = current_slots (with_slot c i s) (with_task (with_slot c i s) (making_task i)) c.current refl (current_on c i s c.current is h.current);
       jobs = λ k. jobs_started c i k s within is making (h.jobs k) (cases_eq k i);
@@ -88,7 +89,7 @@ pub break_fits : (c : ControllerState) (i : ℕ) → Fits c → i < 32 → is_br
 break_fits c i h lt b none idle room = record {
   slots = h.slots;
   each = h.each;
-  waiting = All-append (λ (t : Task). t.slot < 32) c.waiting (breaking_task i ∷ []) h.waiting (within_one (breaking_task i) lt);
+  waiting = All-append (λ (t : WaitingJob). t.slot < 32) c.waiting (breaking_task i ∷ []) h.waiting (within_one (breaking_task i) lt);
   few = omega (arith, length-append c.waiting (breaking_task i ∷ []), room);
   current = current_slots c (with_task c (breaking_task i)) c.current refl h.current;
   jobs = λ k. jobs_broken c i k b none idle (h.jobs k) (cases_eq k i);

@@ -1,20 +1,38 @@
 -- The current job goes on from its stage: what a controller keeps, and where its requests go.
-use Rattle.fw_cmp.proofs.Common.{◌≡◌, ℕ, Bool, true, false, List, refl, ap, Option, Some, None, if◌then◌else◌, Connection, Flow, Slot, Free, Making, Standing, Restoring, Gone, Current, Nothing}
-use Rattle.fw_cmp.proofs.Common.{Asking, Hearing, Overtaken, Task, Directory, Job, Purpose, Make, Restore, Break, Stage, Begin, ReadOutput, ReadChannels, SwapChannels, ReadBandwidth, SwapBandwidth}
+use Rattle.fw_cmp.proofs.Common.{◌≡◌, ℕ, Bool, true, false, List, refl, ap, Option, Some, None, if◌then◌else◌, Connection, Flow, Slot, Free, Making, Established, Restoring, Gone, Current, Nothing}
+use Rattle.fw_cmp.proofs.Common.{
+  Asking,
+  Hearing,
+  Overtaken,
+  WaitingJob,
+  Directory,
+  Job,
+  Purpose,
+  Make,
+  Restore,
+  Break,
+  Stage,
+  Begin,
+  ReadOutput,
+  ReadChannels,
+  SwapChannels,
+  ReadBandwidth,
+  SwapBandwidth,
+}
 use Rattle.fw_cmp.proofs.Common.{ConnectOutput, OverlayOutput, ReadInput, ConnectInput, ReadInputToLeave, LeaveInput, ReadOutputToLeave, LeaveOutput, ReadBandwidthToRelease, RaiseBandwidth}
 use Rattle.fw_cmp.proofs.Common.{ReadChannelsToRelease, RestoreChannel, Made, Ended, is_listen, ControllerState, slot_at, job_for, SlotHasJobs, CurrentFits, Fits, CurrentReached, CanGoOn, is_late}
 use Rattle.fw_cmp.proofs.Common.{begun, resumed, resumed_current, going}
 use Rattle.std.proofs.Common.{IsSome}
 use Rattle.std.specs.Prelude.{IsFalse}
-use Rattle.fw_cmp.specs.declared.connection.Connection.TheVariants.{PlugToPlug, BroadcastOut, BroadcastIn}
-use Rattle.fw_cmp.specs.declared.job.Ending.TheVariants as ending
-use Rattle.fw_cmp.specs.Nodes.{node_of}
+use Rattle.fw_cmp_jobs.specs.declared.connection.Connection.TheVariants.{PlugToPlug, BroadcastOut, BroadcastIn}
+use Rattle.fw_cmp_jobs.specs.declared.job.Ending.TheVariants as ending
+use Rattle.fw_cmp_jobs.specs.Nodes.{node_of}
 use Rattle.fw_cmp.specs.Holdings.{IsReached, StageReached}
-use Rattle.fw_cmp.specs.Jobs.{own_flow, without_node, absent_of, begin_managed, begin_present, begin_making, begin_leaving, begin_breaking}
+use Rattle.fw_cmp_jobs.specs.Jobs.{own_flow, without_node, absent_of, begin_managed, begin_present, begin_making, begin_leaving, begin_breaking}
 
 -- ---- what is kept
 
-jobs_going : (c : ControllerState) (d : Directory) (ts : List Task) (cur : Current) (k : ℕ) (s : Slot) → SlotHasJobs ts cur k s → SlotHasJobs ts (resumed_current c d cur) k s
+jobs_going : (c : ControllerState) (d : Directory) (ts : List WaitingJob) (cur : Current) (k : ℕ) (s : Slot) → SlotHasJobs ts cur k s → SlotHasJobs ts (resumed_current c d cur) k s
 jobs_going c d ts Nothing k s h = h
 jobs_going c d ts (Asking j t) k s h = record { makes = h.makes; breaks = h.breaks; gone = h.gone }
 jobs_going c d ts (Hearing j t) k s h = h
@@ -82,8 +100,8 @@ reached_leaving d j (PlugToPlug out into) f e h = rw e at h
 reached_leaving d j (BroadcastOut out) f e h = rw e at h
 reached_leaving d j (BroadcastIn into) f e h = rw e at h
 
-reached_breaking : (d : Directory) (j : Job) (s : Slot) → job_for j.slot s ≡ Some j → ((conn : Connection) (f : Flow) → s ≡ Standing conn f → IsReached d conn) → StageReached d j (begin_breaking s)
-reached_breaking d j (Standing conn f) e h = reached_leaving d j conn f
+reached_breaking : (d : Directory) (j : Job) (s : Slot) → job_for j.slot s ≡ Some j → ((conn : Connection) (f : Flow) → s ≡ Established conn f → IsReached d conn) → StageReached d j (begin_breaking s)
+reached_breaking d j (Established conn f) e h = reached_leaving d j conn f
     (let same : Some (record { slot = j.slot; connection = conn; purpose = Break; asked = None; overhead = 0; units = None }) ≡ Some j = e in
     ap (λ (o : Option Job). elim o [ Some k ↦ k.connection | None ↦ conn ]) same) (h conn f refl)
 reached_breaking d j Free e h = tt
@@ -91,13 +109,13 @@ reached_breaking d j (Making conn asked overhead) e h = tt
 reached_breaking d j (Restoring conn f over) e h = tt
 reached_breaking d j (Gone conn) e h = tt
 
-reached_begin : (d : Directory) (j : Job) (s : Slot) (p : Purpose) → job_for j.slot s ≡ Some j → ((conn : Connection) (f : Flow) → s ≡ Standing conn f → IsReached d conn) →
+reached_begin : (d : Directory) (j : Job) (s : Slot) (p : Purpose) → job_for j.slot s ≡ Some j → ((conn : Connection) (f : Flow) → s ≡ Established conn f → IsReached d conn) →
     StageReached d j (elim p [ Make ↦ begin_making d j | Restore ↦ begin_making d j | Break ↦ begin_breaking s ])
 reached_begin d j s Make e h = reached_making d j
 reached_begin d j s Restore e h = reached_making d j
 reached_begin d j s Break e h = reached_breaking d j s e h
 
-reached_begun : (d : Directory) (j : Job) (s : Slot) (t : Stage) → job_for j.slot s ≡ Some j → ((conn : Connection) (f : Flow) → s ≡ Standing conn f → IsReached d conn) → StageReached d j t
+reached_begun : (d : Directory) (j : Job) (s : Slot) (t : Stage) → job_for j.slot s ≡ Some j → ((conn : Connection) (f : Flow) → s ≡ Established conn f → IsReached d conn) → StageReached d j t
     → StageReached d j (begun d s j t)
 reached_begun d j s Begin e h r = reached_begin d j s j.purpose e h
 reached_begun d j s ReadOutput e h r = r
@@ -120,7 +138,7 @@ reached_begun d j s (RestoreChannel next ch arg) e h r = r
 reached_begun d j s (Made f) e h r = r
 reached_begun d j s (Ended x) e h r = r
 
-reached_resumed : (d : Directory) (j : Job) (s : Slot) (t : Stage) → job_for j.slot s ≡ Some j → ((conn : Connection) (f : Flow) → s ≡ Standing conn f → IsReached d conn) → StageReached d j t
+reached_resumed : (d : Directory) (j : Job) (s : Slot) (t : Stage) → job_for j.slot s ≡ Some j → ((conn : Connection) (f : Flow) → s ≡ Established conn f → IsReached d conn) → StageReached d j t
     → StageReached d j (resumed d s j t)
 reached_resumed d j s t e h r = go (is_late s j t)
   where
@@ -128,7 +146,7 @@ reached_resumed d j s t e h r = go (is_late s j t)
     go true = tt
     go false = reached_begun d j s t e h r
 
-current_reached : (d : Directory) (c : ControllerState) (cur : Current) → CurrentFits c cur → ((i : ℕ) (conn : Connection) (f : Flow) → slot_at c i ≡ Standing conn f → IsReached d conn)
+current_reached : (d : Directory) (c : ControllerState) (cur : Current) → CurrentFits c cur → ((i : ℕ) (conn : Connection) (f : Flow) → slot_at c i ≡ Established conn f → IsReached d conn)
     → CurrentReached d cur → CurrentReached d (resumed_current c d cur)
 current_reached d c Nothing fits h r = r
 current_reached d c (Asking j t) fits h r = reached_resumed d j (slot_at c j.slot) t fits.of_slot (h j.slot) r

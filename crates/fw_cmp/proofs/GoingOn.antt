@@ -1,19 +1,40 @@
 -- A bus at which a controller can go on is one at which it can go on after each of its steps, and after a bus reset each bus is.
 use Rattle.fw_cmp.proofs.Common.{◌≡◌, ◌≢◌, ℕ, ◌<◌, ◌≤◌, Bool, true, false, List, length, ap, sym, ◌∙◌, arith, Option, Some, None, ◌⊎◌, inl, inr, ◌&&◌, ⊤, if◌then◌else◌, cases_eq, Reply, Connection}
-use Rattle.fw_cmp.proofs.Common.{Flow, Slot, Free, Making, Standing, Restoring, Gone, Current, Nothing, Asking, Hearing, Overtaken, Task, Directory, Job, Purpose, Make, Restore, Break, find_to_is}
+use Rattle.fw_cmp.proofs.Common.{
+  Flow,
+  Slot,
+  Free,
+  Making,
+  Established,
+  Restoring,
+  Gone,
+  Current,
+  Nothing,
+  Asking,
+  Hearing,
+  Overtaken,
+  WaitingJob,
+  Directory,
+  Job,
+  Purpose,
+  Make,
+  Restore,
+  Break,
+  find_to_is,
+}
 use Rattle.fw_cmp.proofs.Common.{IsFirst, Access, Stage, Begin, ReadInput, Made, Ended, ControllerState, slot_at, with_slot, is_free, Fits, CurrentFits, restores, CurrentReached, CanGoOn, access_of}
 use Rattle.fw_cmp.proofs.Common.{IsMaking, break_fault, after_hear, heard, current_reset, slot_reset, after_reset, slot_over, lost_reset, after_answer, after_next, picked, resumed_current}
 use Rattle.std.proofs.Common.{◌==◌, Ok, Err}
 use Rattle.std.specs.Prelude.{Result}
 use Rattle.std.proofs.lemmas.Bool.{cases_lt}
 use Rattle.std.proofs.lemmas.List.{get_or_past, get_or-replicate, length-replicate}
-use Rattle.fw_cmp.specs.declared.outcome.Outcome.TheVariants.{Reset}
+use Rattle.fw_cmp_jobs.specs.declared.outcome.Outcome.TheVariants.{Reset}
 use Rattle.fw_cmp.specs.declared.outcome.StartFault.{StartFault}
 use Rattle.fw_cmp.specs.declared.outcome.StartFault.TheVariants.{TableFull, Busy}
 use Rattle.fw_cmp.specs.Controllers.{first_state, break_waits}
 use Rattle.fw_cmp.specs.Holdings.{IsReached, StageReached}
 use Rattle.fw_cmp.specs.Starts.{OkWithin, free_slot, is_crowded, start_at, start, started, with_task, break_started}
-use Rattle.fw_cmp.specs.Stages.{hear, refuse, hear_reply}
+use Rattle.fw_cmp_jobs.specs.Stages.{hear, refuse, hear_reply}
 use Rattle.fw_cmp.specs.Resets.{overtaken, after_second, after_lost_reset, state_reset}
 use Rattle.fw_cmp.specs.Turns.{ended, after_asking}
 use Rattle.fw_cmp.proofs.Ended.{after_stop}
@@ -26,11 +47,11 @@ use Rattle.fw_cmp.proofs.Ready.{ready_reached}
 
 -- each connection that stands is one of this bus
 abbrev pub AllReached : Directory → ControllerState → Type 0
-AllReached d c = (i : ℕ) (conn : Connection) (f : Flow) → slot_at c i ≡ Standing conn f → IsReached d conn
+AllReached d c = (i : ℕ) (conn : Connection) (f : Flow) → slot_at c i ≡ Established conn f → IsReached d conn
 
 -- what a slot is to hold is one of this bus
 abbrev pub SlotReached : Directory → Slot → Type 0
-SlotReached d s = (conn : Connection) (f : Flow) → s ≡ Standing conn f → IsReached d conn
+SlotReached d s = (conn : Connection) (f : Flow) → s ≡ Established conn f → IsReached d conn
 
 set_reached : (d : Directory) (c : ControllerState) (i : ℕ) (s : Slot) → i < length c.slots → SlotReached d s → AllReached d c → AllReached d (with_slot c i s)
 set_reached d c i s lt new old k conn f e = go (cases_eq k i)
@@ -46,11 +67,11 @@ any_stage d j Begin h = tt
 any_stage d j (Ended e) h = tt
 any_stage d j s h = h
 
-standing_reached : (d : Directory) (conn : Connection) (f : Flow) → IsReached d conn → SlotReached d (Standing conn f)
+standing_reached : (d : Directory) (conn : Connection) (f : Flow) → IsReached d conn → SlotReached d (Established conn f)
 standing_reached d conn f h other g e = let same : conn ≡ other = ap (λ (s : Slot). connection_in s conn) e in rw (← same) h
   where
     connection_in : Slot → Connection → Connection
-    connection_in (Standing x y) z = x
+    connection_in (Established x y) z = x
     connection_in _ z = z
 
 left_reached : (d : Directory) (conn : Connection) (b : Bool) → SlotReached d (if b then Gone conn else Free)
@@ -58,7 +79,7 @@ left_reached d conn true other g e = cc
 left_reached d conn false other g e = cc
 
 ended_reached : (d : Directory) (c : ControllerState) (j : Job) (s : Stage) → j.slot < length c.slots → AllReached d c → StageReached d j s → AllReached d (ended c j s)
-ended_reached d c j (Made f) lt all h = set_reached d (record c { current = Nothing }) j.slot (Standing j.connection f) lt (standing_reached d j.connection f h) all
+ended_reached d c j (Made f) lt all h = set_reached d (record c { current = Nothing }) j.slot (Established j.connection f) lt (standing_reached d j.connection f h) all
 ended_reached d c j s lt all h = set_reached d (record c { current = Nothing }) j.slot (if restores j && break_waits c j.slot then Gone j.connection else Free) lt
     (left_reached d j.connection (restores j && break_waits c j.slot)) all
 
@@ -77,7 +98,7 @@ resumed_within c d (Asking j s) h = h.job.slot
 resumed_within c d (Hearing j s) h = tt
 resumed_within c d (Overtaken i o) h = tt
 
-answered_goes_on : (d : Directory) (ss : List Slot) (ts : List Task) (cur : Current) → length ss ≡ 32 → SlotWithin cur → AllReached d (record { slots = ss; waiting = ts; current = cur })
+answered_goes_on : (d : Directory) (ss : List Slot) (ts : List WaitingJob) (cur : Current) → length ss ≡ 32 → SlotWithin cur → AllReached d (record { slots = ss; waiting = ts; current = cur })
     → CurrentReached d cur → CanGoOn d (after_answer (record { slots = ss; waiting = ts; current = cur }))
 answered_goes_on d ss ts Nothing len within all h = record { standing = all; current = tt }
 answered_goes_on d ss ts (Asking j s) len within all h = asked_goes_on d (record { slots = ss; waiting = ts; current = Asking j s }) j s (access_of j s) (omega arith) all h
@@ -123,7 +144,7 @@ hear_goes_on d c r h = record { standing = h.standing; current = current_heard d
 making_reached : (d : Directory) (s : Slot) → IsMaking s → SlotReached d s
 making_reached d (Making x asked overhead) m conn f e = cc
 making_reached d Free m conn f e = cc
-making_reached d (Standing x y) m conn f e = absurd m
+making_reached d (Established x y) m conn f e = absurd m
 making_reached d (Restoring x y over) m conn f e = cc
 making_reached d (Gone x) m conn f e = cc
 
@@ -151,10 +172,10 @@ connection_goes_on d c s fits making h = go (free_slot c) (find_to_is 32 (λ i. 
 
 -- ---- the end of the reclaim second
 
-over_standing : (s : Slot) (conn : Connection) (f : Flow) → slot_over s ≡ Standing conn f → s ≡ Standing conn f
+over_standing : (s : Slot) (conn : Connection) (f : Flow) → slot_over s ≡ Established conn f → s ≡ Established conn f
 over_standing Free conn f e = e
 over_standing (Making x asked overhead) conn f e = e
-over_standing (Standing x y) conn f e = e
+over_standing (Established x y) conn f e = e
 over_standing (Restoring x y over) conn f e = cc
 over_standing (Gone x) conn f e = e
 
@@ -163,10 +184,10 @@ second_goes_on d c h = record { standing = λ i conn f e. h.standing i conn f (o
 
 -- ---- a bus reset
 
-reset_standing : (s : Slot) (conn : Connection) (f : Flow) → slot_reset s ≡ Standing conn f → ⊥
+reset_standing : (s : Slot) (conn : Connection) (f : Flow) → slot_reset s ≡ Established conn f → ⊥
 reset_standing Free conn f e = cc
 reset_standing (Making x asked overhead) conn f e = cc
-reset_standing (Standing x y) conn f e = cc
+reset_standing (Established x y) conn f e = cc
 reset_standing (Restoring x y over) conn f e = cc
 reset_standing (Gone x) conn f e = cc
 
@@ -187,14 +208,14 @@ interrupted_reached d epoch c j Make = tt
 interrupted_reached d epoch c j Restore = tt
 interrupted_reached d epoch c j Break = tt
 
-overtaken_reached : (d : Directory) (epoch : ℕ) (ss : List Slot) (ts : List Task) (j : Job) (s : Stage) (hears : Bool)
+overtaken_reached : (d : Directory) (epoch : ℕ) (ss : List Slot) (ts : List WaitingJob) (j : Job) (s : Stage) (hears : Bool)
     → let c : ControllerState = record { slots = ss; waiting = ts; current = (if hears then Hearing j s else Asking j s) } in CurrentReached d (overtaken epoch c j s).current
 overtaken_reached d epoch ss ts j (Made f) b = tt
 overtaken_reached d epoch ss ts j (Ended e) true = decided_reached d (record { slots = ss; waiting = ts; current = Hearing j (Ended e) }) j j.purpose tt
 overtaken_reached d epoch ss ts j (Ended e) false = decided_reached d (record { slots = ss; waiting = ts; current = Asking j (Ended e) }) j j.purpose tt
 overtaken_reached d epoch ss ts j s b = interrupted_reached d epoch (record { slots = ss; waiting = ts; current = (if b then Hearing j s else Asking j s) }) j j.purpose
 
-current_reset_reached : (d : Directory) (epoch : ℕ) (ss : List Slot) (ts : List Task) (cur : Current)
+current_reset_reached : (d : Directory) (epoch : ℕ) (ss : List Slot) (ts : List WaitingJob) (cur : Current)
     → CurrentReached d (current_reset epoch (record { slots = ss; waiting = ts; current = cur }) cur).current
 current_reset_reached d epoch ss ts Nothing = tt
 current_reset_reached d epoch ss ts (Asking j s) = overtaken_reached d epoch ss ts j s false
@@ -210,7 +231,7 @@ reset_goes_on d epoch c =
       current = current_reset_reached d epoch c.slots c.waiting c.current;
     }
 
-lost_reset_reached : (d : Directory) (epoch : ℕ) (ss : List Slot) (ts : List Task) (cur : Current)
+lost_reset_reached : (d : Directory) (epoch : ℕ) (ss : List Slot) (ts : List WaitingJob) (cur : Current)
     → CurrentReached d (lost_reset epoch (record { slots = ss; waiting = ts; current = cur }) cur).current
 lost_reset_reached d epoch ss ts Nothing = tt
 lost_reset_reached d epoch ss ts (Asking j s) = interrupted_reached d epoch (record { slots = ss; waiting = ts; current = Asking j s }) j j.purpose

@@ -1,5 +1,4 @@
 pub mod Common
-pub mod Bits
 pub mod Jobs
 pub mod Fitting
 pub mod Picking
@@ -10,11 +9,9 @@ pub mod Overtaken
 pub mod Busy
 pub mod GoingOn
 pub mod Resting
-pub mod Deciding
 pub mod Outcomes
 pub mod OfAnswers
 pub mod Starting
 pub mod Turning
 pub mod Losses
 pub mod Works
-pub mod Restoring

@@ -1,5 +1,5 @@
 -- What a controller does next that hears: it is never deaf, and forces nothing.
-use Rattle.fw_cmp.proofs.Common.{◌≡◌, ℕ, true, false, List, [], ◌∷◌, Option, Some, None, refl, ap, subst, ◌∙◌, ⊤, Slot, Current, Nothing, Asking, Hearing, Overtaken, Task, Directory, Job, Idle}
+use Rattle.fw_cmp.proofs.Common.{◌≡◌, ℕ, true, false, List, [], ◌∷◌, Option, Some, None, refl, ap, subst, ◌∙◌, ⊤, Slot, Current, Nothing, Asking, Hearing, Overtaken, WaitingJob, Directory, Job, Idle}
 use Rattle.fw_cmp.proofs.Common.{Waiting, Access, Stage, ControllerState, Listening, break_fault, access_of, rests, answer_of, next, after_next, ready}
 use Rattle.std.proofs.Common.{cond}
 use Rattle.fw_cmp.specs.declared.outcome.Next.{Next}
@@ -8,7 +8,7 @@ use Rattle.fw_cmp.specs.declared.outcome.StartFault.{StartFault}
 use Rattle.fw_csr.specs.declared.access.QuadletAccess.{QuadletAccess}
 use Rattle.fw_cmp.specs.Losses.{deaf_turn, deaf_until, turn_of, asked_by, after_turn, with_state}
 use Rattle.fw_cmp.specs.Starts.{break_started, with_task}
-use Rattle.fw_cmp.specs.Requests.{addressee_of}
+use Rattle.fw_cmp_jobs.specs.Requests.{addressee_of}
 use Rattle.fw_cmp.specs.Turns.{sending, asks_or_ends}
 
 -- what comes next of one that hears
@@ -25,11 +25,11 @@ asks : (now : ℕ) (d : Directory) (j : Job) (s : Stage) (o : Option Access) →
 asks now d j s None = tt
 asks now d j s (Some a) = sends (addressee_of d a.target) a
 
-idle : (d : Directory) (ts : List Task) → Hears (rests d ts)
+idle : (d : Directory) (ts : List WaitingJob) → Hears (rests d ts)
 idle d [] = tt
 idle d (t ∷ ts) = tt
 
-answers : (now : ℕ) (d : Directory) (ss : List Slot) (ts : List Task) (cur : Current) → Hears (answer_of now d (record { slots = ss; waiting = ts; current = cur }))
+answers : (now : ℕ) (d : Directory) (ss : List Slot) (ts : List WaitingJob) (cur : Current) → Hears (answer_of now d (record { slots = ss; waiting = ts; current = cur }))
 answers now d ss ts Nothing = idle d ts
 answers now d ss ts (Asking j s) = asks now d j s (access_of j s)
 answers now d ss ts (Hearing j s) = tt

@@ -1,18 +1,19 @@
 -- Between calls, what is decided of a current job was decided by answers.
-use Rattle.fw_cmp.proofs.Common.{◌≡◌, ℕ, Bool, true, false, refl, subst, Option, Some, None, ◌⊎◌, inl, inr, if◌then◌else◌, Reply, Connection, Flow, Slot, Free, Making, Standing, Restoring, Gone}
+use Rattle.fw_cmp.proofs.Common.{◌≡◌, ℕ, Bool, true, false, refl, subst, Option, Some, None, ◌⊎◌, inl, inr, if◌then◌else◌, Reply, Connection, Flow, Slot, Free, Making, Established, Restoring, Gone}
 use Rattle.fw_cmp.proofs.Common.{Current, Nothing, Asking, Hearing, Overtaken, Directory, Job, Purpose, Make, Restore, Break, Ending, Access, Stage, Begin, ReadOutput, ReadInput, Made, Ended}
 use Rattle.fw_cmp.proofs.Common.{is_listen, ControllerState, slot_at, with_slot, access_of, heard, after_hear, current_reset, after_reset, lost_reset, after_answer, after_next, current_for, is_late}
 use Rattle.fw_cmp.proofs.Common.{begun, resumed, resumed_current, picked}
 use Rattle.std.specs.Prelude.{IfSome}
-use Rattle.fw_cmp.specs.declared.connection.Connection.TheVariants.{PlugToPlug, BroadcastOut, BroadcastIn}
-use Rattle.fw_cmp.specs.declared.job.Ending.TheVariants.{NoManager, Absent, Late}
-use Rattle.fw_cmp.specs.declared.outcome.Outcome.TheVariants.{Reset}
-use Rattle.fw_cmp.specs.Answers.{decision_of, Decides, DecidedBy, IsOfAnswers, IsDecidedByAnswers}
+use Rattle.fw_cmp_jobs.specs.declared.connection.Connection.TheVariants.{PlugToPlug, BroadcastOut, BroadcastIn}
+use Rattle.fw_cmp_jobs.specs.declared.job.Ending.TheVariants.{NoManager, Absent, Late}
+use Rattle.fw_cmp_jobs.specs.declared.outcome.Outcome.TheVariants.{Reset}
+use Rattle.fw_cmp_jobs.specs.Answers.{decision_of, Decides, DecidedBy, IsOfAnswers}
+use Rattle.fw_cmp.specs.Outcomes.{IsDecidedByAnswers}
 use Rattle.fw_cmp.specs.Resets.{overtaken, state_reset}
-use Rattle.fw_cmp.specs.Stages.{hear_reply}
+use Rattle.fw_cmp_jobs.specs.Stages.{hear_reply}
 use Rattle.fw_cmp.specs.Turns.{after_asking}
-use Rattle.fw_cmp.specs.Jobs.{own_flow, absent_of, begin_managed, begin_present, begin_making, begin_leaving, begin_breaking}
-use Rattle.fw_cmp.proofs.Deciding.{answer_decides}
+use Rattle.fw_cmp_jobs.specs.Jobs.{own_flow, absent_of, begin_managed, begin_present, begin_making, begin_leaving, begin_breaking}
+use Rattle.fw_cmp_jobs.proofs.Deciding.{answer_decides}
 use Rattle.fw_cmp.proofs.Ended.{after_stop}
 use Rattle.fw_cmp.proofs.Picking.{picked_holds}
 
@@ -74,7 +75,7 @@ leaving j (BroadcastOut out) f a e = tt
 leaving j (BroadcastIn into) f a e = tt
 
 breaking : (j : Job) (s : Slot) → AsksDecided j (begin_breaking s)
-breaking j (Standing conn f) a e = leaving j conn f a e
+breaking j (Established conn f) a e = leaving j conn f a e
 breaking j s a e = cc
 
 beginning : (d : Directory) (j : Job) (s : Slot) (p : Purpose) → AsksDecided j (elim p [ Make ↦ begin_making d j | Restore ↦ begin_making d j | Break ↦ begin_breaking s ])
@@ -106,7 +107,7 @@ answered c d (Overtaken i o) h = tt
 for_slot : (i : ℕ) (s : Slot) → IsDecidedByAnswers (current_for i s)
 for_slot i Free = tt
 for_slot i (Making conn asked overhead) = tt
-for_slot i (Standing conn f) = tt
+for_slot i (Established conn f) = tt
 for_slot i (Restoring conn f over) = tt
 for_slot i (Gone conn) = tt
 

@@ -1,21 +1,22 @@
 -- A job ends with an outcome only if its cause holds.
-use Rattle.fw_cmp.proofs.Common.{◌≡◌, ℕ, Bool, true, false, List, get_or, refl, ap, subst, Option, Some, None, inl, inr, ⊤, if◌then◌else◌, Connection, Flow, Slot, Free, Making, Standing, Restoring}
-use Rattle.fw_cmp.proofs.Common.{Gone, Current, Nothing, Asking, Hearing, Overtaken, Task, Directory, Job, Purpose, Make, Restore, Break, Ending, Idle, Waiting, Access, Stage, Begin, ReadOutput}
+use Rattle.fw_cmp.proofs.Common.{◌≡◌, ℕ, Bool, true, false, List, get_or, refl, ap, subst, Option, Some, None, inl, inr, ⊤, if◌then◌else◌, Connection, Flow, Slot, Free, Making, Established, Restoring}
+use Rattle.fw_cmp.proofs.Common.{Gone, Current, Nothing, Asking, Hearing, Overtaken, WaitingJob, Directory, Job, Purpose, Make, Restore, Break, Ending, Idle, Waiting, Access, Stage, Begin, ReadOutput}
 use Rattle.fw_cmp.proofs.Common.{ReadChannels, SwapChannels, ReadBandwidth, SwapBandwidth, ConnectOutput, OverlayOutput, ReadInput, ConnectInput, ReadInputToLeave, LeaveInput, ReadOutputToLeave}
 use Rattle.fw_cmp.proofs.Common.{LeaveOutput, ReadBandwidthToRelease, RaiseBandwidth, ReadChannelsToRelease, RestoreChannel, Made, Ended, is_listen, restores, ControllerState, slot_at, CurrentFits}
 use Rattle.fw_cmp.proofs.Common.{Fits, access_of, rests, answer_of, next, current_for, is_late, begun, resumed, resumed_current, picked, ready, is_empty}
 use Rattle.std.specs.Option.{option_map}
 use Rattle.fw_words.specs.declared.swap.Swap.{Swap}
-use Rattle.fw_cmp.specs.declared.connection.Connection.TheVariants.{PlugToPlug, BroadcastOut, BroadcastIn}
-use Rattle.fw_cmp.specs.declared.job.Ending.TheVariants.{Broken, NoChannel, NoUnits, PlugFull, InputBusy, NoPlug, NoManager, Absent, Late}
-use Rattle.fw_cmp.specs.declared.outcome.Outcome.TheVariants as outcome
-use Rattle.fw_cmp.specs.declared.request.Target.TheVariants.{OutputPlug, InputPlug}
-use Rattle.fw_cmp.specs.Connections.{output_of, input_of}
-use Rattle.fw_cmp.specs.Fits.{StageFits, HasOutput, HasInput}
+use Rattle.fw_cmp_jobs.specs.declared.connection.Connection.TheVariants.{PlugToPlug, BroadcastOut, BroadcastIn}
+use Rattle.fw_cmp_jobs.specs.declared.job.Ending.TheVariants.{Broken, NoChannel, NoUnits, PlugFull, InputBusy, NoPlug, NoManager, Absent, Late}
+use Rattle.fw_cmp_jobs.specs.declared.outcome.Outcome.TheVariants as outcome
+use Rattle.fw_cmp_jobs.specs.declared.request.Target.TheVariants.{OutputPlug, InputPlug}
+use Rattle.fw_cmp_jobs.specs.Connections.{output_of, input_of}
+use Rattle.fw_cmp_jobs.specs.Fits.{StageFits, HasOutput, HasInput}
 use Rattle.fw_cmp.specs.Outcomes.{EndsBy, EndsWithCause}
-use Rattle.fw_cmp.specs.Requests.{access_at, addressee_of, swap_of}
-use Rattle.fw_cmp.specs.Turns.{outcome_for, made_outcome, outcome_of, sending, asks_or_ends}
-use Rattle.fw_cmp.specs.Jobs.{own_flow, absent_of, begin_managed, begin_present, begin_making, begin_leaving, begin_breaking}
+use Rattle.fw_cmp_jobs.specs.Requests.{access_at, addressee_of, swap_of}
+use Rattle.fw_cmp.specs.Turns.{sending, asks_or_ends}
+use Rattle.fw_cmp_jobs.specs.Jobs.{outcome_for, made_outcome, outcome_of}
+use Rattle.fw_cmp_jobs.specs.Jobs.{own_flow, absent_of, begin_managed, begin_present, begin_making, begin_leaving, begin_breaking}
 use Rattle.fw_cmp.proofs.Picking.{picked_slots, picked_holds}
 
 -- ---- the stages that make no request
@@ -67,7 +68,7 @@ leaving now d slot j (BroadcastOut out) f h e = absurd (output_asked (swap_of j 
 leaving now d slot j (BroadcastIn into) f h e = absurd (input_asked (swap_of j (begin_leaving (BroadcastIn into) f)) j.connection h.0 e)
 
 breaking : (now : ℕ) (d : Directory) (slot : Slot) (j : Job) → j.purpose ≡ Break → Caused now d slot j Begin (begin_breaking slot)
-breaking now d (Standing conn f) j p h e = leaving now d (Standing conn f) j conn f h e
+breaking now d (Established conn f) j p h e = leaving now d (Established conn f) j conn f h e
 breaking now d Free j p h e = inr (refl, p, refl)
 breaking now d (Making conn asked overhead) j p h e = inr (refl, p, refl)
 breaking now d (Restoring conn f over) j p h e = inr (refl, p, refl)
@@ -136,7 +137,7 @@ sends_no_end : (now : ℕ) (d : Directory) (c : ControllerState) (o : Option ℕ
 sends_no_end now d c None a = tt
 sends_no_end now d c (Some to) a = tt
 
-rests_no_end : (now : ℕ) (d : Directory) (c : ControllerState) (ts : List Task) → EndsWithCause now d c (rests d ts)
+rests_no_end : (now : ℕ) (d : Directory) (c : ControllerState) (ts : List WaitingJob) → EndsWithCause now d c (rests d ts)
 rests_no_end now d c ts = go (is_empty ts)
   where
     go : (b : Bool) → EndsWithCause now d c (if b then Idle else Waiting d.over_at)
@@ -156,7 +157,7 @@ WasOvertaken cur _ = ⊤
 for_slot : (cur : Current) (i : ℕ) (s : Slot) → WasOvertaken cur (current_for i s)
 for_slot cur i Free = tt
 for_slot cur i (Making conn asked overhead) = tt
-for_slot cur i (Standing conn f) = tt
+for_slot cur i (Established conn f) = tt
 for_slot cur i (Restoring conn f over) = tt
 for_slot cur i (Gone conn) = tt
 

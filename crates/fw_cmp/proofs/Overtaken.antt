@@ -1,14 +1,35 @@
 -- A bus reset overtakes the current job: what a controller keeps.
 use Rattle.fw_cmp.proofs.Common.{◌≡◌, ◌≢◌, ℕ, ◌<◌, Bool, true, false, List, length, get_or, refl, ap, sym, ◌∙◌, arith, Option, Some, ◌⊎◌, inl, inr, ⊤, cases_eq, Connection, Slot, Free, Making}
-use Rattle.fw_cmp.proofs.Common.{Standing, Restoring, Gone, Current, Nothing, Asking, Hearing, Overtaken, Task, Job, Purpose, Make, Restore, Break, Stage, Begin, Made, Ended, ControllerState, slot_at}
+use Rattle.fw_cmp.proofs.Common.{
+  Established,
+  Restoring,
+  Gone,
+  Current,
+  Nothing,
+  Asking,
+  Hearing,
+  Overtaken,
+  WaitingJob,
+  Job,
+  Purpose,
+  Make,
+  Restore,
+  Break,
+  Stage,
+  Begin,
+  Made,
+  Ended,
+  ControllerState,
+  slot_at,
+}
 use Rattle.fw_cmp.proofs.Common.{with_slot, count_of, breaks_waiting, job_for, SlotHasJobs, CurrentFits, RunsFitting, Fits, SlotFits, current_reset, lost_reset, slot_reset, after_reset, slot_over}
 use Rattle.std.proofs.Common.{map}
 use Rattle.std.proofs.lemmas.List.{length-set, length-map}
 use Rattle.std.proofs.Math.ListN.{get_or-map}
 use Rattle.std.proofs.lemmas.List.Elements.{All-set, All-map}
-use Rattle.fw_cmp.specs.Controllers.{is_make_at, is_break_at}
-use Rattle.fw_cmp.specs.Turns.{made_outcome}
-use Rattle.fw_cmp.specs.declared.outcome.Outcome.TheVariants.{Reset}
+use Rattle.fw_cmp_jobs.specs.Slots.{is_make_at, is_break_at}
+use Rattle.fw_cmp_jobs.specs.Jobs.{made_outcome}
+use Rattle.fw_cmp_jobs.specs.declared.outcome.Outcome.TheVariants.{Reset}
 use Rattle.fw_cmp.specs.Resets.{overtaken, slots_reset, after_lost_reset, state_reset, after_second}
 use Rattle.fw_cmp.proofs.Ended.{purpose_or, connection_or, make_count, break_count, WaitsBeside, beside, after_stop, stop_fits}
 use Rattle.fw_cmp.proofs.Jobs.{same_count}
@@ -17,19 +38,19 @@ use Rattle.fw_cmp.proofs.Fitting.{slot_here, slot_elsewhere}
 -- ---- a bus reset
 
 -- the job that hears is one that asks, for the jobs of a slot
-settled : (ts : List Task) (j : Job) (t u : Stage) (i : ℕ) (s : Slot) → SlotHasJobs ts (Hearing j t) i s → SlotHasJobs ts (Asking j u) i s
+settled : (ts : List WaitingJob) (j : Job) (t u : Stage) (i : ℕ) (s : Slot) → SlotHasJobs ts (Hearing j t) i s → SlotHasJobs ts (Asking j u) i s
 settled ts j t u i s h = record { makes = h.makes; breaks = h.breaks; gone = h.gone }
 
 -- a break of a connection that is gone is still current
 gone_current : (i : ℕ) (s : Slot) (j : Job) → j.purpose ≡ Break → job_for i s ≡ Some j → job_for i (Gone j.connection) ≡ Some j
 gone_current i Free j p e = cc
 gone_current i (Making c a o) j p e = let clash : Make ≡ j.purpose = ap (λ (x : Option Job). purpose_or x Make) e in cc
-gone_current i (Standing c f) j p e = let same : c ≡ j.connection = ap (λ (x : Option Job). connection_or x c) e in ap (λ (x : Connection). job_for i (Gone x)) (sym same) ∙ e
+gone_current i (Established c f) j p e = let same : c ≡ j.connection = ap (λ (x : Option Job). connection_or x c) e in ap (λ (x : Connection). job_for i (Gone x)) (sym same) ∙ e
 gone_current i (Restoring c f over) j p e = let clash : Restore ≡ j.purpose = ap (λ (x : Option Job). purpose_or x Restore) e in cc
 gone_current i (Gone c) j p e = let same : c ≡ j.connection = ap (λ (x : Option Job). connection_or x c) e in ap (λ (x : Connection). job_for i (Gone x)) (sym same) ∙ e
 
 -- a slot is gone, and its break current
-gone_here : (ts : List Task) (j : Job) (t : Stage) (conn : Connection) → j.purpose ≡ Break → WaitsBeside ts Break j.slot → SlotHasJobs ts (Asking j t) j.slot (Gone conn)
+gone_here : (ts : List WaitingJob) (j : Job) (t : Stage) (conn : Connection) → j.purpose ≡ Break → WaitsBeside ts Break j.slot → SlotHasJobs ts (Asking j t) j.slot (Gone conn)
 gone_here ts j t conn p w =
     let m : count_of (is_make_at j j.slot) ≡ 0 = ap (λ (q : Purpose). make_count q j.slot j.slot) p in
     let b : count_of (is_break_at j j.slot) ≡ 1 = ap (λ (q : Purpose). break_count q j.slot j.slot) p ∙ same_count j.slot in
@@ -88,7 +109,7 @@ overtaken_fits epoch c j (Made f) h runs jobs same current =
 overtaken_fits epoch c j (Ended e) h runs jobs same current = decided_fits c j (Ended e) h runs jobs same current j.purpose refl
 overtaken_fits epoch c j t h runs jobs same current = interrupted_fits epoch c j t h runs jobs j.purpose refl
 
-current_reset_fits : (epoch : ℕ) (ss : List Slot) (ts : List Task) (cur : Current) → Fits (record { slots = ss; waiting = ts; current = cur })
+current_reset_fits : (epoch : ℕ) (ss : List Slot) (ts : List WaitingJob) (cur : Current) → Fits (record { slots = ss; waiting = ts; current = cur })
     → Fits (current_reset epoch (record { slots = ss; waiting = ts; current = cur }) cur)
 current_reset_fits epoch ss ts Nothing h = h
 current_reset_fits epoch ss ts (Asking j t) h = overtaken_fits epoch (record { slots = ss; waiting = ts; current = Asking j t }) j t h h.current h.jobs (λ i s r. r) (λ d r. r)
@@ -99,7 +120,7 @@ current_reset_fits epoch ss ts (Hearing j t) h =
 current_reset_fits epoch ss ts (Overtaken i o) h = h
 
 -- the same if the response to its request was lost
-lost_fits : (epoch : ℕ) (ss : List Slot) (ts : List Task) (cur : Current) → Fits (record { slots = ss; waiting = ts; current = cur })
+lost_fits : (epoch : ℕ) (ss : List Slot) (ts : List WaitingJob) (cur : Current) → Fits (record { slots = ss; waiting = ts; current = cur })
     → Fits (lost_reset epoch (record { slots = ss; waiting = ts; current = cur }) cur)
 lost_fits epoch ss ts Nothing h = h
 lost_fits epoch ss ts (Asking j t) h = interrupted_fits epoch (record { slots = ss; waiting = ts; current = Asking j t }) j t h h.current h.jobs j.purpose refl
@@ -111,7 +132,7 @@ lost_fits epoch ss ts (Overtaken i o) h = h
 -- ---- the slots after it
 
 abbrev pub is_standing : Slot → Bool
-is_standing (Standing conn f) = true
+is_standing (Established conn f) = true
 is_standing _ = false
 
 -- the current job's connection does not stand
@@ -124,21 +145,21 @@ IsMoved c (Overtaken i o) = ⊤
 reset_same : (i : ℕ) (s : Slot) → is_standing s ≡ false → job_for i (slot_reset s) ≡ job_for i s
 reset_same i Free e = refl
 reset_same i (Making conn asked overhead) e = refl
-reset_same i (Standing conn f) e = cc
+reset_same i (Established conn f) e = cc
 reset_same i (Restoring conn f over) e = refl
 reset_same i (Gone conn) e = refl
 
 reset_fits_slot : (s : Slot) → SlotFits s → SlotFits (slot_reset s)
 reset_fits_slot Free h = h
 reset_fits_slot (Making conn asked overhead) h = h
-reset_fits_slot (Standing conn f) h = h
+reset_fits_slot (Established conn f) h = h
 reset_fits_slot (Restoring conn f over) h = h
 reset_fits_slot (Gone conn) h = h
 
-reset_jobs : (ts : List Task) (cur : Current) (i : ℕ) (s : Slot) → SlotHasJobs ts cur i s → SlotHasJobs ts cur i (slot_reset s)
+reset_jobs : (ts : List WaitingJob) (cur : Current) (i : ℕ) (s : Slot) → SlotHasJobs ts cur i s → SlotHasJobs ts cur i (slot_reset s)
 reset_jobs ts cur i Free h = h
 reset_jobs ts cur i (Making conn asked overhead) h = h
-reset_jobs ts cur i (Standing conn f) h = record { makes = h.makes; breaks = h.breaks; gone = h.gone }
+reset_jobs ts cur i (Established conn f) h = record { makes = h.makes; breaks = h.breaks; gone = h.gone }
 reset_jobs ts cur i (Restoring conn f over) h = h
 reset_jobs ts cur i (Gone conn) h = h
 
@@ -169,7 +190,7 @@ slots_reset_fits c m h = record {
 not_standing : (i : ℕ) (s : Slot) (j : Job) → job_for i s ≡ Some j → (p : Purpose) → j.purpose ≡ p → p ≢ Break → is_standing s ≡ false
 not_standing i Free j e p is ne = refl
 not_standing i (Making conn asked overhead) j e p is ne = refl
-not_standing i (Standing conn f) j e p is ne = absurd (ne (sym is ∙ sym (ap (λ (x : Option Job). purpose_or x Break) e)))
+not_standing i (Established conn f) j e p is ne = absurd (ne (sym is ∙ sym (ap (λ (x : Option Job). purpose_or x Break) e)))
 not_standing i (Restoring conn f over) j e p is ne = refl
 not_standing i (Gone conn) j e p is ne = refl
 
@@ -197,7 +218,7 @@ overtaken_moved epoch c j (Made f) lt e moved = tt
 overtaken_moved epoch c j (Ended x) lt e moved = decided_moved c j (Ended x) lt e moved j.purpose refl
 overtaken_moved epoch c j t lt e moved = interrupted_moved epoch c j e j.purpose refl
 
-current_reset_moved : (epoch : ℕ) (ss : List Slot) (ts : List Task) (cur : Current) → Fits (record { slots = ss; waiting = ts; current = cur })
+current_reset_moved : (epoch : ℕ) (ss : List Slot) (ts : List WaitingJob) (cur : Current) → Fits (record { slots = ss; waiting = ts; current = cur })
     → let r : ControllerState = current_reset epoch (record { slots = ss; waiting = ts; current = cur }) cur in IsMoved r r.current
 current_reset_moved epoch ss ts Nothing h = tt
 current_reset_moved epoch ss ts (Asking j t) h =
@@ -208,7 +229,7 @@ current_reset_moved epoch ss ts (Hearing j t) h =
     overtaken_moved epoch (record { slots = ss; waiting = ts; current = Hearing j t }) j t (omega (arith, h.slots, runs.job.slot)) runs.of_slot (λ d e. e)
 current_reset_moved epoch ss ts (Overtaken i o) h = tt
 
-lost_moved : (epoch : ℕ) (ss : List Slot) (ts : List Task) (cur : Current) → Fits (record { slots = ss; waiting = ts; current = cur })
+lost_moved : (epoch : ℕ) (ss : List Slot) (ts : List WaitingJob) (cur : Current) → Fits (record { slots = ss; waiting = ts; current = cur })
     → let r : ControllerState = lost_reset epoch (record { slots = ss; waiting = ts; current = cur }) cur in IsMoved r r.current
 lost_moved epoch ss ts Nothing h = tt
 lost_moved epoch ss ts (Asking j t) h = interrupted_moved epoch (record { slots = ss; waiting = ts; current = Asking j t }) j h.current.of_slot j.purpose refl
@@ -255,7 +276,7 @@ lost_reset_waiting epoch c (Asking j t) = interrupted_waiting epoch c j j.purpos
 lost_reset_waiting epoch c (Hearing j t) = interrupted_waiting epoch c j j.purpose
 lost_reset_waiting epoch c (Overtaken i o) = refl
 
-pub is_slots_reset : (r : ControllerState) (ss us : List Slot) (ts : List Task) (cur : Current) → us ≡ map slot_reset ss → ss ≡ r.slots → ts ≡ r.waiting → cur ≡ r.current
+pub is_slots_reset : (r : ControllerState) (ss us : List Slot) (ts : List WaitingJob) (cur : Current) → us ≡ map slot_reset ss → ss ≡ r.slots → ts ≡ r.waiting → cur ≡ r.current
     → record { slots = us; waiting = ts; current = cur } ≡ slots_reset r
 is_slots_reset r ss us ts cur a b d e = cc
 
@@ -268,21 +289,21 @@ state_reset_fits epoch false c h = reset_fits epoch c h
 over_same : (i : ℕ) (s : Slot) → job_for i (slot_over s) ≡ job_for i s
 over_same i Free = refl
 over_same i (Making conn asked overhead) = refl
-over_same i (Standing conn f) = refl
+over_same i (Established conn f) = refl
 over_same i (Restoring conn f over) = refl
 over_same i (Gone conn) = refl
 
 over_fits_slot : (s : Slot) → SlotFits s → SlotFits (slot_over s)
 over_fits_slot Free h = h
 over_fits_slot (Making conn asked overhead) h = h
-over_fits_slot (Standing conn f) h = h
+over_fits_slot (Established conn f) h = h
 over_fits_slot (Restoring conn f over) h = h
 over_fits_slot (Gone conn) h = h
 
-over_jobs : (ts : List Task) (cur : Current) (i : ℕ) (s : Slot) → SlotHasJobs ts cur i s → SlotHasJobs ts cur i (slot_over s)
+over_jobs : (ts : List WaitingJob) (cur : Current) (i : ℕ) (s : Slot) → SlotHasJobs ts cur i s → SlotHasJobs ts cur i (slot_over s)
 over_jobs ts cur i Free h = h
 over_jobs ts cur i (Making conn asked overhead) h = h
-over_jobs ts cur i (Standing conn f) h = h
+over_jobs ts cur i (Established conn f) h = h
 over_jobs ts cur i (Restoring conn f over) h = record { makes = h.makes; breaks = h.breaks; gone = h.gone }
 over_jobs ts cur i (Gone conn) h = h
 

@@ -1,7 +1,26 @@
 -- A controller has nothing to do exactly if it has no job, none waits and no connection is to be restored; and it waits
 -- exactly if the end of the reclaim second holds a new connection back.
 use Rattle.fw_cmp.proofs.Common.{◌≡◌, ℕ, ◌<◌, Bool, true, false, not, ◌&&◌, ◌||◌, List, [], ◌∷◌, length, get_or, refl, ap, sym, subst, ◌∙◌, arith, Option, Some, None, if◌then◌else◌, nat_tests}
-use Rattle.fw_cmp.proofs.Common.{find_to_is, IsFirst, Slot, Free, Current, Nothing, Asking, Hearing, Overtaken, Task, Directory, Idle, Waiting, ControllerState, is_restoring, IsHeard, Fits, rests}
+use Rattle.fw_cmp.proofs.Common.{
+  find_to_is,
+  IsFirst,
+  Slot,
+  Free,
+  Current,
+  Nothing,
+  Asking,
+  Hearing,
+  Overtaken,
+  WaitingJob,
+  Directory,
+  Idle,
+  Waiting,
+  ControllerState,
+  is_restoring,
+  IsHeard,
+  Fits,
+  rests,
+}
 use Rattle.fw_cmp.proofs.Common.{answer_of, next, after_answer, after_next, is_empty, going}
 use Rattle.std.proofs.Common.{is_some}
 use Rattle.std.specs.Prelude.{nat_lt}
@@ -9,7 +28,8 @@ use Rattle.fw_cmp.specs.Causes.{HasNoJob, IsAtRest, IsHeldBack}
 use Rattle.fw_cmp.specs.Turns.{is_busy}
 use Rattle.fw_cmp.specs.Jobs.{to_restore, waiting_break, takes_task, takes_making, takes_waiting, takes_next, can_pick}
 use Rattle.fw_cmp.proofs.Busy.{rest_busy, job_busy}
-use Rattle.fw_cmp.proofs.Picking.{at_rest, none_to_restore}
+use Rattle.fw_cmp.proofs.Picking.{at_rest}
+use Rattle.fw_cmp_jobs.proofs.Restoring.{none_to_restore}
 
 -- the three parts of what can be picked
 either : (a b e : Bool) → a || b || e ≡ false → (a ≡ false) × (b ≡ false) × (e ≡ false)
@@ -23,12 +43,12 @@ nothing_of None e = refl
 nothing_of (Some k) e = cc
 
 -- what is left if nothing can be picked
-pub record Unpicked (now : ℕ) (d : Directory) (ss : List Slot) (ts : List Task) : Type 0 where
+pub record Unpicked (now : ℕ) (d : Directory) (ss : List Slot) (ts : List WaitingJob) : Type 0 where
   pub restoring : to_restore (at_rest ss ts) ≡ None
   pub breaks : waiting_break (at_rest ss ts) ≡ None
   pub makings : (not (is_empty ts) && not (nat_lt now d.over_at)) ≡ false
 
-unpicked : (now : ℕ) (d : Directory) (ss : List Slot) (ts : List Task) → can_pick now d ss ts ≡ false → Unpicked now d ss ts
+unpicked : (now : ℕ) (d : Directory) (ss : List Slot) (ts : List WaitingJob) → can_pick now d ss ts ≡ false → Unpicked now d ss ts
 unpicked now d ss ts e =
     let parts = either (is_some (to_restore (at_rest ss ts))) (is_some (waiting_break (at_rest ss ts))) (not (is_empty ts) && not (nat_lt now d.over_at)) e in
     record { restoring = nothing_of (to_restore (at_rest ss ts)) parts.0; breaks = nothing_of (waiting_break (at_rest ss ts)) parts.1; makings = parts.2 }
@@ -45,7 +65,7 @@ next_stays now d c (Some i) p a b e = cc
 next_stays now d c None (Some k) a b e = cc
 
 -- if nothing can be picked, the controller rests
-pub rests_next : (now : ℕ) (d : Directory) (ss : List Slot) (ts : List Task) → Unpicked now d ss ts → next now d (at_rest ss ts) ≡ rests d ts
+pub rests_next : (now : ℕ) (d : Directory) (ss : List Slot) (ts : List WaitingJob) → Unpicked now d ss ts → next now d (at_rest ss ts) ≡ rests d ts
 rests_next now d ss ts h =
     let c : ControllerState = at_rest ss ts in
     let parts = next_stays now d c (to_restore c) (waiting_break c) h.restoring h.breaks (making_stays c (is_empty ts) (nat_lt now d.over_at) h.makings) in
@@ -56,7 +76,7 @@ record Rests (now : ℕ) (d : Directory) (c : ControllerState) : Type 0 where
   pub current : c.current ≡ Nothing
   pub unpicked : Unpicked now d c.slots c.waiting
 
-rests_from : (now : ℕ) (d : Directory) (ss : List Slot) (ts : List Task) (cur : Current) → Fits (record { slots = ss; waiting = ts; current = cur }) → IsHeard cur
+rests_from : (now : ℕ) (d : Directory) (ss : List Slot) (ts : List WaitingJob) (cur : Current) → Fits (record { slots = ss; waiting = ts; current = cur }) → IsHeard cur
     → is_busy (next now d (record { slots = ss; waiting = ts; current = cur })) ≡ false → Rests now d (record { slots = ss; waiting = ts; current = cur })
 rests_from now d ss ts Nothing h heard e = record { current = refl; unpicked = unpicked now d ss ts (sym (rest_busy now d ss ts h) ∙ e) }
 rests_from now d ss ts (Asking j s) h heard e = let busy : is_busy (next now d (record { slots = ss; waiting = ts; current = Asking j s })) ≡ true =
@@ -82,7 +102,7 @@ none_found ss (Some k) first none = let clash : is_restoring (get_or ss k Free) 
 
 -- ---- nothing to do
 
-idle_empty : (d : Directory) (ts : List Task) → rests d ts ≡ Idle → ts ≡ []
+idle_empty : (d : Directory) (ts : List WaitingJob) → rests d ts ≡ Idle → ts ≡ []
 idle_empty d [] e = refl
 idle_empty d (t ∷ ts) e = cc
 
@@ -101,11 +121,11 @@ rest_idles now d c h =
 
 -- ---- held back
 
-some_waiting : (d : Directory) (ts : List Task) (until : ℕ) → rests d ts ≡ Waiting until → (0 < length ts) × (until ≡ d.over_at)
+some_waiting : (d : Directory) (ts : List WaitingJob) (until : ℕ) → rests d ts ≡ Waiting until → (0 < length ts) × (until ≡ d.over_at)
 some_waiting d [] until e = cc
 some_waiting d (t ∷ ts) until e = (omega arith, cc)
 
-early_makings : (now at : ℕ) (ts : List Task) → 0 < length ts → (not (is_empty ts) && not (nat_lt now at)) ≡ false → now < at
+early_makings : (now at : ℕ) (ts : List WaitingJob) → 0 < length ts → (not (is_empty ts) && not (nat_lt now at)) ≡ false → now < at
 early_makings now at [] some e = absurd (omega arith)
 early_makings now at (t ∷ ts) some e = grind (arith, nat_tests)
 
@@ -115,11 +135,11 @@ waiting_means now d c until fits heard e =
     let parts : (0 < length c.waiting) × (until ≡ d.over_at) = some_waiting d c.waiting until (sym (rested now d c h) ∙ e) in
     (record { no_job = no_job now d c fits h; breaks = h.unpicked.breaks; some = parts.0; early = early_makings now d.over_at c.waiting parts.0 h.unpicked.makings }, parts.1)
 
-late_makings : (now at : ℕ) (ts : List Task) → now < at → (not (is_empty ts) && not (nat_lt now at)) ≡ false
+late_makings : (now at : ℕ) (ts : List WaitingJob) → now < at → (not (is_empty ts) && not (nat_lt now at)) ≡ false
 late_makings now at [] lt = refl
 late_makings now at (t ∷ ts) lt = grind (arith, nat_tests)
 
-waits : (d : Directory) (ts : List Task) → 0 < length ts → rests d ts ≡ Waiting d.over_at
+waits : (d : Directory) (ts : List WaitingJob) → 0 < length ts → rests d ts ≡ Waiting d.over_at
 waits d [] some = absurd (omega arith)
 waits d (t ∷ ts) some = refl
 
@@ -134,7 +154,7 @@ held_back_waits now d c h =
 
 -- ---- a turn that does nothing
 
-rest_stays : (now : ℕ) (d : Directory) (ss : List Slot) (ts : List Task) → Unpicked now d ss ts → after_next now d (at_rest ss ts) ≡ at_rest ss ts
+rest_stays : (now : ℕ) (d : Directory) (ss : List Slot) (ts : List WaitingJob) → Unpicked now d ss ts → after_next now d (at_rest ss ts) ≡ at_rest ss ts
 rest_stays now d ss ts h =
     let c : ControllerState = at_rest ss ts in
     let parts = next_stays now d c (to_restore c) (waiting_break c) h.restoring h.breaks (making_stays c (is_empty ts) (nat_lt now d.over_at) h.makings) in

@@ -1,5 +1,5 @@
--- What a controller is at, and whether its request stands.
-use Rattle.fw_cmp.proofs.Common.{◌≡◌, ℕ, Bool, true, false, IsTrue, IsFalse, List, refl, false≢true, Reply, Slot, Current, Nothing, Asking, Hearing, Overtaken, Task, Job, Stage, ControllerState}
+-- What a controller is at, and whether its request is outstanding.
+use Rattle.fw_cmp.proofs.Common.{◌≡◌, ℕ, Bool, true, false, IsTrue, IsFalse, List, refl, false≢true, Reply, Slot, Current, Nothing, Asking, Hearing, Overtaken, WaitingJob, Job, Stage, ControllerState}
 use Rattle.fw_cmp.proofs.Common.{CurrentFits, Fits, IsHeard, IsStanding, SlotHasJobs, break_runs, slot_at, after_hear, heard, asked}
 use Rattle.fw_cmp.specs.Works.{CurrentRuns, IsAsking, MayStand, shown}
 
@@ -23,7 +23,7 @@ asking_is (Asking j s) ne h = ne j s refl
 asking_is (Hearing j s) ne h = h
 asking_is (Overtaken i o) ne h = h
 
--- the flag says whether a request stands
+-- the flag says whether a request is outstanding
 pub stands_shows : (b : Bool) (x : Current) → MayStand b x → (IsTrue b → IsStanding (shown b x)) × (IsStanding (shown b x) → IsTrue b)
 stands_shows true Nothing h = absurd (h.asking refl)
 stands_shows true (Asking j s) h = (λ e. tt, λ e. refl)
@@ -41,7 +41,7 @@ heard_shows true (Hearing j s) h = absurd h.heard
 heard_shows true (Overtaken i o) h = absurd (h.asking refl)
 heard_shows false x h = (λ e. h.heard, λ e. refl)
 
--- if no request stands, what is kept is what it is at
+-- if no request is outstanding, what is kept is what it is at
 pub heard_kept : (b : Bool) (x : Current) → MayStand b x → IsHeard (shown b x) → x ≡ shown b x
 heard_kept true Nothing h e = refl
 heard_kept true (Asking j s) h e = absurd e
@@ -49,7 +49,7 @@ heard_kept true (Hearing j s) h e = refl
 heard_kept true (Overtaken i o) h e = refl
 heard_kept false x h e = refl
 
--- if a request stands, it went out from what is kept
+-- if a request is outstanding, it went out from what is kept
 pub standing_kept : (b : Bool) (x : Current) → MayStand b x → IsStanding (shown b x) → IsAsking x × (asked x ≡ shown b x)
 standing_kept true x h e = (h.asking refl, refl)
 standing_kept false Nothing h e = absurd e
@@ -101,7 +101,7 @@ heard_current c (Asking j s) r h runs = record { of_slot = h.of_slot; job = h.jo
 heard_current c (Hearing j s) r h runs = record { of_slot = h.of_slot; job = h.job; stage = runs.1 }
 heard_current c (Overtaken i o) r h runs = h
 
-heard_jobs : (ts : List Task) (x : Current) (r : Reply) (i : ℕ) (s : Slot) → SlotHasJobs ts x i s → SlotHasJobs ts (heard x r) i s
+heard_jobs : (ts : List WaitingJob) (x : Current) (r : Reply) (i : ℕ) (s : Slot) → SlotHasJobs ts x i s → SlotHasJobs ts (heard x r) i s
 heard_jobs ts Nothing r i s h = h
 heard_jobs ts (Asking j t) r i s h = h
 heard_jobs ts (Hearing j t) r i s h = record { makes = h.makes; breaks = h.breaks; gone = h.gone }

@@ -1,8 +1,9 @@
 -- What it comes to that a controller has nothing to do, or waits for the end of the reclaim second.
 use Rattle.std.specs.Prelude.{ℕ, ◌≡◌, ◌<◌, length, None, false, []}
 use Rattle.fw_cmp.specs.declared.current.Current.TheVariants.{Nothing}
-use Rattle.fw_cmp.specs.declared.directory.Directory.{Directory}
-use Rattle.fw_cmp.specs.Controllers.{ControllerState, slot_at, is_restoring}
+use Rattle.fw_cmp_jobs.specs.declared.directory.Directory.{Directory}
+use Rattle.fw_cmp.specs.Controllers.{ControllerState, slot_at}
+use Rattle.fw_cmp_jobs.specs.Slots.{is_restoring}
 use Rattle.fw_cmp.specs.Jobs.{waiting_break}
 
 -- no job is current, and no connection is to be restored

@@ -4,26 +4,26 @@ use Rattle.fw_terms.specs.Tables.{same_plug, sum_to}
 use Rattle.fw_terms.specs.declared.plug.ConnectionKind.{ConnectionKind}
 use Rattle.fw_terms.specs.declared.plug.ConnectionKind.TheVariants.{PointToPoint, Broadcast}
 use Rattle.fw_terms.specs.declared.plug.PlugAt.{PlugAt}
-use Rattle.fw_cmp.specs.declared.connection.Connection.{Connection}
-use Rattle.fw_cmp.specs.declared.connection.Flow.{Flow}
-use Rattle.fw_cmp.specs.declared.connection.Slot.{Slot}
-use Rattle.fw_cmp.specs.declared.connection.Slot.TheVariants.{Standing, Restoring}
+use Rattle.fw_cmp_jobs.specs.declared.connection.Connection.{Connection}
+use Rattle.fw_cmp_jobs.specs.declared.connection.Flow.{Flow}
+use Rattle.fw_cmp_jobs.specs.declared.connection.Slot.{Slot}
+use Rattle.fw_cmp_jobs.specs.declared.connection.Slot.TheVariants.{Established, Restoring}
 use Rattle.fw_cmp.specs.declared.current.Current.{Current}
 use Rattle.fw_cmp.specs.declared.current.Current.TheVariants.{Nothing, Asking, Hearing, Overtaken}
-use Rattle.fw_cmp.specs.declared.directory.Directory.{Directory}
-use Rattle.fw_cmp.specs.declared.job.Held.{Held}
-use Rattle.fw_cmp.specs.declared.job.Job.{Job}
-use Rattle.fw_cmp.specs.declared.stage.Stage.{Stage}
-use Rattle.fw_cmp.specs.declared.stage.Stage.TheVariants.{Begin, SwapChannels, ReadBandwidth, SwapBandwidth, ConnectOutput, ReadInput, ConnectInput, ReadInputToLeave, LeaveInput}
-use Rattle.fw_cmp.specs.declared.stage.Stage.TheVariants.{ReadOutputToLeave, LeaveOutput, ReadBandwidthToRelease, RaiseBandwidth, ReadChannelsToRelease, RestoreChannel, Made, Ended}
-use Rattle.fw_cmp.specs.Connections.{kind_of, output_of, input_of, is_listen}
-use Rattle.fw_cmp.specs.Nodes.{node_of}
+use Rattle.fw_cmp_jobs.specs.declared.directory.Directory.{Directory}
+use Rattle.fw_cmp_jobs.specs.declared.job.HeldResources.{HeldResources}
+use Rattle.fw_cmp_jobs.specs.declared.job.Job.{Job}
+use Rattle.fw_cmp_jobs.specs.declared.stage.Stage.{Stage}
+use Rattle.fw_cmp_jobs.specs.declared.stage.Stage.TheVariants.{Begin, SwapChannels, ReadBandwidth, SwapBandwidth, ConnectOutput, ReadInput, ConnectInput, ReadInputToLeave, LeaveInput}
+use Rattle.fw_cmp_jobs.specs.declared.stage.Stage.TheVariants.{ReadOutputToLeave, LeaveOutput, ReadBandwidthToRelease, RaiseBandwidth, ReadChannelsToRelease, RestoreChannel, Made, Ended}
+use Rattle.fw_cmp_jobs.specs.Connections.{kind_of, output_of, input_of, is_listen}
+use Rattle.fw_cmp_jobs.specs.Nodes.{node_of}
 use Rattle.fw_cmp.specs.Controllers.{ControllerState, slot_at, count_of}
 
 -- ---- channel and units that are allocated and at no plug yet, or no more
 
 -- the channel and the units that a job holds at a stage without a connection at its output plug
-abbrev pub pending_of : Stage → Option Held
+abbrev pub pending_of : Stage → Option HeldResources
 pending_of (ReadBandwidth ch w) = Some (record { channel = ch; units = 0 })
 pending_of (SwapBandwidth ch u arg w) = Some (record { channel = ch; units = 0 })
 pending_of (ConnectOutput ch u arg) = Some (record { channel = ch; units = u })
@@ -34,7 +34,7 @@ pending_of (RestoreChannel next ch arg) = Some (record { channel = ch; units = 0
 pending_of _ = None
 
 -- the channel and the units that a controller holds without a connection, by its current job
-abbrev pub pending_at : Current → Option Held
+abbrev pub pending_at : Current → Option HeldResources
 pending_at Nothing = None
 pending_at (Asking j s) = pending_of s
 pending_at (Hearing j s) = pending_of s
@@ -96,12 +96,12 @@ is_current_slot (Overtaken k o) i = false
 
 -- the connection of a slot stands, and has this output plug
 abbrev pub stands_at_output : Slot → ConnectionKind → PlugAt → Bool
-stands_at_output (Standing conn f) kind q = has_output conn kind q
+stands_at_output (Established conn f) kind q = has_output conn kind q
 stands_at_output _ kind q = false
 
 -- the connection of a slot stands, and has this input plug
 abbrev pub stands_at_input : Slot → ConnectionKind → PlugAt → Bool
-stands_at_input (Standing conn f) kind q = has_input conn kind q
+stands_at_input (Established conn f) kind q = has_input conn kind q
 stands_at_input _ kind q = false
 
 -- the connections of the slots but the current one, of a kind at an output plug
@@ -207,5 +207,5 @@ CurrentReached d (Overtaken i o) = ⊤
 -- The connections that stand, and the one that is being made or broken, are those of devices on this bus. This holds of each
 -- directory after a bus reset, and goes on to hold of the one directory that the controller is given until the next.
 pub record CanGoOn (d : Directory) (c : ControllerState) : Type 0 where
-  pub standing : (i : ℕ) (conn : Connection) (f : Flow) → slot_at c i ≡ Standing conn f → IsReached d conn
+  pub standing : (i : ℕ) (conn : Connection) (f : Flow) → slot_at c i ≡ Established conn f → IsReached d conn
   pub current : CurrentReached d c.current

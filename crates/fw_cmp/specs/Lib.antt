@@ -1,10 +1,3 @@
-pub mod Connections
-pub mod Plugs
-pub mod Decisions
-pub mod Stages
-pub mod Nodes
-pub mod Requests
-pub mod Fits
 pub mod Holdings
 pub mod Controllers
 pub mod Starts
@@ -12,9 +5,7 @@ pub mod Refusals
 pub mod Jobs
 pub mod Turns
 pub mod Resets
-pub mod Answers
 pub mod Causes
 pub mod Outcomes
 pub mod Losses
 pub mod Works
-pub mod Known

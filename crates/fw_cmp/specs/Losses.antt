@@ -2,11 +2,11 @@
 use Rattle.std.specs.Prelude.{ℕ, ◌+◌, ◌≤◌, ◌<◌, ◌^◌, ◌≡◌, ◌⊎◌, nat_lt, if◌then◌else◌, Bool, true, false, IsTrue, IsFalse}
 use Rattle.fw_csr.specs.declared.reply.Reply.{Reply}
 use Rattle.fw_cmp.specs.declared.current.Current.TheVariants.{Hearing}
-use Rattle.fw_cmp.specs.declared.directory.Directory.{Directory}
-use Rattle.fw_cmp.specs.declared.job.Job.{Job}
+use Rattle.fw_cmp_jobs.specs.declared.directory.Directory.{Directory}
+use Rattle.fw_cmp_jobs.specs.declared.job.Job.{Job}
 use Rattle.fw_cmp.specs.declared.outcome.Next.{Next}
 use Rattle.fw_cmp.specs.declared.outcome.Next.TheVariants.{Send, Deaf, Force}
-use Rattle.fw_cmp.specs.declared.stage.Stage.{Stage}
+use Rattle.fw_cmp_jobs.specs.declared.stage.Stage.{Stage}
 use Rattle.fw_cmp.specs.Controllers.{ControllerState, first_state, IsHeard, IsStanding, Fits}
 use Rattle.fw_cmp.specs.Resets.{after_hear, state_reset, after_second}
 use Rattle.fw_cmp.specs.Turns.{next, after_next}
@@ -36,11 +36,11 @@ split_timeout = 800
 abbrev pub deaf_until : Listening → ℕ
 deaf_until x = x.asked_at + split_timeout
 
--- no request stands whose reply is still to be heard: it was heard, or lost, or a bus reset came
+-- no request is outstanding whose reply is still to be heard: it was heard, or lost, or a bus reset came
 abbrev pub MayTurn : Listening → Type 0
 MayTurn x = IsTrue x.lost ⊎ IsHeard x.state.current
 
--- a request stands whose reply is still to be heard
+-- a request is outstanding whose reply is still to be heard
 abbrev pub Awaits : Listening → Type 0
 Awaits x = IsFalse x.lost × IsStanding x.state.current
 

@@ -1,26 +1,29 @@
--- What it comes to that a job ends with an outcome.
-use Rattle.std.specs.Prelude.{ℕ, ◌≡◌, ◌⊎◌, Bool, true, false, Some, None, ⊤}
-use Rattle.fw_cmp.specs.declared.connection.Slot.{Slot}
-use Rattle.fw_cmp.specs.declared.connection.Slot.TheVariants.{Standing}
-use Rattle.fw_cmp.specs.declared.current.Current.TheVariants.{Asking, Overtaken}
-use Rattle.fw_cmp.specs.declared.directory.Directory.{Directory}
-use Rattle.fw_cmp.specs.declared.job.Job.{Job}
-use Rattle.fw_cmp.specs.declared.job.Purpose.TheVariants.{Break}
-use Rattle.fw_cmp.specs.declared.job.Ending.TheVariants as ending
+-- What it comes to that a job ends with an outcome, and that answers have decided it.
+use Rattle.std.specs.Prelude.{ℕ, ◌≡◌, ◌⊎◌, Bool, true, false, Some, None, IfSome, ⊤}
+use Rattle.fw_cmp_jobs.specs.declared.connection.Slot.{Slot}
+use Rattle.fw_cmp_jobs.specs.declared.connection.Slot.TheVariants.{Established}
+use Rattle.fw_cmp.specs.declared.current.Current.{Current}
+use Rattle.fw_cmp.specs.declared.current.Current.TheVariants.{Nothing, Asking, Hearing, Overtaken}
+use Rattle.fw_cmp_jobs.specs.declared.directory.Directory.{Directory}
+use Rattle.fw_cmp_jobs.specs.declared.job.Job.{Job}
+use Rattle.fw_cmp_jobs.specs.declared.job.Purpose.TheVariants.{Break}
+use Rattle.fw_cmp_jobs.specs.declared.job.Ending.TheVariants as ending
 use Rattle.fw_cmp.specs.declared.outcome.Next.{Next}
 use Rattle.fw_cmp.specs.declared.outcome.Next.TheVariants.{End}
-use Rattle.fw_cmp.specs.declared.outcome.Outcome.{Outcome}
-use Rattle.fw_cmp.specs.declared.outcome.Outcome.TheVariants.{Connected, Broken, Restored, NoChannel, NoUnits, PlugFull, InputBusy, NoPlug, NoManager, Absent, Reset, Late}
-use Rattle.fw_cmp.specs.declared.stage.Stage.{Stage}
-use Rattle.fw_cmp.specs.declared.stage.Stage.TheVariants.{Begin, Made, Ended}
-use Rattle.fw_cmp.specs.Connections.{is_listen}
-use Rattle.fw_cmp.specs.Decisions.{restores}
+use Rattle.fw_cmp_jobs.specs.declared.outcome.Outcome.{Outcome}
+use Rattle.fw_cmp_jobs.specs.declared.outcome.Outcome.TheVariants.{Connected, Broken, Restored, NoChannel, NoUnits, PlugFull, InputBusy, NoPlug, NoManager, Absent, Reset, Late}
+use Rattle.fw_cmp_jobs.specs.declared.stage.Stage.{Stage}
+use Rattle.fw_cmp_jobs.specs.declared.stage.Stage.TheVariants.{Begin, Made, Ended}
+use Rattle.fw_cmp_jobs.specs.Answers.{decision_of, IsOfAnswers}
+use Rattle.fw_cmp_jobs.specs.Connections.{is_listen}
+use Rattle.fw_cmp_jobs.specs.Decisions.{restores}
 use Rattle.fw_cmp.specs.Controllers.{ControllerState, slot_at}
-use Rattle.fw_cmp.specs.Jobs.{picked, absent_of, is_late}
+use Rattle.fw_cmp.specs.Jobs.{picked}
+use Rattle.fw_cmp_jobs.specs.Jobs.{absent_of, is_late}
 
 -- the connection of the slot stands
 abbrev pub is_standing : Slot → Bool
-is_standing (Standing conn f) = true
+is_standing (Established conn f) = true
 is_standing _ = false
 
 -- the connection was made on this channel
@@ -58,3 +61,10 @@ Ends now d c slot o = (c.current ≡ Overtaken slot o) ⊎ ((j : Job) × ((s : S
 abbrev pub EndsWithCause : ℕ → Directory → ControllerState → Next → Type 0
 EndsWithCause now d c (End slot o) = Ends now d c slot o
 EndsWithCause now d c _ = ⊤
+
+-- what is decided of a current job was decided by answers
+abbrev pub IsDecidedByAnswers : Current → Type 0
+IsDecidedByAnswers Nothing = ⊤
+IsDecidedByAnswers (Asking j s) = IfSome (decision_of s) IsOfAnswers
+IsDecidedByAnswers (Hearing j s) = IfSome (decision_of s) IsOfAnswers
+IsDecidedByAnswers (Overtaken i o) = ⊤

@@ -1,6 +1,7 @@
 -- When a new connection is refused, and which slot it takes.
 use Rattle.std.specs.Prelude.{ℕ, ◌<◌, ◌≡◌, true, false, length}
-use Rattle.fw_cmp.specs.Controllers.{ControllerState, slot_at, is_free}
+use Rattle.fw_cmp.specs.Controllers.{ControllerState, slot_at}
+use Rattle.fw_cmp_jobs.specs.Slots.{is_free}
 
 -- all 32 slots are in use
 abbrev pub IsFull : ControllerState → Type 0

@@ -1,20 +1,20 @@
 -- What an answer, a bus reset and the end of the reclaim second do to a controller.
 use Rattle.std.specs.Prelude.{ℕ, Bool, true, false, map}
 use Rattle.fw_csr.specs.declared.reply.Reply.{Reply}
-use Rattle.fw_cmp.specs.declared.connection.Slot.{Slot}
-use Rattle.fw_cmp.specs.declared.connection.Slot.TheVariants.{Free, Making, Standing, Restoring, Gone}
+use Rattle.fw_cmp_jobs.specs.declared.connection.Slot.TheVariants.{Free, Restoring, Gone}
 use Rattle.fw_cmp.specs.declared.current.Current.{Current}
 use Rattle.fw_cmp.specs.declared.current.Current.TheVariants.{Nothing, Asking, Hearing, Overtaken}
-use Rattle.fw_cmp.specs.declared.job.Job.{Job}
-use Rattle.fw_cmp.specs.declared.job.Purpose.TheVariants.{Make, Restore, Break}
-use Rattle.fw_cmp.specs.declared.outcome.Outcome.TheVariants.{Reset}
-use Rattle.fw_cmp.specs.declared.stage.Stage.{Stage}
-use Rattle.fw_cmp.specs.declared.stage.Stage.TheVariants.{Begin, Made, Ended}
-use Rattle.fw_cmp.specs.Stages.{hear_reply}
-use Rattle.fw_cmp.specs.Turns.{made_outcome}
+use Rattle.fw_cmp_jobs.specs.declared.job.Job.{Job}
+use Rattle.fw_cmp_jobs.specs.declared.job.Purpose.TheVariants.{Make, Restore, Break}
+use Rattle.fw_cmp_jobs.specs.declared.outcome.Outcome.TheVariants.{Reset}
+use Rattle.fw_cmp_jobs.specs.declared.stage.Stage.{Stage}
+use Rattle.fw_cmp_jobs.specs.declared.stage.Stage.TheVariants.{Begin, Made, Ended}
+use Rattle.fw_cmp_jobs.specs.Stages.{hear_reply}
+use Rattle.fw_cmp_jobs.specs.Slots.{slot_reset, slot_over}
+use Rattle.fw_cmp_jobs.specs.Jobs.{made_outcome}
 use Rattle.fw_cmp.specs.Controllers.{ControllerState, with_slot}
 
--- ---- an answer to the request that stands
+-- ---- an answer to the outstanding request
 
 -- the current job after the answer to its request
 abbrev pub heard : Current → Reply → Current
@@ -58,14 +58,6 @@ current_reset epoch c (Asking j s) = overtaken epoch c j s
 current_reset epoch c (Hearing j s) = overtaken epoch c j s
 current_reset epoch c (Overtaken i o) = c
 
--- each connection that stands is to be restored
-abbrev pub slot_reset : Slot → Slot
-slot_reset Free = Free
-slot_reset (Making conn asked overhead) = Making conn asked overhead
-slot_reset (Standing conn f) = Restoring conn f false
-slot_reset (Restoring conn f over) = Restoring conn f over
-slot_reset (Gone conn) = Gone conn
-
 -- the controller with each connection that stands to be restored
 abbrev pub slots_reset : ControllerState → ControllerState
 slots_reset c = record c { slots = map slot_reset c.slots }
@@ -91,14 +83,6 @@ state_reset epoch true c = after_lost_reset epoch c
 state_reset epoch false c = after_reset epoch c
 
 -- ---- the end of the reclaim second
-
--- the own second of each slot that is to be restored is over
-abbrev pub slot_over : Slot → Slot
-slot_over Free = Free
-slot_over (Making conn asked overhead) = Making conn asked overhead
-slot_over (Standing conn f) = Standing conn f
-slot_over (Restoring conn f over) = Restoring conn f true
-slot_over (Gone conn) = Gone conn
 
 -- the controller after the end of the reclaim second
 abbrev pub after_second : ControllerState → ControllerState

@@ -2,13 +2,12 @@
 use Rattle.std.specs.Prelude.{ℕ, ◌<◌, nat_le, ◌==◌, ◌&&◌, ◌||◌, not, ◌++◌, ◌∷◌, [], length, Bool, true, false, Option, Some, None, Result, Ok, Err, if◌then◌else◌, ⊤}
 use Rattle.fw_terms.specs.Tables.{find_to}
 use Rattle.fw_terms.specs.declared.plug.PlugAt.{PlugAt}
-use Rattle.fw_cmp.specs.declared.connection.Connection.TheVariants.{PlugToPlug, BroadcastOut, BroadcastIn}
-use Rattle.fw_cmp.specs.declared.connection.Slot.{Slot}
-use Rattle.fw_cmp.specs.declared.connection.Slot.TheVariants.{Making}
-use Rattle.fw_cmp.specs.declared.current.Task.{Task}
+use Rattle.fw_cmp_jobs.specs.declared.connection.Slot.{Slot}
+use Rattle.fw_cmp.specs.declared.current.WaitingJob.{WaitingJob}
 use Rattle.fw_cmp.specs.declared.outcome.StartFault.{StartFault}
 use Rattle.fw_cmp.specs.declared.outcome.StartFault.TheVariants.{TableFull, Busy, NoSuchConnection, NotOwnPlug}
-use Rattle.fw_cmp.specs.Controllers.{ControllerState, slot_at, with_slot, is_free, is_breakable, break_waits, break_runs}
+use Rattle.fw_cmp.specs.Controllers.{ControllerState, slot_at, with_slot, break_waits, break_runs}
+use Rattle.fw_cmp_jobs.specs.Slots.{is_free, is_breakable}
 
 -- the lowest free slot
 abbrev pub free_slot : ControllerState → Option ℕ
@@ -19,7 +18,7 @@ abbrev pub is_crowded : ControllerState → Bool
 is_crowded c = nat_le 8 (length c.waiting)
 
 -- the controller with one job more that waits, after the others
-abbrev pub with_task : ControllerState → Task → ControllerState
+abbrev pub with_task : ControllerState → WaitingJob → ControllerState
 with_task c t = record c { waiting = c.waiting ++ t ∷ [] }
 
 -- ---- a new connection
@@ -37,23 +36,6 @@ start c = start_at (free_slot c) c
 abbrev pub OkWithin : Result ℕ StartFault → Type 0
 OkWithin (Ok i) = i < 32
 OkWithin (Err fault) = ⊤
-
--- what the slot holds for it
-abbrev pub connect_slot : PlugAt → PlugAt → Option ℕ → ℕ → Slot
-connect_slot out into asked overhead = Making (PlugToPlug out into) asked overhead
-
--- a first broadcast connection uses channel 63
-abbrev pub broadcast_slot : PlugAt → ℕ → Slot
-broadcast_slot out overhead = Making (BroadcastOut out) (Some 63) overhead
-
--- a broadcast-in connection begins with channel 63
-abbrev pub listen_slot : PlugAt → Slot
-listen_slot into = Making (BroadcastIn into) (Some 63) 0
-
--- the slot holds a connection that is being made
-abbrev pub IsMaking : Slot → Type 0
-IsMaking (Making conn asked overhead) = ⊤
-IsMaking _ = ⊥
 
 -- a broadcast connection is made only by the controller of the plug's own device
 abbrev pub start_own : ℕ → PlugAt → ControllerState → Result ℕ StartFault

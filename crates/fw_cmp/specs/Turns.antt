@@ -1,53 +1,27 @@
 -- How a job ends; and a controller's turn with its job at hand: it sends the next request, ends or has nothing to do.
 use Rattle.std.specs.Prelude.{ℕ, ◌&&◌, Bool, true, false, Option, Some, None, List, if◌then◌else◌}
-use Rattle.fw_cmp.specs.declared.connection.Flow.{Flow}
-use Rattle.fw_cmp.specs.declared.connection.Slot.{Slot}
-use Rattle.fw_cmp.specs.declared.connection.Slot.TheVariants.{Free, Standing, Gone}
+use Rattle.fw_cmp_jobs.specs.declared.connection.Slot.{Slot}
+use Rattle.fw_cmp_jobs.specs.declared.connection.Slot.TheVariants.{Free, Established, Gone}
 use Rattle.fw_cmp.specs.declared.current.Current.TheVariants.{Nothing, Asking, Hearing, Overtaken}
-use Rattle.fw_cmp.specs.declared.directory.Directory.{Directory}
-use Rattle.fw_cmp.specs.declared.current.Task.{Task}
-use Rattle.fw_cmp.specs.declared.job.Job.{Job}
-use Rattle.fw_cmp.specs.declared.job.Ending.{Ending}
-use Rattle.fw_cmp.specs.declared.job.Ending.TheVariants as ending
-use Rattle.fw_cmp.specs.declared.outcome.Outcome.{Outcome}
-use Rattle.fw_cmp.specs.declared.outcome.Outcome.TheVariants as outcome
+use Rattle.fw_cmp_jobs.specs.declared.directory.Directory.{Directory}
+use Rattle.fw_cmp.specs.declared.current.WaitingJob.{WaitingJob}
+use Rattle.fw_cmp_jobs.specs.declared.job.Job.{Job}
 use Rattle.fw_cmp.specs.declared.outcome.Next.{Next}
 use Rattle.fw_cmp.specs.declared.outcome.Next.TheVariants.{Send, End, Idle, Waiting, Deaf, Force}
-use Rattle.fw_cmp.specs.declared.request.Access.{Access}
-use Rattle.fw_cmp.specs.declared.stage.Stage.{Stage}
-use Rattle.fw_cmp.specs.declared.stage.Stage.TheVariants.{Made, Ended}
-use Rattle.fw_cmp.specs.Decisions.{restores}
-use Rattle.fw_cmp.specs.Requests.{access_of, request_of, addressee_of}
+use Rattle.fw_cmp_jobs.specs.declared.request.Access.{Access}
+use Rattle.fw_cmp_jobs.specs.declared.stage.Stage.{Stage}
+use Rattle.fw_cmp_jobs.specs.declared.stage.Stage.TheVariants.{Made}
+use Rattle.fw_cmp_jobs.specs.Decisions.{restores}
+use Rattle.fw_cmp_jobs.specs.Requests.{access_of, request_of, addressee_of}
+use Rattle.fw_cmp_jobs.specs.Jobs.{outcome_of}
 use Rattle.fw_cmp.specs.Controllers.{ControllerState, with_slot, break_waits}
 use Rattle.fw_cmp.specs.Jobs.{is_empty, ready}
 
 -- ---- how a job ends
 
--- the outcome that the log names for how a job ended
-abbrev pub outcome_for : ℕ → Ending → Outcome
-outcome_for now ending.Broken = outcome.Broken
-outcome_for now (ending.NoChannel w) = outcome.NoChannel w
-outcome_for now (ending.NoUnits left) = outcome.NoUnits left
-outcome_for now (ending.PlugFull w) = outcome.PlugFull w
-outcome_for now (ending.InputBusy w) = outcome.InputBusy w
-outcome_for now (ending.NoPlug rcode) = outcome.NoPlug rcode
-outcome_for now ending.NoManager = outcome.NoManager
-outcome_for now (ending.Absent device) = outcome.Absent device
-outcome_for now ending.Late = outcome.Late now
-
--- the outcome of a connection that was made, or restored
-abbrev pub made_outcome : Job → Flow → Outcome
-made_outcome j f = if restores j then outcome.Restored f.channel else outcome.Connected f.channel
-
--- the outcome of a stage that makes no request
-abbrev pub outcome_of : ℕ → Job → Stage → Outcome
-outcome_of now j (Made f) = made_outcome j f
-outcome_of now j (Ended e) = outcome_for now e
-outcome_of now j _ = outcome.Broken
-
 -- the slot of a job that has ended: the connection stands, or it is gone, and the slot free once no break of it waits
 abbrev pub slot_after : ControllerState → Job → Stage → Slot
-slot_after c j (Made f) = Standing j.connection f
+slot_after c j (Made f) = Established j.connection f
 slot_after c j _ = if restores j && break_waits c j.slot then Gone j.connection else Free
 
 -- the controller after a job that has ended
@@ -67,7 +41,7 @@ asks_or_ends now d j s None = End j.slot (outcome_of now j s)
 asks_or_ends now d j s (Some a) = sending (addressee_of d a.target) a
 
 -- a controller with no current job is idle, or waits for the end of the reclaim second
-abbrev pub rests : Directory → List Task → Next
+abbrev pub rests : Directory → List WaitingJob → Next
 rests d waiting = if is_empty waiting then Idle else Waiting d.over_at
 
 -- what a controller with its job at hand does: it sends, ends, waits or is idle

@@ -1,15 +1,17 @@
 ghost use Rattle.std.specs.Prelude.{◌≡◌};
 ghost use Rattle.fw_cmp.specs.Controllers.{Fits, first_state, IsStanding, break_waits, slot_at};
-ghost use Rattle.fw_cmp.specs.Fits.{SlotFits};
-ghost use Rattle.fw_cmp.specs.Starts.{IsMaking, OkWithin, start, started, break_started, break_fault, can_break};
-ghost use Rattle.fw_cmp.specs.declared.directory.Directory.{Directory as BusDirectory};
+ghost use Rattle.fw_cmp_jobs.specs.Fits.{SlotFits};
+ghost use Rattle.fw_cmp.specs.Starts.{OkWithin, start, started, break_started, break_fault, can_break};
+ghost use Rattle.fw_cmp_jobs.specs.Slots.{IsMaking};
+ghost use Rattle.fw_cmp_jobs.specs.declared.directory.Directory.{Directory as BusDirectory};
 ghost use Rattle.fw_cmp.specs.Holdings.{CanGoOn};
 ghost use Rattle.fw_cmp.specs.Resets.{after_hear, after_reset, after_lost_reset, after_second};
 
 use crate::overtaking::{overtake, overtake_unheard};
-use crate::work::Work;
-use crate::{Current, Slot, StartFault, Task, slots};
+use crate::work::ActiveJob;
+use crate::{Current, Slot, StartFault, WaitingJob};
 use arrayvec::ArrayVec;
+use fw_cmp_jobs::slots;
 use fw_csr::Reply;
 use std::marker::Model;
 
@@ -17,15 +19,15 @@ use std::marker::Model;
 #[derive(Drop)]
 pub(crate) struct Agenda {
     pub(crate) slots: [Slot; 32],
-    pub(crate) waiting: ArrayVec<Task, 8>,
-    pub(crate) current: Work,
+    pub(crate) waiting: ArrayVec<WaitingJob, 8>,
+    pub(crate) current: ActiveJob,
     /// No slot is to be restored: each was looked at, and none was, since the latest bus reset.
     pub(crate) none_restores: bool,
 }
 
 impl Model for Agenda {
     ghost use Rattle.fw_cmp.specs.Controllers.{ControllerState, Fits};
-    ghost use Rattle.fw_cmp.specs.Known.{NoneToRestore};
+    ghost use Rattle.fw_cmp_jobs.specs.Known.{NoneToRestore};
 
     ghost Value = { ControllerState };
 
@@ -44,7 +46,7 @@ impl Agenda {
         Agenda {
             slots: [Slot::Free; 32],
             waiting: ArrayVec::new(),
-            current: Work::new(Current::Nothing),
+            current: ActiveJob::new(Current::Nothing),
             none_restores: false,
         }
     }
@@ -74,7 +76,7 @@ impl Agenda {
         ensures goes_on { (d : BusDirectory) → CanGoOn d self.old → CanGoOn d self.new }
     {
         self.slots[slot as usize] = held;
-        self.waiting.push(Task {
+        self.waiting.push(WaitingJob {
             slot,
             breaks: false,
         });
@@ -87,7 +89,7 @@ impl Agenda {
         ensures fits { Fits self.new }
         ensures goes_on { (d : BusDirectory) → CanGoOn d self.old → CanGoOn d self.new }
     {
-        self.waiting.push(Task { slot, breaks: true });
+        self.waiting.push(WaitingJob { slot, breaks: true });
     }
 
     /// Why a break of the connection in this slot would be refused. None if it would not.
@@ -130,7 +132,7 @@ impl Agenda {
         self.waiting.iter().any(|t| t.breaks && t.slot == slot)
     }
 
-    /// Hears the reply to the request that stands.
+    /// Hears the reply to the outstanding request.
     pub fn hear(&mut self, r: &Reply)
         requires { IsStanding self.old.current }
         ensures state { self.new ≡ after_hear self.old r.now }
@@ -148,7 +150,7 @@ impl Agenda {
     {
         self.none_restores = false;
         let current = overtake(epoch, &mut self.slots, self.current.get());
-        self.current = Work::new(current);
+        self.current = ActiveJob::new(current);
         slots::reset(&mut self.slots);
     }
 
@@ -160,7 +162,7 @@ impl Agenda {
     {
         self.none_restores = false;
         let current = overtake_unheard(epoch, &mut self.slots, self.current.get());
-        self.current = Work::new(current);
+        self.current = ActiveJob::new(current);
         slots::reset(&mut self.slots);
     }
 

@@ -2,10 +2,10 @@
 
 ghost use Rattle.std.specs.Prelude.{◌≡◌, ◌<◌, ℕ, IsSome, IfNone, IfSome};
 ghost use Rattle.fw_cmp.specs.Controllers.{Fits, IsHeard};
-ghost use Rattle.fw_cmp.specs.Fits.{JobFits, StageFits, TargetFits};
+ghost use Rattle.fw_cmp_jobs.specs.Fits.{JobFits, StageFits, TargetFits};
 ghost use Rattle.fw_cmp.specs.Holdings.{CanGoOn, CurrentReached};
-ghost use Rattle.fw_cmp.specs.Nodes.{HasNodeNumbers};
-ghost use Rattle.fw_cmp.specs.Requests.{access_at, addressee_of, swap_of};
+ghost use Rattle.fw_cmp_jobs.specs.Nodes.{HasNodeNumbers};
+ghost use Rattle.fw_cmp_jobs.specs.Requests.{access_at, addressee_of, swap_of};
 ghost use Rattle.fw_cmp.specs.Turns.{addressee_in, sending, answer_of, after_answer, next, after_next};
 
 use crate::agenda::Agenda;
@@ -48,7 +48,7 @@ pub(crate) fn send(directory: &Directory, job: &Job, stage: &Stage, target: Targ
 }
 
 impl Agenda {
-    /// The request that goes out, and its node's number, where the current job makes one at the stage at which it stands: what `next`
+    /// The request that goes out, and its node's number, if the current job makes one at the stage at which it stands: what `next`
     /// would do, found at once. None tells nothing, and then nothing changes.
     #[inline(always)]
     pub fn ask(&mut self, directory: &Directory) -> Option<(u8, QuadletAccess)>
@@ -67,7 +67,7 @@ impl Agenda {
         self.ask_now(directory)
     }
 
-    /// As `ask`, where a job is current and stays at its stage.
+    /// As `ask`, if a job is current and stays at its stage.
     #[inline(always)]
     fn ask_now(&mut self, directory: &Directory) -> Option<(u8, QuadletAccess)>
         requires heard { IsHeard self.old.current }

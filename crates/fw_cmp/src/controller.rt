@@ -1,9 +1,10 @@
 ghost use Rattle.std.specs.Prelude.{◌≡◌, ◌<◌, ◌≤◌, ◌^◌, ◌↔◌, ℕ, IsTrue, IsFalse, IfNone, IfSome};
-ghost use Rattle.fw_cmp.specs.declared.directory.Directory.{Directory as BusDirectory};
+ghost use Rattle.fw_cmp_jobs.specs.declared.directory.Directory.{Directory as BusDirectory};
 ghost use Rattle.fw_cmp.specs.Causes.{IsAtRest, IsHeldBack};
 ghost use Rattle.fw_cmp.specs.Holdings.{CanGoOn};
-ghost use Rattle.fw_cmp.specs.Losses.{ListeningFits, first_listening, MayTurn, Awaits, deaf_turn, deaf_until, turn_of, after_turn, after_answer, after_loss, after_bus_reset, after_end, IsDeafUntil, IsToForce};
-ghost use Rattle.fw_cmp.specs.Nodes.{HasNodeNumbers};
+ghost use Rattle.fw_cmp.specs.Losses.{ListeningFits, first_listening, MayTurn, Awaits, deaf_turn, deaf_until, turn_of, after_turn, after_answer, after_loss, after_bus_reset, after_end};
+ghost use Rattle.fw_cmp.specs.Losses.{IsDeafUntil, IsToForce};
+ghost use Rattle.fw_cmp_jobs.specs.Nodes.{HasNodeNumbers};
 ghost use Rattle.fw_cmp.specs.Outcomes.{EndsWithCause};
 ghost use Rattle.fw_cmp.specs.Turns.{addressee_in, is_busy};
 
@@ -77,7 +78,7 @@ impl Controller {
         next
     }
 
-    /// The request that goes out in this cycle, and its node's number, where the current job makes one at the stage at which it stands:
+    /// The request that goes out in this cycle, and its node's number, if the current job makes one at the stage at which it stands:
     /// what `next` would do, found at once. None tells nothing, and then nothing changes.
     #[inline(always)]
     pub fn ask(&mut self, now: u64, directory: &Directory) -> Option<(u8, QuadletAccess)>
@@ -111,7 +112,7 @@ impl Controller {
         }
     }
 
-    /// Whether a request stands, whose reply is still to be heard.
+    /// Whether a request is outstanding, whose reply is still to be heard.
     pub fn has_request(&self) -> bool
         ensures standing { IsTrue result ↔ Awaits self.now }
         ensures heard { IsFalse result ↔ MayTurn self.now }
@@ -126,7 +127,7 @@ impl Controller {
         self.lost
     }
 
-    /// Whether the controller has something to do: a request stands, or `next` would be neither Idle nor Waiting.
+    /// Whether the controller has something to do: a request is outstanding, or `next` would be neither Idle nor Waiting.
     pub fn busy(&self, now: u64, directory: &Directory) -> bool
         ensures heard { MayTurn self.now → result ≡ is_busy (turn_of now directory.now self.now) }
         ensures standing { Awaits self.now → IsTrue result }
@@ -134,7 +135,7 @@ impl Controller {
         self.lost || self.agenda.busy(now, directory)
     }
 
-    /// Hears the reply to the request that stands.
+    /// Hears the reply to the outstanding request.
     pub fn hear(&mut self, r: &Reply)
         requires { Awaits self.old }
         ensures state { self.new ≡ after_answer self.old r.now }
@@ -144,7 +145,7 @@ impl Controller {
         self.agenda.hear(r);
     }
 
-    /// The response to the request that stands is lost.
+    /// The response to the outstanding request is lost.
     pub fn lose(&mut self)
         requires { Awaits self.old }
         ensures state { self.new ≡ after_loss self.old }

@@ -5,8 +5,8 @@ ghost use Rattle.std.specs.Prelude.{◌≡◌, ◌≤◌, ◌+◌, IfOk, IsTrue,
 use crate::agenda::Agenda;
 use crate::controller::Controller;
 use crate::marks::{slot_mark, work_mark};
-use crate::work::Work;
-use crate::{Connection, Current, Job, Outcome, Slot, Stage, Task};
+use crate::work::ActiveJob;
+use crate::{Connection, Current, Job, Outcome, Slot, Stage, WaitingJob};
 use fw_kept_parts::{Part, mixed};
 use fw_terms::PlugAt;
 use std::alloc::{AllocError, Global};
@@ -51,7 +51,7 @@ fn same_slot(slot: Slot, other: Slot) -> bool
         (Slot::Making(made, asked, overhead), Slot::Making(made2, asked2, overhead2)) => {
             asked == asked2 && overhead == overhead2 && same_connection(made, made2)
         }
-        (Slot::Standing(made, flow), Slot::Standing(made2, flow2)) => {
+        (Slot::Established(made, flow), Slot::Established(made2, flow2)) => {
             flow == flow2 && same_connection(made, made2)
         }
         (Slot::Restoring(made, flow, over), Slot::Restoring(made2, flow2, over2)) => {
@@ -106,7 +106,7 @@ fn same_slots(slots: &[Slot; 32], others: &[Slot; 32]) -> bool
     true
 }
 
-fn same_tasks(tasks: &[Task], others: &[Task]) -> bool
+fn same_tasks(tasks: &[WaitingJob], others: &[WaitingJob]) -> bool
     ensures { IsTrue result → tasks.now ≡ others.now }
 {
     tasks == others
@@ -161,7 +161,7 @@ impl Agenda {
         self.slots = other.slots;
         self.waiting.clear();
         let _ = self.waiting.try_extend_from_slice(other.waiting.as_slice());
-        self.current = Work::new(other.current.get());
+        self.current = ActiveJob::new(other.current.get());
         self.none_restores = other.none_restores;
     }
 

@@ -1,14 +1,14 @@
 ghost use Rattle.std.specs.Prelude.{◌≡◌};
-ghost use Rattle.fw_cmp.specs.Controllers.{is_break_at, break_runs};
+ghost use Rattle.fw_cmp.specs.Controllers.{break_runs};
 ghost use Rattle.fw_cmp.specs.Resets.{heard};
 ghost use Rattle.fw_cmp.specs.Works.{CurrentRuns, IsAsking, asked};
 
-use crate::{Job, Outcome, Purpose, Stage};
+use crate::{Job, Outcome, Stage};
 use fw_csr::Reply;
 
 /// A job that was asked for and waits: its slot, and whether it breaks the slot's connection or makes it.
 #[derive(Clone, Copy, Default, PartialEq, Eq)]
-pub struct Task {
+pub struct WaitingJob {
     pub slot: u8,
     pub breaks: bool,
 }
@@ -20,22 +20,10 @@ pub enum Current {
     Nothing,
     /// The job makes the request of this stage next, or ends.
     Asking(Job, Stage),
-    /// The request of this stage stands.
+    /// The request of this stage is outstanding.
     Hearing(Job, Stage),
     /// A bus reset has taken the job off its slot; the outcome is still to be written.
     Overtaken(u8, Outcome),
-}
-
-impl Job {
-    /// The job breaks the connection of this slot.
-    fn breaks(&self, slot: u8) -> bool
-        ensures { result ≡ is_break_at self.now slot }
-    {
-        match self.purpose {
-            Purpose::Make | Purpose::Restore => false,
-            Purpose::Break => self.slot == slot,
-        }
-    }
 }
 
 impl Current {

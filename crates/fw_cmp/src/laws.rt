@@ -1,19 +1,16 @@
 ghost use Rattle.fw_cmp.specs.declared.outcome.StartFault.TheVariants.{TableFull, Busy, NoSuchConnection};
 ghost use Rattle.fw_cmp.specs.Refusals.{IsFull, HasFree, TakesSlot};
-ghost use Rattle.std.specs.Prelude.{◌≡◌, ◌⊎◌, ◌↔◌, ◌≤◌, Ok, Err, length, ◌<◌, ◌+◌, ◌-◌, ◌^◌, ℕ, Bool, true, false, Some, IfSome};
-ghost use Rattle.fw_cmp.specs.declared.job.Job.{Job as JobRecord};
-ghost use Rattle.fw_cmp.specs.declared.stage.Stage.{Stage as StageRecord};
-ghost use Rattle.fw_cmp.specs.Answers.{decision_of, DecidedBy, IsDecidedByAnswers};
-ghost use Rattle.fw_cmp.specs.Stages.{hear_reply};
+ghost use Rattle.std.specs.Prelude.{◌≡◌, ◌↔◌, ◌≤◌, Ok, Err, length, ℕ, Bool, true, false};
+ghost use Rattle.fw_cmp.specs.Outcomes.{IsDecidedByAnswers};
 ghost use Rattle.fw_csr.specs.declared.reply.Reply.{Reply as ReplyRecord};
-ghost use Rattle.fw_cmp.specs.declared.connection.Slot.{Slot as SlotRecord};
-ghost use Rattle.fw_cmp.specs.declared.directory.Directory.{Directory as BusDirectory};
+ghost use Rattle.fw_cmp_jobs.specs.declared.connection.Slot.{Slot as SlotRecord};
+ghost use Rattle.fw_cmp_jobs.specs.declared.directory.Directory.{Directory as BusDirectory};
 ghost use Rattle.fw_cmp.specs.Controllers.{ControllerState, Fits, first_state};
 ghost use Rattle.fw_cmp.specs.Holdings.{CanGoOn};
 ghost use Rattle.fw_cmp.specs.Resets.{after_hear, state_reset, after_second};
-ghost use Rattle.fw_cmp.specs.Starts.{IsMaking, start, started, start_break, can_break, break_started};
+ghost use Rattle.fw_cmp.specs.Starts.{start, started, start_break, can_break, break_started};
+ghost use Rattle.fw_cmp_jobs.specs.Slots.{IsMaking};
 ghost use Rattle.fw_cmp.specs.Turns.{after_next};
-ghost use Rattle.fw_cmp.specs.Plugs.{remainder_of};
 
 /// A new connection takes the lowest free slot. It is refused exactly if all 32 slots are in use, or else eight jobs
 /// wait. A break is refused exactly if the slot's connection does not stand and is not to be restored, or a break of
@@ -38,13 +35,6 @@ pub fn controllers_go_on()
     ensures second { (d : BusDirectory) (c : ControllerState) → CanGoOn d c → CanGoOn d (after_second c) }
 {}
 
-/// An answer decides how a job ends, only if it shows the cause: the asked channel taken, or no free one; too few units;
-/// a plug that is full, or an input plug that is busy; an output plug on another channel than the one to be restored; or
-/// a response code other than 0. What was decided stays so.
-pub fn answers_decide_by_what_they_show()
-    ensures { (j : JobRecord) (s : StageRecord) (r : ReplyRecord) → IfSome (decision_of (hear_reply j s r)) (λ e. (decision_of s ≡ Some e) ⊎ DecidedBy j s r e) }
-{}
-
 /// Between calls no job is decided by the directory: that there is no manager, or no such device, is answered in the call
 /// that begins the job. At first, and after a bus reset, a turn and an answer, what is decided was decided by answers;
 /// starts and the end of the reclaim second leave the current job as it is.
@@ -54,9 +44,4 @@ pub fn the_directory_decides_only_as_a_job_begins()
     ensures answer { (c : ControllerState) (r : ReplyRecord) → IsDecidedByAnswers c.current → IsDecidedByAnswers (after_hear c r).current }
     ensures reset { (epoch : ℕ) (lost : Bool) (c : ControllerState) → IsDecidedByAnswers c.current → IsDecidedByAnswers (state_reset epoch lost c).current }
     ensures second { (c : ControllerState) → (after_second c).current ≡ c.current }
-{}
-
-/// The remainder that a controller reads is the whole word of BANDWIDTH_AVAILABLE.
-pub fn the_remainder_is_the_word()
-    ensures { (w : ℕ) → w < 2 ^ 13 → remainder_of w ≡ w }
 {}

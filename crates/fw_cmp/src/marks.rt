@@ -29,7 +29,7 @@ pub(crate) fn slot_mark(slot: Slot) -> u32 {
     match slot {
         Slot::Free => 0,
         Slot::Making(made, _, _) => connection_mark(made).wrapping_mul(5).wrapping_add(1),
-        Slot::Standing(made, flow) => connection_mark(made)
+        Slot::Established(made, flow) => connection_mark(made)
             .wrapping_mul(5)
             .wrapping_add(2)
             .wrapping_add(flow_mark(flow)),

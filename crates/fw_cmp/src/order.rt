@@ -2,17 +2,18 @@
 //! job, if no reclaim second runs.
 
 ghost use Rattle.std.specs.Prelude.{◌≡◌, ◌<◌, IfSome, length, slice_index_or, position, All};
-ghost use Rattle.fw_cmp.specs.declared.connection.Slot.TheVariants.{Free};
+ghost use Rattle.fw_cmp_jobs.specs.declared.connection.Slot.TheVariants.{Free};
 ghost use Rattle.fw_cmp.specs.declared.current.Current.TheVariants.{Nothing};
 ghost use Rattle.fw_cmp.specs.Controllers.{IsHeard};
-ghost use Rattle.fw_cmp.specs.Known.{NoneToRestore};
+ghost use Rattle.fw_cmp_jobs.specs.Known.{NoneToRestore};
 ghost use Rattle.fw_cmp.specs.Jobs.{picked, can_pick, current_for, is_break};
 
-use crate::{Current, Directory, Slot, Stage, Task, slots};
+use crate::{Current, Directory, Slot, Stage, WaitingJob};
 use arrayvec::ArrayVec;
+use fw_cmp_jobs::slots;
 
 /// The place of the first waiting break.
-fn first_break(waiting: &[Task]) -> Option<usize>
+fn first_break(waiting: &[WaitingJob]) -> Option<usize>
     ensures first { result ≡ position is_break waiting.now }
     ensures within { IfSome result (λ k. k < length waiting.now) }
 {
@@ -38,7 +39,7 @@ pub(crate) fn pick(
     directory: &Directory,
     slots: &[Slot; 32],
     none_restores: &mut bool,
-    waiting: &mut ArrayVec<Task, 8>,
+    waiting: &mut ArrayVec<WaitingJob, 8>,
 ) -> Current
     requires none { NoneToRestore none_restores.old slots.now }
     requires slots { All (λ t. t.slot < 32) waiting.old.items }
@@ -65,7 +66,7 @@ pub(crate) fn can_pick(
     directory: &Directory,
     slots: &[Slot; 32],
     none_restores: bool,
-    waiting: &[Task],
+    waiting: &[WaitingJob],
 ) -> bool
     requires { NoneToRestore none_restores slots.now }
     ensures { result ≡ can_pick now directory.now slots.now waiting.now }

@@ -1,9 +1,9 @@
 //! What a bus reset makes of the current job, and of its slot.
 
 ghost use Rattle.std.specs.Prelude.{◌≡◌, List, []};
-ghost use Rattle.fw_cmp.specs.declared.current.Task.{Task as TaskRecord};
+ghost use Rattle.fw_cmp.specs.declared.current.WaitingJob.{WaitingJob as TaskRecord};
 ghost use Rattle.fw_cmp.specs.Controllers.{ControllerState, CurrentFits};
-ghost use Rattle.fw_cmp.specs.Fits.{JobFits};
+ghost use Rattle.fw_cmp_jobs.specs.Fits.{JobFits};
 ghost use Rattle.fw_cmp.specs.Resets.{current_reset, lost_reset, interrupted};
 
 use crate::{Current, Job, Outcome, Purpose, Slot, Stage};

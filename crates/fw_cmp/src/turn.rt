@@ -1,13 +1,14 @@
 //! A controller's turn: which job it is at, and whether it sends the next request, ends or has nothing to do.
 
 ghost use Rattle.std.specs.Prelude.{◌≡◌, ◌<◌, ◌↔◌, ℕ, IsTrue, IsFalse, IfSome, All, []};
-ghost use Rattle.fw_cmp.specs.Controllers.{Fits, CurrentFits, IsHeard, IsStanding, is_restoring};
-ghost use Rattle.fw_cmp.specs.Fits.{SlotFits};
-ghost use Rattle.fw_cmp.specs.declared.directory.Directory.{Directory as BusDirectory};
+ghost use Rattle.fw_cmp.specs.Controllers.{Fits, CurrentFits, IsHeard, IsStanding};
+ghost use Rattle.fw_cmp_jobs.specs.Slots.{is_restoring};
+ghost use Rattle.fw_cmp_jobs.specs.Fits.{SlotFits};
+ghost use Rattle.fw_cmp_jobs.specs.declared.directory.Directory.{Directory as BusDirectory};
 ghost use Rattle.fw_cmp.specs.Holdings.{CanGoOn, CurrentReached};
 ghost use Rattle.fw_cmp.specs.Causes.{IsAtRest, IsHeldBack};
 ghost use Rattle.fw_cmp.specs.Outcomes.{EndsWithCause};
-ghost use Rattle.fw_cmp.specs.Nodes.{HasNodeNumbers};
+ghost use Rattle.fw_cmp_jobs.specs.Nodes.{HasNodeNumbers};
 ghost use Rattle.fw_cmp.specs.Turns.{addressee_in, slot_after, ended, rests, answer_of, after_answer, next, after_next, is_busy};
 ghost use Rattle.fw_cmp.specs.Jobs.{picked, resumed_current, going};
 ghost use Rattle.fw_cmp.specs.declared.current.Current.TheVariants.{Asking, Nothing};
@@ -15,7 +16,7 @@ ghost use Rattle.fw_cmp.specs.declared.current.Current.TheVariants.{Asking, Noth
 use crate::agenda::Agenda;
 use crate::ask::send;
 use crate::order::{can_pick, pick};
-use crate::work::Work;
+use crate::work::ActiveJob;
 use crate::{Current, Directory, Job, Next, Slot, Stage};
 
 /// The current job goes on from its stage: it begins if it has not, and ends if it restores too late.
@@ -57,7 +58,7 @@ impl Agenda {
         self.answer(now, directory)
     }
 
-    /// Whether a request stands, whose reply is still to be heard.
+    /// Whether a request is outstanding, whose reply is still to be heard.
     pub fn has_request(&self) -> bool
         ensures standing { IsTrue result ↔ IsStanding self.now.current }
         ensures heard { IsFalse result ↔ IsHeard self.now.current }
@@ -65,7 +66,7 @@ impl Agenda {
         self.current.stands()
     }
 
-    /// Whether the controller has something to do: a request stands, or `next` would be neither Idle nor Waiting.
+    /// Whether the controller has something to do: a request is outstanding, or `next` would be neither Idle nor Waiting.
     pub fn busy(&self, now: u64, directory: &Directory) -> bool
         ensures heard { IsHeard self.now.current → result ≡ is_busy (next now directory.now self.now) }
         ensures standing { IsStanding self.now.current → IsTrue result }
@@ -113,7 +114,7 @@ impl Agenda {
             &mut self.none_restores,
             &mut self.waiting,
         );
-        self.current = Work::new(current);
+        self.current = ActiveJob::new(current);
     }
 
     /// The current job goes on from another stage than that at which it stands: it begins, or restores too late.
@@ -139,7 +140,7 @@ impl Agenda {
             return;
         }
         let current = resume(directory, &self.slots, *self.current.unasked());
-        self.current = Work::new(current);
+        self.current = ActiveJob::new(current);
     }
 
     /// The request of the current job, or its outcome.
@@ -175,7 +176,7 @@ impl Agenda {
                     slot: *slot,
                     outcome: *outcome,
                 };
-                self.current = Work::new(Current::Nothing);
+                self.current = ActiveJob::new(Current::Nothing);
                 end
             }
         }
@@ -201,7 +202,7 @@ impl Agenda {
         ensures fits { Fits self.new }
     {
         self.slots[job.slot as usize] = self.slot_after(job, stage);
-        self.current = Work::new(Current::Nothing);
+        self.current = ActiveJob::new(Current::Nothing);
     }
 
     /// What becomes of the slot of a job that ends.
@@ -210,7 +211,7 @@ impl Agenda {
         ensures rests { IsFalse (is_restoring result) }
     {
         match stage {
-            Stage::Made(flow) => Slot::Standing(job.connection, flow),
+            Stage::Made(flow) => Slot::Established(job.connection, flow),
             _ => {
                 if job.restores() && self.break_waits(job.slot) {
                     Slot::Gone(job.connection)

@@ -11,14 +11,14 @@ use std::marker::Model;
 /// What a controller is at. A request that goes out changes a flag alone, and its answer the flag and the stage, so that the job
 /// stays where it is kept.
 #[derive(Drop)]
-pub(crate) struct Work {
-    /// What it is at, told as when no request stands.
+pub(crate) struct ActiveJob {
+    /// What it is at, told as when no request is outstanding.
     current: Current,
     /// The request of the job's stage stands.
     stands: bool,
 }
 
-impl Model for Work {
+impl Model for ActiveJob {
     ghost use Rattle.fw_cmp.specs.declared.current.Current.{Current};
     ghost use Rattle.fw_cmp.specs.Works.{MayStand, shown};
 
@@ -29,18 +29,18 @@ impl Model for Work {
     ghost invariant = { λ w. MayStand w.stands w.current };
 }
 
-impl Work {
+impl ActiveJob {
     /// The controller is at this.
-    pub fn new(current: Current) -> Work
+    pub fn new(current: Current) -> ActiveJob
         ensures { result ≡ current }
     {
         if let Current::Hearing(job, stage) = current {
-            return Work {
+            return ActiveJob {
                 current: Current::Asking(job, stage),
                 stands: true,
             };
         }
-        Work {
+        ActiveJob {
             current,
             stands: false,
         }
@@ -61,13 +61,13 @@ impl Work {
     }
 
     /// Two that are found the same are the same.
-    pub fn is_same(&self, other: &Work) -> bool
+    pub fn is_same(&self, other: &ActiveJob) -> bool
         ensures { IsTrue result → self.now ≡ other.now }
     {
         self.stands == other.stands && same_work(&self.current, &other.current)
     }
 
-    /// Whether a request stands.
+    /// Whether a request is outstanding.
     #[inline(always)]
     pub fn stands(&self) -> bool
         ensures standing { IsTrue result ↔ IsStanding self.now }
@@ -76,7 +76,7 @@ impl Work {
         self.stands
     }
 
-    /// What it is at, if no request stands.
+    /// What it is at, if no request is outstanding.
     #[inline(always)]
     pub fn unasked(&self) -> &Current
         requires { IsHeard self.now }
@@ -101,7 +101,7 @@ impl Work {
         self.stands = true;
     }
 
-    /// Hears the reply to the request that stands.
+    /// Hears the reply to the outstanding request.
     #[inline(always)]
     pub fn hear(&mut self, r: &Reply)
         requires stands { IsStanding self.old }

@@ -4,7 +4,7 @@ use Rattle.std.proofs.lemmas.Nat.{from_be_bytes-to_be_bytes_4}
 use Rattle.fw_words.specs.Quadlet.{quadlet_at}
 use Rattle.fw_words.specs.declared.swap.Swap.{Swap}
 use Rattle.fw_words.specs.Swaps.{quadlet_swap, swap_bytes}
-use Rattle.fw_csr.specs.declared.register.Register.TheVariants.{ReadSwap}
+use Rattle.fw_csr.specs.declared.register.RegisterAccess.TheVariants.{ReadSwap}
 use Rattle.fw_csr.specs.declared.request.Request.{Request}
 use Rattle.fw_csr.specs.declared.request.Request.TheVariants.{Read, ReadBlock, Write, WriteBlock, Lock}
 use Rattle.fw_csr.specs.Replies.{complete, reply_at, swap_reply}

@@ -4,8 +4,8 @@ use Rattle.fw_csr.specs.declared.offset.TheConstants.{BUS_MANAGER_ID, BANDWIDTH_
 use Rattle.fw_csr.specs.Requests.{offset_of}
 use Rattle.fw_csr.specs.Replies.{word_after}
 use Rattle.fw_csr.specs.declared.request.Request.{Request}
-use Rattle.fw_csr.specs.declared.register.Register.{Register}
-use Rattle.fw_csr.specs.declared.register.Register.TheVariants.{ReadSwap}
+use Rattle.fw_csr.specs.declared.register.RegisterAccess.{RegisterAccess}
+use Rattle.fw_csr.specs.declared.register.RegisterAccess.TheVariants.{ReadSwap}
 
 -- the words of the manager's registers
 pub record ManagerWords : Type 0 where
@@ -27,7 +27,7 @@ initial_words withheld = record {
 }
 
 -- each can be read and swapped
-abbrev pub register_at : ManagerWords → ℕ → Option Register
+abbrev pub register_at : ManagerWords → ℕ → Option RegisterAccess
 register_at m offset =
     if offset == BUS_MANAGER_ID then Some (ReadSwap m.bus_manager_id)
     else if offset == BANDWIDTH_AVAILABLE then Some (ReadSwap m.bandwidth_available)

@@ -6,8 +6,8 @@ use Rattle.fw_csr.specs.declared.request.Request.{Request}
 use Rattle.fw_csr.specs.declared.request.Request.TheVariants.{Read, Write, WriteBlock, Lock}
 use Rattle.fw_words.specs.declared.swap.Swap.{Swap}
 use Rattle.fw_csr.specs.declared.reply.Reply.{Reply}
-use Rattle.fw_csr.specs.declared.register.Register.{Register}
-use Rattle.fw_csr.specs.declared.register.Register.TheVariants.{ReadOnly, ReadSwap, WriteOnly}
+use Rattle.fw_csr.specs.declared.register.RegisterAccess.{RegisterAccess}
+use Rattle.fw_csr.specs.declared.register.RegisterAccess.TheVariants.{ReadOnly, ReadSwap, WriteOnly}
 
 -- resp_complete, with the word of the register
 abbrev pub complete : ℕ → Reply
@@ -27,7 +27,7 @@ swap_reply word None = type_error
 swap_reply word (Some swap) = complete word
 
 -- what is allowed at a register
-abbrev pub reply_at : Register → Request → Reply
+abbrev pub reply_at : RegisterAccess → Request → Reply
 reply_at (ReadOnly word) (Read offset) = complete word
 reply_at (ReadSwap word) (Read offset) = complete word
 reply_at (ReadSwap word) (Lock offset function bytes) = swap_reply word (quadlet_swap function bytes)
@@ -36,7 +36,7 @@ reply_at WriteOnly (WriteBlock offset bytes) = complete 0
 reply_at _ _ = type_error
 
 -- an offset without a register comes first, then a kind of request that is not allowed
-abbrev pub reply : Option Register → Request → Reply
+abbrev pub reply : Option RegisterAccess → Request → Reply
 reply None r = address_error
 reply (Some register) r = reply_at register r
 

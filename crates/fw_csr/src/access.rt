@@ -1,7 +1,7 @@
 ghost use Rattle.std.specs.Prelude.{◌≡◌};
 ghost use Rattle.fw_csr.specs.Requests.{request_at};
 
-use crate::{Register, RegisterRequest, Reply};
+use crate::{RegisterAccess, RegisterRequest, Reply};
 use fw_words::Swap;
 use std::marker::Model;
 
@@ -55,10 +55,11 @@ impl RegisterRequest for QuadletAccess {
     }
 
     #[tactic(auto, using(crate::proofs::SwapLaws::same_swap))]
-    fn reply_at(&self, register: Register) -> Reply {
+    fn reply_at(&self, register: RegisterAccess) -> Reply {
         match (register, self.swap) {
-            (Register::ReadOnly(word) | Register::ReadSwap(word), None) => Reply::complete(word),
-            (Register::ReadSwap(word), Some(_)) => Reply::complete(word),
+            (RegisterAccess::ReadOnly(word) | RegisterAccess::ReadSwap(word), None) =>
+                Reply::complete(word),
+            (RegisterAccess::ReadSwap(word), Some(_)) => Reply::complete(word),
             _ => Reply::type_error(),
         }
     }

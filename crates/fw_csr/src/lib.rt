@@ -20,7 +20,7 @@ pub use offset::{
     BANDWIDTH_AVAILABLE, BUS_MANAGER_ID, CHANNELS_AVAILABLE_HI, CHANNELS_AVAILABLE_LO,
     REGISTER_SPACE,
 };
-pub use register::Register;
+pub use register::RegisterAccess;
 pub use reply::{Reply, ResponseCode};
 pub use request::{RegisterRequest, Request};
 pub use time::{CYCLES_PER_SECOND, SPLIT_TIMEOUT};

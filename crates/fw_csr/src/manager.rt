@@ -6,7 +6,7 @@ ghost use Rattle.fw_csr.specs.Manager.{initial_words, register_at, words_after};
 use crate::offset::{
     BANDWIDTH_AVAILABLE, BUS_MANAGER_ID, CHANNELS_AVAILABLE_HI, CHANNELS_AVAILABLE_LO,
 };
-use crate::{Register, RegisterRequest, Reply, Word};
+use crate::{RegisterAccess, RegisterRequest, Reply, Word};
 use std::marker::Model;
 
 /// BUS_MANAGER_ID while there is no bus manager (IEEE 1394-1995, 8.3.2.3.6).
@@ -94,7 +94,7 @@ impl Manager {
     }
 
     /// The register at an offset, if it is one of the four.
-    pub fn register(&self, offset: u64) -> Option<Register>
+    pub fn register(&self, offset: u64) -> Option<RegisterAccess>
         ensures { result ≡ register_at self.now offset }
     {
         let word = match offset {
@@ -104,7 +104,7 @@ impl Manager {
             CHANNELS_AVAILABLE_LO => self.channels_available_lo,
             _ => return None,
         };
-        Some(Register::ReadSwap(word.get()))
+        Some(RegisterAccess::ReadSwap(word.get()))
     }
 
     /// BUS_MANAGER_ID, BANDWIDTH_AVAILABLE, CHANNELS_AVAILABLE_HI and CHANNELS_AVAILABLE_LO.

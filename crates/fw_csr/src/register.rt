@@ -1,6 +1,6 @@
 /// What stands at an offset: its word, and which requests are allowed there.
 #[derive(Clone, Copy)]
-pub enum Register {
+pub enum RegisterAccess {
     /// A word that can only be read.
     ReadOnly(u32),
     /// A word that can be read, and changed by a quadlet compare_swap.

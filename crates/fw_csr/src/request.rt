@@ -2,7 +2,7 @@ ghost use Rattle.std.specs.Prelude.{◌≡◌};
 ghost use Rattle.fw_csr.specs.Replies.{reply_at};
 ghost use Rattle.fw_csr.specs.Requests.{offset_of, swap_in};
 
-use crate::{Register, Reply};
+use crate::{RegisterAccess, Reply};
 use fw_words::{Bytes16, Data, Swap};
 
 /// What is asked of a register, in whatever form it stands.
@@ -21,7 +21,7 @@ pub trait RegisterRequest {
         ensures { result ≡ swap_in (request self.now) };
 
     /// The reply to it at a register.
-    fn reply_at(&self, register: Register) -> Reply
+    fn reply_at(&self, register: RegisterAccess) -> Reply
         ensures { result ≡ reply_at register (request self.now) };
 }
 
@@ -80,15 +80,16 @@ impl<'a> RegisterRequest for Request<'a> {
         }
     }
 
-    fn reply_at(&self, register: Register) -> Reply {
+    fn reply_at(&self, register: RegisterAccess) -> Reply {
         match (register, self) {
-            (Register::ReadOnly(word) | Register::ReadSwap(word), Request::Read { .. }) => {
+            (
+                RegisterAccess::ReadOnly(word) | RegisterAccess::ReadSwap(word),
+                Request::Read { .. },
+            ) => { Reply::complete(word) }
+            (RegisterAccess::ReadSwap(word), Request::Lock { .. }) if self.swap().is_some() => {
                 Reply::complete(word)
             }
-            (Register::ReadSwap(word), Request::Lock { .. }) if self.swap().is_some() => {
-                Reply::complete(word)
-            }
-            (Register::WriteOnly, Request::Write { .. } | Request::WriteBlock { .. }) => {
+            (RegisterAccess::WriteOnly, Request::Write { .. } | Request::WriteBlock { .. }) => {
                 Reply::complete(0)
             }
             _ => Reply::type_error(),

@@ -1,8 +1,8 @@
 ghost use Rattle.std.specs.Prelude.{◌≡◌, ◌≢◌};
-ghost use Rattle.fw_csr.specs.declared.register.Register.TheVariants.{ReadSwap};
+ghost use Rattle.fw_csr.specs.declared.register.RegisterAccess.TheVariants.{ReadSwap};
 ghost use Rattle.fw_csr.specs.Replies.{reply_at, word_after};
 
-use crate::{Register, RegisterRequest, Reply};
+use crate::{RegisterAccess, RegisterRequest, Reply};
 use std::marker::Model;
 
 /// A register that can be read, and changed by a quadlet compare_swap alone (IEEE 1394-1995, compare_swap).
@@ -65,7 +65,7 @@ impl Word {
     {
         match r.swap() {
             Some(swap) => Reply::complete(self.lock(swap.argument, swap.new)),
-            None => r.reply_at(Register::ReadSwap(self.value)),
+            None => r.reply_at(RegisterAccess::ReadSwap(self.value)),
         }
     }
 }

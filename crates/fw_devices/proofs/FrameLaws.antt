@@ -9,7 +9,7 @@ use Rattle.fw_devices.specs.Frames.{IsOf, nodes_at}
 use Rattle.fw_devices.specs.Kept.{IsKept}
 use Rattle.fw_devices.proofs.NetworkLaws.{kind_of_node}
 
--- the kinds stay where a node takes the place of one of its kind
+-- the kinds stay if a node takes the place of one of its kind
 pub kinds_set : (nodes : List NodeState) (place : ℕ) (x y : NodeState) → y ≡ node_at nodes place → x.kind ≡ y.kind → kinds_of (slice_set nodes place x) ≡ kinds_of nodes
 kinds_set nodes place x y is same =
     map-set kind_of nodes place x ∙ (ap (set (kinds_of nodes) place) (same ∙ (ap kind_of is ∙ sym (kind_of_node nodes place))) ∙ set-get_or (kinds_of nodes) place Relay)

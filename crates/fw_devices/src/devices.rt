@@ -94,7 +94,7 @@ impl Devices {
         self.cabling.ports(device)
     }
 
-    /// The other end of the cable at a port. None if no cable is, and where there is no such port.
+    /// The other end of the cable at a port. None if there is no cable, or no such port.
     pub fn peer(&self, end: End) -> Option<End>
         ensures { result ≡ peer self.now.topology.cables end.device end.port }
     {

@@ -5,5 +5,5 @@ pub mod UnknownLaws
 pub mod Numbers
 pub mod PastForms
 pub mod KeyForms
-pub mod BehindForms
+pub mod AfterForms
 pub mod SinceLaws

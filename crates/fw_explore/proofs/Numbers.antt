@@ -8,7 +8,7 @@ use Rattle.fw_order.specs.declared.rule.RuleFault.{RuleFault}
 use Rattle.fw_explore_movers.specs.declared.mover.Explored.{Explored}
 use Rattle.fw_explore_movers.specs.declared.mover.MoverKind.TheVariants.{Once}
 use Rattle.fw_explore_movers.specs.Explored.{IsMover}
-use Rattle.fw_explore_told.specs.declared.past.Told.{Told}
+use Rattle.fw_explore_told.specs.declared.past.ToldEntry.{ToldEntry}
 use Rattle.fw_explore_meaning.specs.Finishing.{Writes, WritesMore}
 use Rattle.fw_explore_meaning.specs.Pasts.{LeadsAt}
 use Rattle.fw_explore_meaning.specs.Steps.{IsNext, IsPlaced, IsThere, past_in}
@@ -75,11 +75,11 @@ module _ (D : DeskRelations) (script : List Command) (x : Explored) (pasts : Lis
 
 -- ---- histories
 
-abbrev made : List Bool → List Told → History
+abbrev made : List Bool → List ToldEntry → History
 made done said = record { done = done; said = said }
 
-pub history_by : (h past : History) (more : List Told) → h.done ≡ past.done → h.said ≡ past.said ++ more → h ≡ record { done = past.done; said = past.said ++ more }
-history_by h past more e f = ap (λ (d : List Bool). made d h.said) e ∙ ap (λ (s : List Told). made past.done s) f
+pub history_by : (h past : History) (more : List ToldEntry) → h.done ≡ past.done → h.said ≡ past.said ++ more → h ≡ record { done = past.done; said = past.said ++ more }
+history_by h past more e f = ap (λ (d : List Bool). made d h.said) e ∙ ap (λ (s : List ToldEntry). made past.done s) f
 
 -- ---- what is kept
 

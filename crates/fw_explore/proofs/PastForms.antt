@@ -9,7 +9,7 @@ use Rattle.fw_kept_parts.specs.declared.full.Full.{Full}
 use Rattle.fw_kept_parts.specs.Tables.{Keeps}
 use Rattle.fw_explore_movers.specs.declared.mover.MoverKind.{MoverKind}
 use Rattle.fw_explore_movers.specs.declared.mover.MoverKind.TheVariants.{HalfSteps}
-use Rattle.fw_explore_told.specs.declared.past.Told.{Told}
+use Rattle.fw_explore_told.specs.declared.past.ToldEntry.{ToldEntry}
 use Rattle.fw_explore_told.specs.Histories.{told_entries}
 use Rattle.fw_explore_meaning.specs.Steps.{history_after}
 use Rattle.fw_explore.specs.Arriving.{IsPastAfter, IsSame}
@@ -18,7 +18,7 @@ use Rattle.fw_explore.proofs.Numbers.{history_by}
 -- a history with what was written, of which nothing is told
 still : (past : History) (out : List Timed) (kind : MoverKind) (p : ℕ) → kind ≡ HalfSteps → told_entries out ≡ [] → past ≡ history_after kind p out past
 still past out kind p half none = subst (λ k. past ≡ history_after k p out past) (sym half)
-    (history_by past past (told_entries out) refl (sym (append-nil past.said) ∙ ap (λ (z : List Told). past.said ++ z) (sym none)))
+    (history_by past past (told_entries out) refl (sym (append-nil past.said) ∙ ap (λ (z : List ToldEntry). past.said ++ z) (sym none)))
 
 -- it is one that was kept before
 pub after_none : (old : List History) (here : ℕ) (written : List ℕ) (kind : MoverKind) (p n : ℕ) (past : History) → Had old here past → n ≡ here → kind ≡ HalfSteps

@@ -15,7 +15,7 @@ abbrev pub MoversKnown : List (List ℕ) → Explored → ℕ → Type 0
 MoversKnown names x i = (k : ℕ) (d : Mover) → k < i → IsTrue (names_known names (get_or x.movers.items k d).command)
 
 abbrev pub LinesKnown : List (List ℕ) → Explored → ℕ → Type 0
-LinesKnown names x i = (k : ℕ) (d : Line) → k < i → IsTrue (names_known names (get_or x.behind.items k d).command)
+LinesKnown names x i = (k : ℕ) (d : Line) → k < i → IsTrue (names_known names (get_or x.following.items k d).command)
 
 pub movers_more : (names : List (List ℕ)) (x : Explored) (i : ℕ) → MoversKnown names x i → (m : Mover) → i < length x.movers.items → m ≡ get_or x.movers.items i m
     → IsTrue (names_known names m.command) → MoversKnown names x (i + 1)
@@ -25,11 +25,11 @@ movers_more names x i known m less is t k d below = elim (cases_eq k i) [
   | inr other ↦ known k d (omega (arith, below, other))
 ]
 
-pub lines_more : (names : List (List ℕ)) (x : Explored) (i : ℕ) → LinesKnown names x i → (l : Line) → i < length x.behind.items → l ≡ get_or x.behind.items i l
+pub lines_more : (names : List (List ℕ)) (x : Explored) (i : ℕ) → LinesKnown names x i → (l : Line) → i < length x.following.items → l ≡ get_or x.following.items i l
     → IsTrue (names_known names l.command) → LinesKnown names x (i + 1)
 lines_more names x i known l less is t k d below = elim (cases_eq k i) [
-  | inl same ↦ subst (λ j. IsTrue (names_known names (get_or x.behind.items j d).command)) (sym same)
-      (subst (λ (z : Line). IsTrue (names_known names z.command)) (is ∙ get_or_default x.behind.items i l d less) t)
+  | inl same ↦ subst (λ j. IsTrue (names_known names (get_or x.following.items j d).command)) (sym same)
+      (subst (λ (z : Line). IsTrue (names_known names z.command)) (is ∙ get_or_default x.following.items i l d less) t)
   | inr other ↦ known k d (omega (arith, below, other))
 ]
 
@@ -37,7 +37,7 @@ module _ (names : List (List ℕ)) (x : Explored) (s : State) (named : names ≡
   know : (c : Command) → IsTrue (names_known names c) → IsTrue (is_known s c)
   know c t = subst (λ ns. IsTrue (names_known ns c)) named t
 
-  pub all_known : MoversKnown names x (length x.movers.items) → LinesKnown names x (length x.behind.items) → AllKnown x s
+  pub all_known : MoversKnown names x (length x.movers.items) → LinesKnown names x (length x.following.items) → AllKnown x s
   all_known movers lines n c (inl w) = let at = w.1 in know c (subst (λ z. IsTrue (names_known names z)) (ap (λ (m : Mover). m.command) at.2 ∙ w.3) (movers at.0 w.0 at.1))
   all_known movers lines n c (inr w) = let at = w.1 in know c (subst (λ z. IsTrue (names_known names z)) (ap (λ (l : Line). l.command) at.2 ∙ w.3) (lines at.0 w.0 at.1))
 
@@ -57,16 +57,16 @@ module _ (names : List (List ℕ)) (x : Explored) (s : State) (named : names ≡
       ]
     ]
 
-    line_below : (i k : ℕ) (m o : Line) → i < length x.behind.items → m ≡ get_or x.behind.items i m → k < length x.behind.items → get_or x.behind.items k o ≡ o → o.word < m.word → k < i
+    line_below : (i k : ℕ) (m o : Line) → i < length x.following.items → m ≡ get_or x.following.items i m → k < length x.following.items → get_or x.following.items k o ≡ o → o.word < m.word → k < i
     line_below i k m o less is within at word = elim (cases_lt k i) [
       | inl below ↦ below
       | inr ge ↦ elim (cases_eq i k) [
         | inl here ↦
-            let same : o ≡ m = sym at ∙ ap (λ j. get_or x.behind.items j o) (sym here) ∙ get_or_default x.behind.items i o m less ∙ sym is in
+            let same : o ≡ m = sym at ∙ ap (λ j. get_or x.following.items j o) (sym here) ∙ get_or_default x.following.items i o m less ∙ sym is in
             let words = ap (λ (z : Line). z.word) same in absurd (omega (arith, word, words))
         | inr n ↦
             let after = order.lines i k o (omega (arith, ge, n)) within in
-            let first = ap (λ (z : Line). z.word) (get_or_default x.behind.items i o m less ∙ sym is) in
+            let first = ap (λ (z : Line). z.word) (get_or_default x.following.items i o m less ∙ sym is) in
             let last = ap (λ (z : Line). z.word) at in absurd (omega (arith, word, after, first, last))
       ]
     ]
@@ -94,7 +94,7 @@ module _ (names : List (List ℕ)) (x : Explored) (s : State) (named : names ≡
             let last = ap (λ (z : Line). z.word) at.2 ∙ w.2 in absurd (omega (arith, sooner, after, first, last))
 
     -- or of the lines after them
-    pub line_unknown : (i : ℕ) (l : Line) → i < length x.behind.items → l ≡ get_or x.behind.items i l → IsFalse (names_known names l.command) → MoversKnown names x (length x.movers.items)
+    pub line_unknown : (i : ℕ) (l : Line) → i < length x.following.items → l ≡ get_or x.following.items i l → IsFalse (names_known names l.command) → MoversKnown names x (length x.movers.items)
         → LinesKnown names x i → IsFirstUnknown x s (record { word = l.word; why = UnknownName })
     line_unknown i l less is unknown movers lines = record {
       why = refl;

@@ -1,10 +1,10 @@
 -- How the word ends, by how the script's run and the walk over its interleavings did.
 use Rattle.fw_explore.proofs.Common.{ℕ, ◌≡◌, List, [], ◌∷◌, Option, Some, None, refl, sym, ap, subst, ◌∙◌, Timed, Command, Machine, StandsFor, DeskRelations, IsFunction, State, History, Had, IsGoing}
-use Rattle.fw_outside.specs.Outside.{Grows, AppendsFront}
+use Rattle.fw_outside.specs.Outside.{Grows, AppendsPrefix}
 use Rattle.fw_outside.specs.Stops.{ReadCount, WriteCount}
 use Rattle.fw_outside.specs.declared.stop.Stop.{Stop}
 use Rattle.fw_outside.specs.declared.stop.Stop.TheVariants as Stops
-use Rattle.fw_bus.specs.Buses.{Standing}
+use Rattle.fw_bus.specs.Buses.{BusView}
 use Rattle.fw_script_words.specs.Dubs.{HasRecorded, Recorded}
 use Rattle.fw_script_words.specs.declared.ending.RunEnding.TheVariants as Runs
 use Rattle.fw_explore_movers.specs.declared.mover.Explored.{Explored}
@@ -24,13 +24,13 @@ use Rattle.fw_explore.specs.declared.fault.ExploreEnding.TheVariants.{Done, Unkn
 
 -- ---- the script stopped
 
-pub stopped : (D : DeskRelations) (x : Explored) (left left' : Option (List ℕ)) (bus : Standing) (stop : Stop) → Recorded D left left' bus (Runs.Stopped stop) → Fails D x left left' (Stopped stop)
+pub stopped : (D : DeskRelations) (x : Explored) (left left' : Option (List ℕ)) (bus : BusView) (stop : Stop) → Recorded D left left' bus (Runs.Stopped stop) → Fails D x left left' (Stopped stop)
 stopped D x left left' bus Stops.ReadFault r = r
 stopped D x left left' bus Stops.WriteFault r = absurd r
 stopped D x left left' bus Stops.TooLong r = r
 stopped D x left left' bus Stops.NoMemory r = tt
 
-module _ (D : DeskRelations) (x : Explored) (left left' : Option (List ℕ)) (bus : Standing) (r : HasRecorded D left left' bus) where
+module _ (D : DeskRelations) (x : Explored) (left left' : Option (List ℕ)) (bus : BusView) (r : HasRecorded D left left' bus) where
   -- a name is not declared
   pub unknown_named : (fault : WordFault) → ((s : State) → StandsFor bus.machine s → IsFirstUnknown x s fault) → Fails D x left left' (Unknown fault)
   unknown_named fault first = let c = stands_carried D left left' bus r in (c.carried, first c.carried.state c.stands)

@@ -1,7 +1,7 @@
 -- What each ending of a call of `explore` says of the source and of what was written.
 use Rattle.std.specs.Prelude.{ℕ, ◌≡◌, ◌<◌, ◌⊎◌, List, [], ◌∷◌, ◌++◌, Bool, true, IsTrue, IsFalse, Option, Some, None, is_some, ⊤}
 use Rattle.std.specs.List.{Contains, list_all}
-use Rattle.fw_outside.specs.Outside.{Takes, Grows, IsAtEnd, AppendsFront}
+use Rattle.fw_outside.specs.Outside.{Takes, Grows, IsAtEnd, AppendsPrefix}
 use Rattle.fw_outside.specs.declared.stop.Stop.{Stop}
 use Rattle.fw_outside.specs.declared.stop.Stop.TheVariants as Stops
 use Rattle.fw_log_entry.specs.declared.entry.Timed.{Timed}
@@ -62,7 +62,7 @@ is_known s c = names_known s.declared.names c
 
 -- what a word stands for, a mover or a line after them, is of this number and of this command
 abbrev pub IsWord : Explored → ℕ → Command → Type 0
-IsWord x n c = ((m : Mover) × Contains x.movers.items m × (m.word ≡ n) × (m.command ≡ c)) ⊎ ((l : Line) × Contains x.behind.items l × (l.word ≡ n) × (l.command ≡ c))
+IsWord x n c = ((m : Mover) × Contains x.movers.items m × (m.word ≡ n) × (m.command ≡ c)) ⊎ ((l : Line) × Contains x.following.items l × (l.word ≡ n) × (l.command ≡ c))
 
 abbrev pub AllKnown : Explored → State → Type 0
 AllKnown x s = (n : ℕ) (c : Command) → IsWord x n c → IsTrue (is_known s c)
@@ -101,7 +101,7 @@ pub record HasTold (D : DeskRelations) (x : Explored) (left left' held held' : O
 pub record PartTold (D : DeskRelations) (x : Explored) (left left' held held' : Option (List ℕ)) : Type 0 where
   pub text : List ℕ
   pub explored : HasExplored D x left left' text
-  pub grew : AppendsFront held held' text
+  pub grew : AppendsPrefix held held' text
 
 -- ---- the ending
 
@@ -130,7 +130,7 @@ Fails D x left left' (Stopped Stops.TooLong) = InMemory (PassesScriptLimit D lef
 Fails D x left left' (Stopped Stops.WriteFault) = ⊥
 Fails D x left left' (Stopped Stops.NoMemory) = ⊤
 
--- Nothing is told by halves: but if all was written, and where the sink failed, nothing was.
+-- Nothing is told by halves: but if all was written, and if the sink failed, nothing was.
 abbrev pub Tells : DeskRelations → Explored → Option (List ℕ) → Option (List ℕ) → Option (List ℕ) → Option (List ℕ) → ExploreEnding → Type 0
 Tells D x left left' held held' Done = HasTold D x left left' held held'
 Tells D x left left' held held' (Stopped Stops.WriteFault) = PartTold D x left left' held held'

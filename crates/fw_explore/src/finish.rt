@@ -10,8 +10,8 @@ ghost use Rattle.fw_tape.specs.Desks.{AnyBlock, AnyVendorByte};
 ghost use Rattle.fw_explore_movers.specs.declared.mover.Line.{Line as ALine};
 ghost use Rattle.fw_explore_told.specs.Sayings.{said_all, unmarked_from};
 ghost use Rattle.fw_explore_meaning.specs.Endings.{refusal_of};
-ghost use Rattle.fw_explore_meaning.specs.Finishing.{CarriedBehind, IsFinished};
-ghost use Rattle.fw_explore_meaning.specs.Moves.{Behind};
+ghost use Rattle.fw_explore_meaning.specs.Finishing.{CarriedAfter, IsFinished};
+ghost use Rattle.fw_explore_meaning.specs.Moves.{Subsequent};
 ghost use Rattle.fw_explore_meaning.specs.Pasts.{LeadsAt};
 ghost use Rattle.fw_explore_meaning.specs.Steps.{Had, IsExplored, IsPlaced};
 
@@ -53,9 +53,9 @@ fn put_line(out: &mut Vec<u8>, line: &Line) -> Result<(), AllocError>
 
 impl<P: Keeper> Walker<P> {
     // Carries out the lines after an interleaving, where the bus is.
-    fn carry_behind<F: Fn(u16, u32, u16) -> [u8; 480], H: Fn(u32, u8) -> u8>(
+    fn carry_after<F: Fn(u16, u32, u16) -> [u8; 480], H: Fn(u32, u8) -> u8>(
         &mut self,
-        behind: &[Line],
+        following: &[Line],
         past: &mut Past,
         refused: &mut Vec<u8>,
         lines: &mut Vec<u8>,
@@ -63,17 +63,17 @@ impl<P: Keeper> Walker<P> {
     ) -> Result<(), Full>
         requires blocks { AnyBlock (F.pre desk.now.blocks) }
         requires desk { AnyVendorByte (H.pre desk.now.vendor) }
-        requires behind { All (λ l. IsCommand l.command) behind.now }
+        requires following { All (λ l. IsCommand l.command) following.now }
         requires fresh { IsFalse self.old.kept.bus.spent }
         ensures carried { (script commands : List ACommand) (out : List TimedEntry) (s : State)
-            → Behind (record { blocks = F.post desk.now.blocks; vendor = H.post desk.now.vendor }) script commands out s → StandsFor self.old.kept.bus.machine s
-            → IfOk result (λ u. CarriedBehind (record { blocks = F.post desk.now.blocks; vendor = H.post desk.now.vendor }) script commands behind.now past.old past.new
+            → Subsequent (record { blocks = F.post desk.now.blocks; vendor = H.post desk.now.vendor }) script commands out s → StandsFor self.old.kept.bus.machine s
+            → IfOk result (λ u. CarriedAfter (record { blocks = F.post desk.now.blocks; vendor = H.post desk.now.vendor }) script commands following.now past.old past.new
             refused.old.items refused.new.items lines.old.items lines.new.items) }
         ensures pasts { self.new.pasts ≡ self.old.pasts }
         ensures places { self.new.kept.places ≡ self.old.kept.places }
         ensures here { self.new.here ≡ self.old.here }
     {
-        for line in behind {
+        for line in following {
             match self.kept.carry(&mut self.sink, &line.command, desk)? {
                 None => {
                     past.tell(self.sink.as_slice())?;
@@ -106,8 +106,8 @@ impl<P: Keeper> Walker<P> {
         self.kept.give_back(&self.here[2..])?;
         let mut refused = Vec::new(self.alloc);
         let mut lines = Vec::new(self.alloc);
-        let behind = explored.behind.as_slice();
-        self.carry_behind(behind, &mut past, &mut refused, &mut lines, desk)?;
+        let following = explored.following.as_slice();
+        self.carry_after(following, &mut past, &mut refused, &mut lines, desk)?;
         let ending = self.ending_of(explored, &past, refused.as_slice())?;
         Ok(Finish { ending, lines })
     }

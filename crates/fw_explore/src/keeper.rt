@@ -13,14 +13,15 @@ use fw_kept_parts::Full;
 pub trait Keeper: Drop {
     ghost Kept: { Self → List ℕ → Machine → Type 0 };
 
-    /// Keeps what a bus has, under numbers that come in place of what `out` has. `near` are those of a bus that is mostly the same, or none.
+    /// Keeps what a bus has, under numbers that come in place of what `out` has. `near` are those of a bus that is mostly the same, or
+    /// none.
     fn keep(&mut self, bus: &Bus, near: &[u32], out: &mut Vec<u32>) -> Result<(), Full>
         requires { IsFalse bus.now.spent }
         ensures place { OnOk result (Kept self.new out.new.items bus.now.machine) }
         ensures wider { OnOk result ((words : List ℕ) (m : Machine) → Kept self.old words m → Kept self.new words m) };
 
     /// Keeps, as `keep`, a bus that is one half step of a device's controller after one that was kept under `now`. If that controller asks,
-    /// no request of it stood before.
+    /// no request of it was outstanding before.
     fn keep_half(
         &mut self,
         bus: &Bus,

@@ -14,7 +14,7 @@ use std::marker::Model;
 use std::mem;
 
 /// A bus, what keeps it, and the numbers under which it was kept last, or to which it was given back. Where nothing was carried out since,
-/// only what differs from there is given back; where one half step was, only what that may have changed is looked at as it is kept.
+/// only what differs from there is given back; if one half step was, only what that may have changed is looked at as it is kept.
 #[derive(Drop)]
 pub(crate) struct KeptBus<P: Keeper> {
     pub(crate) bus: Bus,

@@ -43,7 +43,7 @@ pub(crate) fn first_unknown(explored: &Explored, machine: &Machine) -> Option<Wo
             });
         }
     }
-    for line in &explored.behind {
+    for line in &explored.following {
         if !is_known(machine, &line.command) {
             return Some(WordFault {
                 word: line.word,

@@ -9,12 +9,12 @@ use Rattle.std.specs.Option.{option_copied}
 use Rattle.std.specs.Slice.{IsItemAt}
 use Rattle.fw_explore_movers.specs.declared.mover.Explored.{Explored}
 use Rattle.fw_explore_movers.specs.declared.mover.Mover.{Mover}
-use Rattle.fw_explore_endings.specs.Texts.{run_text, takes_half_steps, goes_on, moves_behind, moves_text}
+use Rattle.fw_explore_endings.specs.Texts.{run_text, takes_half_steps, goes_on, moves_following, moves_text}
 
 -- what is still to be told, if so many half steps of its first mover came before
 unfoldable pub pending : Explored → ℕ → List ℕ → List ℕ
 pending x c [] = []
-pending x c (p ∷ w) = moves_behind x p (c + 1) w
+pending x c (p ∷ w) = moves_following x p (c + 1) w
 
 pub pending_first : (x : Explored) (w : List ℕ) → pending x 0 w ≡ moves_text x w
 unfolding pending
@@ -31,26 +31,26 @@ both_left false b e = absurd (false≢true e)
 
 -- the move is told with the next
 pub pending_on : (x : Explored) (c p : ℕ) (w : List ℕ) → goes_on (slice_get x.movers.items p) p (slice_get w 0) ≡ true → pending x c (p ∷ w) ≡ pending x (c + 1) w
-unfolding pending moves_behind
+unfolding pending moves_following
 pending_on x c p [] e = absurd (false≢true e)
 pending_on x c p (q ∷ w) e =
     let same : p ≡ q = (Decides-eqb p q).0 (both_left (p == q) (takes_half_steps (slice_get x.movers.items p)) e) in
-    ap (λ b. if b then moves_behind x p (c + 1 + 1) w else run_text (slice_get x.movers.items p) (c + 1) ++ moves_behind x q 1 w) e ∙ ap (λ z. moves_behind x z (c + 1 + 1) w) same
+    ap (λ b. if b then moves_following x p (c + 1 + 1) w else run_text (slice_get x.movers.items p) (c + 1) ++ moves_following x q 1 w) e ∙ ap (λ z. moves_following x z (c + 1 + 1) w) same
 
 -- or it is the last of its line
 pub pending_last : (x : Explored) (c p : ℕ) (w : List ℕ) → goes_on (slice_get x.movers.items p) p (slice_get w 0) ≡ false
     → pending x c (p ∷ w) ≡ run_text (slice_get x.movers.items p) (c + 1) ++ pending x 0 w
-unfolding pending moves_behind
+unfolding pending moves_following
 pending_last x c p [] e = sym (append-nil (run_text (slice_get x.movers.items p) (c + 1)))
-pending_last x c p (q ∷ w) e = ap (λ b. if b then moves_behind x p (c + 1 + 1) w else run_text (slice_get x.movers.items p) (c + 1) ++ moves_behind x q 1 w) e
+pending_last x c p (q ∷ w) e = ap (λ b. if b then moves_following x p (c + 1 + 1) w else run_text (slice_get x.movers.items p) (c + 1) ++ moves_following x q 1 w) e
 
 -- ---- in a loop over the moves, if `all` is what is told in the end
 
-front_of_drop : (n : ℕ) (w : List ℕ) → slice_get (drop n w) 0 ≡ slice_get w n
-front_of_drop zero [] = refl
-front_of_drop zero (p ∷ w) = refl
-front_of_drop (suc n) [] = refl
-front_of_drop (suc n) (p ∷ w) = front_of_drop n w
+prefix_of_drop : (n : ℕ) (w : List ℕ) → slice_get (drop n w) 0 ≡ slice_get w n
+prefix_of_drop zero [] = refl
+prefix_of_drop zero (p ∷ w) = refl
+prefix_of_drop (suc n) [] = refl
+prefix_of_drop (suc n) (p ∷ w) = prefix_of_drop n w
 
 never_and : (b : Bool) → (b && false) ≡ false
 never_and true = refl
@@ -66,7 +66,7 @@ module _ (x : Explored) (moves : List ℕ) (at c p : ℕ) (out all : List ℕ) (
   split = at_drop_more (pending x c) moves at 0 within ∙ ap (λ (q : ℕ). pending x c (q ∷ drop (at + 1) moves)) (sym is)
 
   next : goes_on (slice_get x.movers.items p) p (slice_get (drop (at + 1) moves) 0) ≡ goes_on (slice_get x.movers.items p) p (slice_get moves (at + 1))
-  next = ap (goes_on (slice_get x.movers.items p) p) (front_of_drop (at + 1) moves)
+  next = ap (goes_on (slice_get x.movers.items p) p) (prefix_of_drop (at + 1) moves)
 
   pub move_on : goes_on (slice_get x.movers.items p) p (slice_get moves (at + 1)) ≡ true → out ++ pending x (c + 1) (drop (at + 1) moves) ≡ all
   move_on on = ap (λ l. out ++ l) (sym (split ∙ pending_on x c p (drop (at + 1) moves) (next ∙ on))) ∙ so

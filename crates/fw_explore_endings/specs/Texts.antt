@@ -40,15 +40,15 @@ goes_on m p None = false
 goes_on m p (Some q) = (p == q) && takes_half_steps m
 
 -- the moves after `n` half steps of the mover `p`, which are still to be told
-unfoldable pub moves_behind : Explored → ℕ → ℕ → List ℕ → List ℕ
-moves_behind x p n [] = run_text (slice_get x.movers.items p) n
-moves_behind x p n (q ∷ w) =
-    if (p == q) && takes_half_steps (slice_get x.movers.items p) then moves_behind x p (n + 1) w
-    else run_text (slice_get x.movers.items p) n ++ moves_behind x q 1 w
+unfoldable pub moves_following : Explored → ℕ → ℕ → List ℕ → List ℕ
+moves_following x p n [] = run_text (slice_get x.movers.items p) n
+moves_following x p n (q ∷ w) =
+    if (p == q) && takes_half_steps (slice_get x.movers.items p) then moves_following x p (n + 1) w
+    else run_text (slice_get x.movers.items p) n ++ moves_following x q 1 w
 
 abbrev pub moves_text : Explored → List ℕ → List ℕ
 moves_text x [] = []
-moves_text x (p ∷ w) = moves_behind x p 1 w
+moves_text x (p ∷ w) = moves_following x p 1 w
 
 -- ---- paragraphs
 

@@ -34,10 +34,10 @@ fn put_count(alloc: Global, out: &mut Vec<u8>, count: u128) -> Result<(), AllocE
 }
 
 // Appends a text and a number.
-fn put_part(alloc: Global, out: &mut Vec<u8>, front: &[u8], number: u128) -> Result<(), AllocError>
-    ensures { OnOk result (out.new.items ≡ out.old.items ++ front.now ++ decimal number) }
+fn put_part(alloc: Global, out: &mut Vec<u8>, prefix: &[u8], number: u128) -> Result<(), AllocError>
+    ensures { OnOk result (out.new.items ≡ out.old.items ++ prefix.now ++ decimal number) }
 {
-    out.extend_from_slice(front)?;
+    out.extend_from_slice(prefix)?;
     put_number(alloc, out, number)
 }
 

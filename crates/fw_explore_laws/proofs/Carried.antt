@@ -28,19 +28,19 @@ run_on (c ∷ ds) cs a b l o s t run f =
 -- a run up to some commands, and from there on
 pub record Split (cs ds : List Command) (a : List Action) (l : List Timed) (t : State) : Type 0 where
   pub early : List Action
-  pub front : List Timed
+  pub prefix : List Timed
   pub middle : State
-  pub run : Run cs early front middle
+  pub run : Run cs early prefix middle
   pub more : List Action
   pub later : List Timed
   pub carried : Carried middle ds more later t
   pub actions_are : a ≡ early ++ more
-  pub log_is : l ≡ front ++ later
+  pub log_is : l ≡ prefix ++ later
 
 pub run_split : (ds cs all : List Command) (a : List Action) (l : List Timed) (t : State) → Run all a l t → all ≡ cs ++ ds → Split cs ds a l t
 run_split [] cs all a l t run e = record {
   early = a;
-  front = l;
+  prefix = l;
   middle = t;
   run = subst (λ z. Run z a l t) (e ∙ append-nil cs) run;
   more = [];
@@ -51,17 +51,17 @@ run_split [] cs all a l t run e = record {
 }
 run_split (d ∷ ds) cs all a l t run e =
     let rest = run_split ds (cs ++ d ∷ []) all a l t run (e ∙ sym (append_assoc cs (d ∷ []) ds)) in
-    let last = last_of (cs ++ d ∷ []) cs d rest.early rest.front rest.middle rest.run refl in
+    let last = last_of (cs ++ d ∷ []) cs d rest.early rest.prefix rest.middle rest.run refl in
     record {
       early = last.early;
-      front = last.front;
+      prefix = last.prefix;
       middle = last.state;
       run = last.run;
       more = last.more ++ rest.more;
       later = last.out ++ rest.later;
       carried = (last.order, last.more, rest.more, last.out, rest.later, rest.middle, last.decided, last.carries, rest.carried, refl, refl);
       actions_are = rest.actions_are ∙ ap (λ z. z ++ rest.more) last.actions_are ∙ append_assoc last.early last.more rest.more;
-      log_is = rest.log_is ∙ ap (λ z. z ++ rest.later) last.log_is ∙ append_assoc last.front last.out rest.later;
+      log_is = rest.log_is ∙ ap (λ z. z ++ rest.later) last.log_is ∙ append_assoc last.prefix last.out rest.later;
     }
 
 -- ---- in two parts
@@ -87,7 +87,7 @@ pub record Parts (s : State) (cs ds : List Command) (a : List Action) (o : List 
   pub first : List Action
   pub now : List Timed
   pub middle : State
-  pub front : Carried s cs first now middle
+  pub prefix : Carried s cs first now middle
   pub more : List Action
   pub later : List Timed
   pub rest : Carried middle ds more later t
@@ -95,14 +95,14 @@ pub record Parts (s : State) (cs ds : List Command) (a : List Action) (o : List 
   pub out_is : o ≡ now ++ later
 
 pub carried_parts : (cs ds : List Command) (a : List Action) (o : List Timed) (s t : State) → Carried s (cs ++ ds) a o t → Parts s cs ds a o t
-carried_parts [] ds a o s t f = record { first = []; now = []; middle = s; front = (refl, refl, refl); more = a; later = o; rest = f; actions_are = refl; out_is = refl }
+carried_parts [] ds a o s t f = record { first = []; now = []; middle = s; prefix = (refl, refl, refl); more = a; later = o; rest = f; actions_are = refl; out_is = refl }
 carried_parts (c ∷ cs) ds a o s t f =
     let p = carried_parts cs ds f.2 f.4 f.5 t f.8 in
     record {
       first = f.1 ++ p.first;
       now = f.3 ++ p.now;
       middle = p.middle;
-      front = (f.0, f.1, p.first, f.3, p.now, f.5, f.6, f.7, p.front, refl, refl);
+      prefix = (f.0, f.1, p.first, f.3, p.now, f.5, f.6, f.7, p.prefix, refl, refl);
       more = p.more;
       later = p.later;
       rest = p.rest;

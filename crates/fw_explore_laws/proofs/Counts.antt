@@ -9,7 +9,7 @@ use Rattle.std.proofs.lemmas.Fmt.{length-decimal-le}
 use Rattle.std.proofs.lemmas.Slice.Eq.{bytes_eq-Decides}
 use Rattle.fw_script_command.specs.Form.{HasArguments, first_by}
 use Rattle.fw_script_command.specs.Keyword.{keyword_in}
-use Rattle.fw_script_command.specs.Pieces.{AreFree, IsFree, parted, pieces}
+use Rattle.fw_script_command.specs.Pieces.{AreFree, IsFree, separated, pieces}
 use Rattle.fw_script_command.specs.Words.{is, is_name, is_name_byte, is_taken, name_in, number_in, only_if}
 use Rattle.fw_script_command.specs.declared.command.Command.TheVariants.{Step, Contend}
 use Rattle.fw_script_command.specs.declared.keyword.Keyword.{Keyword}
@@ -51,7 +51,7 @@ keyword_of k e = go (is (codes "step") k) (is (codes "contend") k) refl refl e
     go false true p q h = subst IsKeyword (sym ((bytes_eq-Decides k (codes "contend")).0 q)) contend
     go false false p q h = absurd cc
 
-step_line : (word line : List ℕ) (ws : List (List ℕ)) → parted 32 ws ≡ word → AreFree 32 ws → half_step_line ws word ≡ Some line → StepLine line
+step_line : (word line : List ℕ) (ws : List (List ℕ)) → separated 32 ws ≡ word → AreFree 32 ws → half_step_line ws word ≡ Some line → StepLine line
 unfolding half_step_line
 step_line word line [] is free e = absurd cc
 step_line word line (name ∷ []) is free e = record {
@@ -95,24 +95,24 @@ keyword_free : (k : List ℕ) → IsKeyword k → IsFree 32 k
 keyword_free k step = free_by 32 (codes "step") refl
 keyword_free k contend = free_by 32 (codes "contend") refl
 
-abbrev pub front_of : List ℕ → List ℕ → List ℕ
-front_of k name = k ++ 32 ∷ name ++ 32 ∷ []
+abbrev pub prefix_of : List ℕ → List ℕ → List ℕ
+prefix_of k name = k ++ 32 ∷ name ++ 32 ∷ []
 
-line_pieces : (k name d : List ℕ) → IsFree 32 k → IsFree 32 name → IsFree 32 d → pieces 32 (front_of k name ++ d) ≡ k ∷ name ∷ d ∷ []
+line_pieces : (k name d : List ℕ) → IsFree 32 k → IsFree 32 name → IsFree 32 d → pieces 32 (prefix_of k name ++ d) ≡ k ∷ name ∷ d ∷ []
 line_pieces k name d first second third =
     ap (pieces 32) (append_assoc (k ++ 32 ∷ name) (32 ∷ []) d ∙ append_assoc k (32 ∷ name) (32 ∷ d)) ∙ pieces_cut 32 k (name ++ 32 ∷ d) first
     ∙ ap (λ (ws : List (List ℕ)). k ∷ ws) (pieces_cut 32 name d second ∙ ap (λ (ws : List (List ℕ)). name ∷ ws) (pieces_free 32 d third))
 
-take_whole : (n : ℕ) (front rest : List ℕ) → n ≡ length front → take n (front ++ rest) ≡ front
+take_whole : (n : ℕ) (prefix rest : List ℕ) → n ≡ length prefix → take n (prefix ++ rest) ≡ prefix
 take_whole zero [] rest e = refl
 take_whole (suc n) [] rest e = absurd (omega (arith, e))
-take_whole zero (b ∷ front) rest e = absurd (omega (arith, e))
-take_whole (suc n) (b ∷ front) rest e = ap (λ (l : List ℕ). b ∷ l) (take_whole n front rest (omega (arith, e)))
+take_whole zero (b ∷ prefix) rest e = absurd (omega (arith, e))
+take_whole (suc n) (b ∷ prefix) rest e = ap (λ (l : List ℕ). b ∷ l) (take_whole n prefix rest (omega (arith, e)))
 
-but_last : (front line : List ℕ) (b : ℕ) → line ≡ front ++ b ∷ [] → take (length line - 1) line ≡ front
-but_last front line b e =
-    let size : length line ≡ length front + 1 = ap length e ∙ length-append front (b ∷ []) in
-    ap (take (length line - 1)) e ∙ take_whole (length line - 1) front (b ∷ []) (omega (arith, size))
+but_last : (prefix line : List ℕ) (b : ℕ) → line ≡ prefix ++ b ∷ [] → take (length line - 1) line ≡ prefix
+but_last prefix line b e =
+    let size : length line ≡ length prefix + 1 = ap length e ∙ length-append prefix (b ∷ []) in
+    ap (take (length line - 1)) e ∙ take_whole (length line - 1) prefix (b ∷ []) (omega (arith, size))
 
 -- ---- its form
 
@@ -125,7 +125,7 @@ named_so k step = refl
 named_so k contend = refl
 
 abbrev pub HasCounts : Command → List ℕ → Type 0
-HasCounts c front = (n : ℕ) → 1 ≤ n → n ≤ 10000 → HasForm (with_count n c) (front ++ decimal n) × (length (front ++ decimal n) ≤ 256)
+HasCounts c prefix = (n : ℕ) → 1 ≤ n → n ≤ 10000 → HasForm (with_count n c) (prefix ++ decimal n) × (length (prefix ++ decimal n) ≤ 256)
 
 -- ---- it is short
 
@@ -144,15 +144,15 @@ keyword_short : (k : List ℕ) → IsKeyword k → length k ≤ 7
 keyword_short k step = omega arith
 keyword_short k contend = omega arith
 
-line_short : (k name : List ℕ) (n : ℕ) → length k ≤ 7 → length name ≤ 16 → n ≤ 10000 → length (front_of k name ++ decimal n) ≤ 256
+line_short : (k name : List ℕ) (n : ℕ) → length k ≤ 7 → length name ≤ 16 → n ≤ 10000 → length (prefix_of k name ++ decimal n) ≤ 256
 line_short k name n first second few =
     let digits = length-decimal-le 5 n (omega arith) (omega (arith, few)) (omega (arith, few)) in
-    let all = length-append (front_of k name) (decimal n) in
-    let front = length-append (k ++ 32 ∷ name) (32 ∷ []) in
+    let all = length-append (prefix_of k name) (decimal n) in
+    let prefix = length-append (k ++ 32 ∷ name) (32 ∷ []) in
     let words = length-append k (32 ∷ name) in
-    omega (arith, digits, all, front, words, first, second)
+    omega (arith, digits, all, prefix, words, first, second)
 
-step_counts : (k name : List ℕ) (c : Command) → (is : IsKeyword k) → IsFree 32 name → HasArguments (keyword_named k is) (name ∷ (49 ∷ []) ∷ []) c → IsHalfStep c × HasCounts c (front_of k name)
+step_counts : (k name : List ℕ) (c : Command) → (is : IsKeyword k) → IsFree 32 name → HasArguments (keyword_named k is) (name ∷ (49 ∷ []) ∷ []) c → IsHalfStep c × HasCounts c (prefix_of k name)
 step_counts k name c step free args =
     let one : Some 1 ≡ Some args.4.0 = subst (λ ws. first_by (number_in 1 10000) ws ≡ Some args.4.0) args.3 args.4.2 in
     let is : c ≡ Step args.0 1 = args.4.4.1 ∙ ap (Step args.0) (sym (same_Some 1 args.4.0 one)) in (
@@ -186,7 +186,7 @@ step_counts k name c contend free args =
       )),
     )
 
-line_counts : (c : Command) (line : List ℕ) (s : StepLine line) → HasForm c line → IsHalfStep c × HasCounts c (front_of s.keyword s.name)
+line_counts : (c : Command) (line : List ℕ) (s : StepLine line) → HasForm c line → IsHalfStep c × HasCounts c (prefix_of s.keyword s.name)
 line_counts c line s h =
     let words : h.first ∷ h.others ≡ s.keyword ∷ s.name ∷ (49 ∷ []) ∷ []
     = sym h.words ∙ ap (pieces 32) s.is ∙ line_pieces s.keyword s.name (49 ∷ []) (keyword_free s.keyword s.is_keyword) s.free (free_by 32 (49 ∷ []) refl) in
@@ -204,6 +204,6 @@ half_steps_form word line c e form =
     let s = step_line word line (pieces 32 word) pieces_are.0 pieces_are.1 e in
     let counts = line_counts c line s form in (
       counts.0,
-      λ n least most. subst (λ (front : List ℕ). HasForm (with_count n c) (front ++ decimal n) × (length (front ++ decimal n) ≤ 256))
-          (sym (but_last (front_of s.keyword s.name) line 49 s.is)) (counts.1 n least most),
+      λ n least most. subst (λ (prefix : List ℕ). HasForm (with_count n c) (prefix ++ decimal n) × (length (prefix ++ decimal n) ≤ 256))
+          (sym (but_last (prefix_of s.keyword s.name) line 49 s.is)) (counts.1 n least most),
     )

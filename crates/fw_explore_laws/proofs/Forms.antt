@@ -3,7 +3,7 @@ use Rattle.fw_explore_laws.proofs.Common.{ℕ, ◌≡◌, ◌==◌, not, List, [
 use Rattle.std.proofs.Common.{is_some}
 use Rattle.fw_script_command.specs.Form.{HasArguments}
 use Rattle.fw_script_command.specs.Keyword.{keywords, keyword_in}
-use Rattle.fw_script_command.specs.Pieces.{parted}
+use Rattle.fw_script_command.specs.Pieces.{separated}
 use Rattle.fw_script_command.specs.Types.{are_fitting, fits, range_of, types_of, word_of}
 use Rattle.fw_script_command.specs.declared.command.Command.TheVariants as Commands
 use Rattle.fw_script_command.specs.declared.keyword.Keyword.{Keyword}
@@ -14,7 +14,22 @@ use Rattle.fw_script_command.proofs.PiecesLaws.{pieces_part}
 use Rattle.fw_script_command.proofs.TableLaws.{one_table}
 use Rattle.fw_script.specs.Line.{is_skipped}
 use Rattle.fw_explore_laws.proofs.Lines.{is_one_line}
-use Rattle.fw_explore_laws.proofs.Words.{both_true, channel_one, frame_one, kind_one, late_one, meaning_has, meaning_text, name_one, number_one, offset_one, parted_one, place_one, shown_one, word_one}
+use Rattle.fw_explore_laws.proofs.Words.{
+  both_true,
+  channel_one,
+  frame_one,
+  kind_one,
+  late_one,
+  meaning_has,
+  meaning_text,
+  name_one,
+  number_one,
+  offset_one,
+  separated_one,
+  place_one,
+  shown_one,
+  word_one,
+}
 
 -- ---- forms
 
@@ -44,10 +59,10 @@ abbrev is_begun : List ℕ → Bool
 is_begun [] = false
 is_begun (b ∷ w) = not (b == 35)
 
-begun_parted : (s : ℕ) (w : List ℕ) (ws : List (List ℕ)) → is_begun w ≡ true → is_begun (parted s (w ∷ ws)) ≡ true
-begun_parted s [] ws e = absurd cc
-begun_parted s (b ∷ w) [] e = e
-begun_parted s (b ∷ w) (v ∷ ws) e = e
+begun_separated : (s : ℕ) (w : List ℕ) (ws : List (List ℕ)) → is_begun w ≡ true → is_begun (separated s (w ∷ ws)) ≡ true
+begun_separated s [] ws e = absurd cc
+begun_separated s (b ∷ w) [] e = e
+begun_separated s (b ∷ w) (v ∷ ws) e = e
 
 begun_told : (w : List ℕ) → is_begun w ≡ true → is_skipped w ≡ false
 begun_told [] e = absurd cc
@@ -56,21 +71,21 @@ begun_told (b ∷ w) e = grind arith
 is_keyword : (h : List ℕ) (k : Keyword) → keyword_in h ≡ Some k → is_some (keyword_in h) ≡ true
 is_keyword h k e = ap is_some e
 
-words_of_line : {c : Command} {line : List ℕ} (h : HasForm c line) → parted 32 (h.first ∷ h.others) ≡ line
-words_of_line {line = line} h = ap (parted 32) (sym h.words) ∙ (pieces_part 32 line).0
+words_of_line : {c : Command} {line : List ℕ} (h : HasForm c line) → separated 32 (h.first ∷ h.others) ≡ line
+words_of_line {line = line} h = ap (separated 32) (sym h.words) ∙ (pieces_part 32 line).0
 
 -- a line that has a form is one line
 pub form_one : (c : Command) (line : List ℕ) → HasForm c line → is_one_line line ≡ true
 form_one c line h =
     let first = meaning_text is_one_line keywords h.first refl (is_keyword h.first h.keyword h.named) in
     let others = fitting_one (types_of h.keyword) h.others ((one_table h.keyword h.others).1 (c, h.arguments)) in
-    subst (λ (l : List ℕ). is_one_line l ≡ true) (words_of_line h) (parted_one 32 (h.first ∷ h.others) refl (both_true first others))
+    subst (λ (l : List ℕ). is_one_line l ≡ true) (words_of_line h) (separated_one 32 (h.first ∷ h.others) refl (both_true first others))
 
 -- and no remark
 pub form_told : (c : Command) (line : List ℕ) → HasForm c line → is_skipped line ≡ false
 form_told c line h =
     let first = meaning_text is_begun keywords h.first refl (is_keyword h.first h.keyword h.named) in
-    begun_told line (subst (λ (l : List ℕ). is_begun l ≡ true) (words_of_line h) (begun_parted 32 h.first h.others first))
+    begun_told line (subst (λ (l : List ℕ). is_begun l ≡ true) (words_of_line h) (begun_separated 32 h.first h.others first))
 
 -- ---- the line `end`
 
@@ -175,4 +190,4 @@ end_text line h =
     let same = arguments_keyword h.keyword h.others Commands.End h.arguments in
     let none : h.others ≡ [] = (subst (λ k. HasArguments k h.others Commands.End) (sym same) h.arguments).0 in
     let first : h.first ≡ codes "end" = keyword_word h.first Keywords.End (h.named ∙ ap Some (sym same)) in
-    sym (words_of_line h) ∙ ap (λ ws. parted 32 (h.first ∷ ws)) none ∙ first
+    sym (words_of_line h) ∙ ap (λ ws. separated 32 (h.first ∷ ws)) none ∙ first

@@ -6,7 +6,7 @@ use Rattle.std.proofs.lemmas.Bool.Decides.{Decides-eqb}
 use Rattle.fw_script_command.specs.declared.command.Command.TheVariants.{Step, Contend}
 use Rattle.fw_explore_movers.specs.declared.mover.Mover.{Mover}
 use Rattle.fw_explore_movers.specs.Explored.{IsMover, command_at, command_in, half_step_of}
-use Rattle.fw_explore_endings.specs.Texts.{moves_behind, moves_text, run_text, takes_half_steps}
+use Rattle.fw_explore_endings.specs.Texts.{moves_following, moves_text, run_text, takes_half_steps}
 use Rattle.fw_explore_meaning.specs.Moves.{commands_of}
 use Rattle.fw_explore_laws.proofs.Lines.{AreShort, both_short, no_line, none_short, says, short_both}
 use Rattle.fw_explore_laws.proofs.Forms.{form_one, form_told}
@@ -21,15 +21,15 @@ run_commands None n = []
 run_commands (Some m) n = elim m.kind [ HalfSteps ↦ with_count n m.command ∷ [] | Once ↦ m.command ∷ [] ]
 
 -- those of the moves after `n` half steps of the mover `p`
-abbrev pub commands_behind : Explored → ℕ → ℕ → List ℕ → List Command
-commands_behind x p n [] = run_commands (slice_get x.movers.items p) n
-commands_behind x p n (q ∷ w) =
-    if (p == q) && takes_half_steps (slice_get x.movers.items p) then commands_behind x p (n + 1) w
-    else run_commands (slice_get x.movers.items p) n ++ commands_behind x q 1 w
+abbrev pub commands_after : Explored → ℕ → ℕ → List ℕ → List Command
+commands_after x p n [] = run_commands (slice_get x.movers.items p) n
+commands_after x p n (q ∷ w) =
+    if (p == q) && takes_half_steps (slice_get x.movers.items p) then commands_after x p (n + 1) w
+    else run_commands (slice_get x.movers.items p) n ++ commands_after x q 1 w
 
 abbrev pub gathered : Explored → List ℕ → List Command
 gathered x [] = []
-gathered x (p ∷ w) = commands_behind x p 1 w
+gathered x (p ∷ w) = commands_after x p 1 w
 
 -- ---- the half steps of moves, from the first on
 
@@ -90,25 +90,25 @@ module _ (x : Explored) (read : AreRead x.movers.items) where
       → AreShort (run_text (slice_get x.movers.items p) n) (run_commands (slice_get x.movers.items p) n)
   line_at p n some few = lines_of (slice_get x.movers.items p) n (λ m e. read_at x.movers.items p m read e) some few
 
-  behind_lines : (p n : ℕ) (w : List ℕ) → 1 ≤ n → half_sum x w ≤ 10000 → (takes_half_steps (slice_get x.movers.items p) ≡ true → n + half_sum x w ≤ 10000)
-      → AreShort (moves_behind x p n w) (commands_behind x p n w)
-  unfolding moves_behind
-  behind_lines p n [] some all few = line_at p n some (λ t. let h = few t in omega (arith, h))
-  behind_lines p n (q ∷ w) some all few =
+  after_lines : (p n : ℕ) (w : List ℕ) → 1 ≤ n → half_sum x w ≤ 10000 → (takes_half_steps (slice_get x.movers.items p) ≡ true → n + half_sum x w ≤ 10000)
+      → AreShort (moves_following x p n w) (commands_after x p n w)
+  unfolding moves_following
+  after_lines p n [] some all few = line_at p n some (λ t. let h = few t in omega (arith, h))
+  after_lines p n (q ∷ w) some all few =
       go ((p == q) && takes_half_steps (slice_get x.movers.items p)) refl
       (λ e. let parts = and_parts (p == q) (takes_half_steps (slice_get x.movers.items p)) e in
       let one : half_step_of (slice_get x.movers.items q) ≡ 1 = ap (λ z. half_step_of (slice_get x.movers.items z)) (sym ((Decides-eqb p q).0 parts.0))
       ∙ takes_one (slice_get x.movers.items p) parts.1 in
       let low = few parts.1 in
-      behind_lines p (n + 1) w (omega arith) (omega (arith, all)) (λ t. omega (arith, low, one)))
+      after_lines p (n + 1) w (omega arith) (omega (arith, all)) (λ t. omega (arith, low, one)))
       (line_at p n some (λ t. let h = few t in omega (arith, h)))
-      (behind_lines q 1 w (omega arith) (omega (arith, all)) (λ t. let one = takes_one (slice_get x.movers.items q) t in omega (arith, all, one)))
+      (after_lines q 1 w (omega arith) (omega (arith, all)) (λ t. let one = takes_one (slice_get x.movers.items q) t in omega (arith, all, one)))
     where
       go : (b : Bool) → (p == q) && takes_half_steps (slice_get x.movers.items p) ≡ b
-          → ((p == q) && takes_half_steps (slice_get x.movers.items p) ≡ true → AreShort (moves_behind x p (n + 1) w) (commands_behind x p (n + 1) w))
-          → AreShort (run_text (slice_get x.movers.items p) n) (run_commands (slice_get x.movers.items p) n) → AreShort (moves_behind x q 1 w) (commands_behind x q 1 w)
-          → AreShort (if b then moves_behind x p (n + 1) w else run_text (slice_get x.movers.items p) n ++ moves_behind x q 1 w)
-          (if b then commands_behind x p (n + 1) w else run_commands (slice_get x.movers.items p) n ++ commands_behind x q 1 w)
+          → ((p == q) && takes_half_steps (slice_get x.movers.items p) ≡ true → AreShort (moves_following x p (n + 1) w) (commands_after x p (n + 1) w))
+          → AreShort (run_text (slice_get x.movers.items p) n) (run_commands (slice_get x.movers.items p) n) → AreShort (moves_following x q 1 w) (commands_after x q 1 w)
+          → AreShort (if b then moves_following x p (n + 1) w else run_text (slice_get x.movers.items p) n ++ moves_following x q 1 w)
+          (if b then commands_after x p (n + 1) w else run_commands (slice_get x.movers.items p) n ++ commands_after x q 1 w)
       go true e on here later = on e
       go false e on here later = both_short here later
 
@@ -116,7 +116,7 @@ module _ (x : Explored) (read : AreRead x.movers.items) where
   pub gathered_lines : (w : List ℕ) → half_sum x w ≤ 10000 → AreShort (moves_text x w) (gathered x w)
   gathered_lines [] all = none_short
   gathered_lines (p ∷ w) all =
-      behind_lines p 1 w (omega arith) (omega (arith, all)) (λ t. let one = takes_one (slice_get x.movers.items p) t in omega (arith, all, one))
+      after_lines p 1 w (omega arith) (omega (arith, all)) (λ t. let one = takes_one (slice_get x.movers.items p) t in omega (arith, all, one))
 
   -- ---- and do what the moves do
 
@@ -144,31 +144,31 @@ module _ (x : Explored) (read : AreRead x.movers.items) where
       subst (λ o. Carried s (run_commands o n) actions out t) (sym is)
       (run_runs m n (read_at x.movers.items p m read is) some (λ e. once (ap takes_half_steps is ∙ e)) s t actions out (subst (λ o. Carried s (replicate n (command_in o)) actions out t) is f))
 
-  behind_runs : (p n : ℕ) (w : List ℕ) → AreMovers x (p ∷ w) → 1 ≤ n → (takes_half_steps (slice_get x.movers.items p) ≡ false → n ≡ 1) → (s t : State) (actions : List Action) (out : List Timed)
-      → Carried s (replicate n (command_at x p) ++ commands_of x w) actions out t → Carried s (commands_behind x p n w) actions out t
-  behind_runs p n [] movers some once s t actions out f =
+  after_runs : (p n : ℕ) (w : List ℕ) → AreMovers x (p ∷ w) → 1 ≤ n → (takes_half_steps (slice_get x.movers.items p) ≡ false → n ≡ 1) → (s t : State) (actions : List Action) (out : List Timed)
+      → Carried s (replicate n (command_at x p) ++ commands_of x w) actions out t → Carried s (commands_after x p n w) actions out t
+  after_runs p n [] movers some once s t actions out f =
       runs_at p n movers.0 some once s t actions out (subst (λ cs. Carried s cs actions out t) (append-nil (replicate n (command_at x p))) f)
-  behind_runs p n (q ∷ w) movers some once s t actions out f =
+  after_runs p n (q ∷ w) movers some once s t actions out f =
       let parts = carried_parts (replicate n (command_at x p)) (commands_of x (q ∷ w)) actions out s t f in
       go ((p == q) && takes_half_steps (slice_get x.movers.items p)) refl
       (λ e. let both = and_parts (p == q) (takes_half_steps (slice_get x.movers.items p)) e in
       let same : p ≡ q = (Decides-eqb p q).0 both.0 in
-      behind_runs p (n + 1) w (movers.0, movers.1.1) (omega arith) (λ f. absurd (let h : true ≡ false = sym both.1 ∙ f in cc)) s t actions out
+      after_runs p (n + 1) w (movers.0, movers.1.1) (omega arith) (λ f. absurd (let h : true ≡ false = sym both.1 ∙ f in cc)) s t actions out
       (subst (λ cs. Carried s cs actions out t) (ap (λ z. replicate n (command_at x p) ++ command_at x z ∷ commands_of x w) (sym same) ∙ one_more n (command_at x p) (commands_of x w)) f))
-      (subst (λ z. Carried s (run_commands (slice_get x.movers.items p) n ++ commands_behind x q 1 w) z out t) (sym parts.actions_are)
-      (subst (λ z. Carried s (run_commands (slice_get x.movers.items p) n ++ commands_behind x q 1 w) (parts.first ++ parts.more) z t) (sym parts.out_is)
-      (carried_then (run_commands (slice_get x.movers.items p) n) (commands_behind x q 1 w) parts.first parts.more parts.now parts.later s parts.middle t
-      (runs_at p n movers.0 some once s parts.middle parts.first parts.now parts.front)
-      (behind_runs q 1 w movers.1 (omega arith) (λ e. refl) parts.middle t parts.more parts.later parts.rest))))
+      (subst (λ z. Carried s (run_commands (slice_get x.movers.items p) n ++ commands_after x q 1 w) z out t) (sym parts.actions_are)
+      (subst (λ z. Carried s (run_commands (slice_get x.movers.items p) n ++ commands_after x q 1 w) (parts.first ++ parts.more) z t) (sym parts.out_is)
+      (carried_then (run_commands (slice_get x.movers.items p) n) (commands_after x q 1 w) parts.first parts.more parts.now parts.later s parts.middle t
+      (runs_at p n movers.0 some once s parts.middle parts.first parts.now parts.prefix)
+      (after_runs q 1 w movers.1 (omega arith) (λ e. refl) parts.middle t parts.more parts.later parts.rest))))
     where
       go : (b : Bool) → (p == q) && takes_half_steps (slice_get x.movers.items p) ≡ b
-          → ((p == q) && takes_half_steps (slice_get x.movers.items p) ≡ true → Carried s (commands_behind x p (n + 1) w) actions out t)
-          → Carried s (run_commands (slice_get x.movers.items p) n ++ commands_behind x q 1 w) actions out t
-          → Carried s (if b then commands_behind x p (n + 1) w else run_commands (slice_get x.movers.items p) n ++ commands_behind x q 1 w) actions out t
+          → ((p == q) && takes_half_steps (slice_get x.movers.items p) ≡ true → Carried s (commands_after x p (n + 1) w) actions out t)
+          → Carried s (run_commands (slice_get x.movers.items p) n ++ commands_after x q 1 w) actions out t
+          → Carried s (if b then commands_after x p (n + 1) w else run_commands (slice_get x.movers.items p) n ++ commands_after x q 1 w) actions out t
       go true e on apart = on e
       go false e on apart = apart
 
   -- what the moves do from a state on, their lines do
   pub gathered_runs : (w : List ℕ) → AreMovers x w → (s t : State) (actions : List Action) (out : List Timed) → Carried s (commands_of x w) actions out t → Carried s (gathered x w) actions out t
   gathered_runs [] movers s t actions out f = f
-  gathered_runs (p ∷ w) movers s t actions out f = behind_runs p 1 w movers (omega arith) (λ e. refl) s t actions out f
+  gathered_runs (p ∷ w) movers s t actions out f = after_runs p 1 w movers (omega arith) (λ e. refl) s t actions out f

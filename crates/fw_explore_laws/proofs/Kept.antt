@@ -6,10 +6,10 @@ use Rattle.fw_order.specs.declared.rule.RuleFault.TheVariants as Rules
 use Rattle.fw_model_run.specs.Desks.{IsFunction}
 use Rattle.fw_explore_movers.specs.declared.mover.Line.{Line}
 use Rattle.fw_explore_told.specs.Sayings.{lines_text}
-use Rattle.fw_explore_meaning.specs.Moves.{Behind}
+use Rattle.fw_explore_meaning.specs.Moves.{Subsequent}
 use Rattle.fw_explore_meaning.specs.Names.{rule_name}
 use Rattle.fw_explore_meaning.specs.Endings.{Finishes, done, carried, refusal_of, refuses}
-use Rattle.fw_explore_meaning.proofs.BehindLaws.{behind_one}
+use Rattle.fw_explore_meaning.proofs.AfterLaws.{following_one}
 use Rattle.fw_explore_laws.proofs.Lines.{AreLines, AreShort, both_short, is_one_line, no_line, none_short}
 use Rattle.fw_explore_laws.proofs.Forms.{form_one}
 use Rattle.fw_explore_laws.proofs.Words.{one_more}
@@ -69,15 +69,15 @@ module _ (D : DeskRelations) (script : List Command) where
 
   -- they are carried out one after the other
   pub kept_runs : IsFunction D → (cs : List Command) (lines : List Line) (written : List Timed) (kept : List Line) (refused : List ℕ) → Finishes D script cs lines written kept refused
-      → (out : List Timed) (s : State) → Behind D script cs out s → (t : State) × Behind D script (cs ++ commands_in kept) (out ++ written) t
+      → (out : List Timed) (s : State) → Subsequent D script cs out s → (t : State) × Subsequent D script (cs ++ commands_in kept) (out ++ written) t
   kept_runs only cs lines written kept refused done out s b =
-      (s, subst (λ z. Behind D script z (out ++ []) s) (sym (append-nil cs)) (subst (λ z. Behind D script cs z s) (sym (append-nil out)) b))
+      (s, subst (λ z. Subsequent D script z (out ++ []) s) (sym (append-nil cs)) (subst (λ z. Subsequent D script cs z s) (sym (append-nil out)) b))
   kept_runs only cs lines written kept refused (carried {lines = ls} {kept = ks} {out = o} {more = more} line m f) out s b =
-      let same : m.earlier ≡ out = sym (behind_one D script only cs out m.earlier s m.from b m.before).0 in
-      let after : Behind D script (cs ++ line.command ∷ []) (out ++ o) m.to = subst (λ z. Behind D script (cs ++ line.command ∷ []) (z ++ o) m.to) same m.after in
+      let same : m.earlier ≡ out = sym (following_one D script only cs out m.earlier s m.from b m.before).0 in
+      let after : Subsequent D script (cs ++ line.command ∷ []) (out ++ o) m.to = subst (λ z. Subsequent D script (cs ++ line.command ∷ []) (z ++ o) m.to) same m.after in
       let rest = kept_runs only (cs ++ line.command ∷ []) ls more ks refused f (out ++ o) m.to after in (
         rest.0,
-        subst (λ z. Behind D script z (out ++ (o ++ more)) rest.0) (append_assoc cs (line.command ∷ []) (commands_in ks))
-            (subst (λ z. Behind D script ((cs ++ line.command ∷ []) ++ commands_in ks) z rest.0) (append_assoc out o more) rest.1),
+        subst (λ z. Subsequent D script z (out ++ (o ++ more)) rest.0) (append_assoc cs (line.command ∷ []) (commands_in ks))
+            (subst (λ z. Subsequent D script ((cs ++ line.command ∷ []) ++ commands_in ks) z rest.0) (append_assoc out o more) rest.1),
       )
   kept_runs only cs lines written kept refused (refuses {lines = ls} {refused = rest} line rule b' d f) out s b = kept_runs only cs ls written kept rest f out s b

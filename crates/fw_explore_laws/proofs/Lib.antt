@@ -3,7 +3,7 @@ pub mod Carried
 pub mod Counts
 pub mod Decimals
 pub mod Forms
-pub mod Front
+pub mod Prefix
 pub mod Gathered
 pub mod Kept
 pub mod Lines

@@ -6,11 +6,11 @@ use Rattle.std.proofs.Common.{length-append}
 use Rattle.fw_script_command.specs.Pieces.{IsFree, onto}
 use Rattle.fw_script_command.specs.declared.keyword.Keyword.TheVariants.{End as TheEnd}
 use Rattle.fw_script.specs.Line.{is_skipped}
-use Rattle.fw_script.specs.Reading.{Reading, IsLine, behind}
+use Rattle.fw_script.specs.Reading.{Reading, IsLine, following}
 use Rattle.fw_script.specs.Reading.GivesFirst.{skipped, command, end_line, end_of_input}
 use Rattle.fw_script.specs.Script.{Refusal, Says, start_of}
 use Rattle.fw_script.specs.Script.Says.{ends, refuses, goes_on}
-use Rattle.fw_script.specs.declared.stage.Stage.TheVariants.{Commands}
+use Rattle.fw_script.specs.declared.stage.ReaderStage.TheVariants.{Commands}
 use Rattle.fw_explore_laws.specs.Rest.{lines_in, has_short_lines}
 
 -- a text without a line feed
@@ -84,10 +84,10 @@ short_after text a b one later short =
     let rest = later parts.1 in
     (short_both text a one parts.0 rest.0, rest.1)
 
-pub short_front : {a : List ℕ} {cs : List Command} → AreLines a cs → (b : List ℕ) → has_short_lines (a ++ b) ≡ true → (has_short_lines a ≡ true) × (has_short_lines b ≡ true)
-short_front no_line b short = (refl, short)
-short_front (skips {bytes = a} text skip one rest) b short = short_after text a b one (λ e. short_front rest b e) short
-short_front (says {bytes = a} c text told one form other rest) b short = short_after text a b one (λ e. short_front rest b e) short
+pub short_prefix : {a : List ℕ} {cs : List Command} → AreLines a cs → (b : List ℕ) → has_short_lines (a ++ b) ≡ true → (has_short_lines a ≡ true) × (has_short_lines b ≡ true)
+short_prefix no_line b short = (refl, short)
+short_prefix (skips {bytes = a} text skip one rest) b short = short_after text a b one (λ e. short_prefix rest b e) short
+short_prefix (says {bytes = a} c text told one form other rest) b short = short_after text a b one (λ e. short_prefix rest b e) short
 
 pub short_then : {a : List ℕ} {cs : List Command} → AreLines a cs → (b : List ℕ) → has_short_lines a ≡ true → has_short_lines b ≡ true → has_short_lines (a ++ b) ≡ true
 short_then no_line b first second = second
@@ -127,11 +127,11 @@ next_line p text rest is one short within = record {
   within = within;
 }
 
-pub behind_line : (p : Reading) (text rest : List ℕ) → p.rest ≡ text ++ 10 ∷ rest → (behind p text (length text + 1)).rest ≡ rest
-behind_line p text rest is = ap (drop (length text + 1)) is ∙ drop_line (length text + 1) text rest (omega arith)
+pub following_line : (p : Reading) (text rest : List ℕ) → p.rest ≡ text ++ 10 ∷ rest → (following p text (length text + 1)).rest ≡ rest
+following_line p text rest is = ap (drop (length text + 1)) is ∙ drop_line (length text + 1) text rest (omega arith)
 
 -- a line that says nothing leaves what comes after it
-pub says_after : {p : Reading} {cs : List Command} {r : Option Refusal} (text : List ℕ) (size : ℕ) → IsLine p text size → is_skipped text ≡ true → Says (behind p text size) cs r → Says p cs r
+pub says_after : {p : Reading} {cs : List Command} {r : Option Refusal} (text : List ℕ) (size : ℕ) → IsLine p text size → is_skipped text ≡ true → Says (following p text size) cs r → Says p cs r
 says_after text size line skip (ends g) = ends (skipped text size line skip g)
 says_after text size line skip (refuses g told) = refuses (skipped text size line skip g) told
 says_after text size line skip (goes_on g other s) = goes_on (skipped text size line skip g) other s
@@ -140,7 +140,7 @@ says_after text size line skip (goes_on g other s) = goes_on (skipped text size 
 abbrev Onward : Reading → List ℕ → List ℕ → List Command → Option Refusal → Type 0
 Onward p a more ds r = (q : Reading) → q.rest ≡ more → q.whole ≡ p.whole → q.stage ≡ Commands → q.before ≡ p.before + length a → Says q ds r
 
-onward : (p : Reading) (text a more : List ℕ) (ds : List Command) (r : Option Refusal) → Onward p (text ++ 10 ∷ a) more ds r → Onward (behind p text (length text + 1)) a more ds r
+onward : (p : Reading) (text a more : List ℕ) (ds : List Command) (r : Option Refusal) → Onward p (text ++ 10 ∷ a) more ds r → Onward (following p text (length text + 1)) a more ds r
 onward p text a more ds r on q rest whole stage before = on q rest whole stage (omega (arith, before, length-append text (10 ∷ a)))
 
 -- Lines that stand in a script at its commands say theirs, and what comes after them.
@@ -152,13 +152,13 @@ lines_say (skips {bytes = a} text skip one rest) p more ds r is stage short with
     let at = is ∙ append_assoc text (10 ∷ a) more in
     let long = length-append text (10 ∷ a) in
     says_after text (length text + 1) (next_line p text (a ++ more) at one parts.0 (omega (arith, within, long))) skip
-    (lines_say rest (behind p text (length text + 1)) more ds r (behind_line p text (a ++ more) at) stage parts.1 (omega (arith, within, long)) (onward p text a more ds r on))
+    (lines_say rest (following p text (length text + 1)) more ds r (following_line p text (a ++ more) at) stage parts.1 (omega (arith, within, long)) (onward p text a more ds r on))
 lines_say (says {bytes = a} c text told one form other rest) p more ds r is stage short within on =
     let parts = short_parts text a one short in
     let at = is ∙ append_assoc text (10 ∷ a) more in
     let long = length-append text (10 ∷ a) in
     goes_on (command c text (length text + 1) (next_line p text (a ++ more) at one parts.0 (omega (arith, within, long))) told stage form other) other
-    (lines_say rest (behind p text (length text + 1)) more ds r (behind_line p text (a ++ more) at) stage parts.1 (omega (arith, within, long)) (onward p text a more ds r on))
+    (lines_say rest (following p text (length text + 1)) more ds r (following_line p text (a ++ more) at) stage parts.1 (omega (arith, within, long)) (onward p text a more ds r on))
 
 -- ---- the end
 
@@ -169,7 +169,7 @@ end_form = record { first = codes "end"; others = []; keyword = TheEnd; words = 
 pub end_says : (q : Reading) → q.rest ≡ codes "end" ++ 10 ∷ [] → q.whole ≡ true → q.stage ≡ Commands → q.before + 4 ≤ 1048576 → Says q (End ∷ []) None
 end_says q is whole stage within =
     ends (end_line (codes "end") 4 (next_line q (codes "end") [] is refl (omega arith) within) refl stage end_form
-    (end_of_input (behind_line q (codes "end") [] is, whole) refl))
+    (end_of_input (following_line q (codes "end") [] is, whole) refl))
 
 -- Lines and `end` after them are a script.
 pub whole_script : {a : List ℕ} {cs : List Command} → AreLines a cs → has_short_lines a ≡ true → length a + 4 ≤ 1048576 → IsScript (a ++ codes "end" ++ 10 ∷ []) (cs ++ End ∷ []) None

@@ -3,7 +3,7 @@ use Rattle.fw_explore_laws.proofs.Common.{ℕ, zero, suc, ◌≡◌, ◌+◌, �
 use Rattle.std.proofs.Common.{◌-◌, take, slice_get}
 use Rattle.fw_explore_movers.specs.declared.mover.Mover.{Mover}
 use Rattle.fw_explore_movers.specs.declared.mover.Line.{Line}
-use Rattle.fw_explore_movers.specs.Words.{IsExploredBy, Read, Reads, ReadsAll, nothing_read, number, goes_on, half_steps, line, behind, all_read, reads, line_of_half_steps}
+use Rattle.fw_explore_movers.specs.Words.{IsExploredBy, Read, Reads, ReadsAll, nothing_read, number, goes_on, half_steps, line, following, all_read, reads, line_of_half_steps}
 use Rattle.fw_explore_laws.proofs.Counts.{HasCounts, IsHalfStep, half_steps_form}
 use Rattle.fw_explore_laws.proofs.Decimals.{number_range}
 
@@ -39,7 +39,7 @@ read_at (k ∷ ms) (suc p) m all e = read_at ms p m all.1 e
 record AreSo (r : Read) : Type 0 where
   most : r.most ≤ 10000
   movers : AreRead r.movers
-  lines : AreForms r.behind
+  lines : AreForms r.following
 
 kind_read : (m : Mover) (k : MoverKind) → m.kind ≡ k → IsRead m k → IsRead m m.kind
 kind_read m k e r = subst (IsRead m) (sym e) r
@@ -66,10 +66,10 @@ one_so n word r s (line m is first steps short form may same kind at room) so = 
   ));
   lines = so.lines;
 }
-one_so n word r s (behind l is follows short form may same at room) so = record {
+one_so n word r s (following l is follows short form may same at room) so = record {
   most = so.most;
   movers = so.movers;
-  lines = forms_then r.behind l so.lines (subst (λ (t : List ℕ). HasForm l.command t) (sym same) form.form, form.no_end, subst (λ (t : List ℕ). length t ≤ 256) (sym same) short);
+  lines = forms_then r.following l so.lines (subst (λ (t : List ℕ). HasForm l.command t) (sym same) form.form, form.no_end, subst (λ (t : List ℕ). length t ≤ 256) (sym same) short);
 }
 
 all_so : (n : ℕ) (words : List (List ℕ)) (r s : Read) → ReadsAll n words r s → AreSo r → AreSo s
@@ -80,7 +80,7 @@ all_so n words r t (reads {word = w} {words = ws} {s = s} one rest) so = all_so 
 pub record IsReadSo (x : Explored) : Type 0 where
   pub most : x.most ≤ 10000
   pub movers : AreRead x.movers.items
-  pub lines : AreForms x.behind.items
+  pub lines : AreForms x.following.items
 
 pub read_so : (words : List (List ℕ)) (x : Explored) → IsExploredBy words x → IsReadSo x
 read_so words x e =
@@ -90,5 +90,5 @@ read_so words x e =
     record {
       most = omega (arith, most, same);
       movers = subst AreRead (sym e.movers) so.movers;
-      lines = subst AreForms (sym e.behind) so.lines;
+      lines = subst AreForms (sym e.following) so.lines;
     }

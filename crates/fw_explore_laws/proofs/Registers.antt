@@ -6,21 +6,43 @@ use Rattle.fw_log_explain.specs.Lines.{at_text, shown_device, shown_place, shown
 use Rattle.fw_log_names.specs.Names.{rate_name}
 use Rattle.fw_log_registers.specs.Words.{Field, channel_text, fields_of, first_channels, inverted, is_row, place_text, register_name}
 use Rattle.fw_log_registers.specs.Words.{taken_text, told_field, told_register, told_text, value_text, word_text}
-use Rattle.fw_log_registers.specs.declared.place.Place.{Place}
-use Rattle.fw_log_registers.specs.declared.place.Place.TheVariants.{Named, Unnamed}
-use Rattle.fw_log_registers.specs.declared.register.Register.{Register}
-use Rattle.fw_log_registers.specs.declared.register.Register.TheVariants.{StateClear, StateSet, NodeIds, ResetStart, SplitTimeoutHi, SplitTimeoutLo, CycleTime, BusTime, BusyTimeout, PriorityBudget}
-use Rattle.fw_log_registers.specs.declared.register.Register.TheVariants.{BusManagerId, BandwidthAvailable, ChannelsAvailableHi, ChannelsAvailableLo}
-use Rattle.fw_log_registers.specs.declared.register.Register.TheVariants.{MaintUtility, BroadcastChannel, BusName, BusOptions}
-use Rattle.fw_log_registers.specs.declared.register.Register.TheVariants.{Eui64Hi, Eui64Lo, ConfigRom, OutputMasterPlug, OutputPlug, InputMasterPlug, InputPlug, FcpCommand, FcpResponse, TopologyMap}
+use Rattle.fw_log_registers.specs.declared.place.RegisterPlace.{RegisterPlace}
+use Rattle.fw_log_registers.specs.declared.place.RegisterPlace.TheVariants.{Named, Unnamed}
+use Rattle.fw_log_registers.specs.declared.register.NamedRegister.{NamedRegister}
+use Rattle.fw_log_registers.specs.declared.register.NamedRegister.TheVariants.{
+  StateClear,
+  StateSet,
+  NodeIds,
+  ResetStart,
+  SplitTimeoutHi,
+  SplitTimeoutLo,
+  CycleTime,
+  BusTime,
+  BusyTimeout,
+  PriorityBudget,
+}
+use Rattle.fw_log_registers.specs.declared.register.NamedRegister.TheVariants.{BusManagerId, BandwidthAvailable, ChannelsAvailableHi, ChannelsAvailableLo}
+use Rattle.fw_log_registers.specs.declared.register.NamedRegister.TheVariants.{MaintUtility, BroadcastChannel, BusName, BusOptions}
+use Rattle.fw_log_registers.specs.declared.register.NamedRegister.TheVariants.{
+  Eui64Hi,
+  Eui64Lo,
+  ConfigRom,
+  OutputMasterPlug,
+  OutputPlug,
+  InputMasterPlug,
+  InputPlug,
+  FcpCommand,
+  FcpResponse,
+  TopologyMap,
+}
 use Rattle.fw_log_registers.specs.declared.shown.Shown.{Shown}
 use Rattle.fw_log_registers.specs.declared.shown.Shown.TheVariants.{Decimal, Company, Rate, Node, Counted}
-use Rattle.fw_log_registers.specs.declared.told.Told.TheVariants.{Word}
+use Rattle.fw_log_registers.specs.declared.told.RegisterValue.TheVariants.{Word}
 use Rattle.fw_words.specs.Quadlet.{field}
 use Rattle.fw_explore_laws.proofs.Lines.{is_one_line}
 use Rattle.fw_explore_laws.proofs.Texts.{AreOneLine, IsOneLine, hex_one, if_name, if_one, lit, more, named_one, no_name, none, number, quadlet_one, some_name}
 
-register_one : (r : Register) → IsOneLine (register_name r)
+register_one : (r : NamedRegister) → IsOneLine (register_name r)
 register_one StateClear = lit (codes "STATE_CLEAR") refl
 register_one StateSet = lit (codes "STATE_SET") refl
 register_one NodeIds = lit (codes "NODE_IDS") refl
@@ -50,7 +72,7 @@ register_one FcpCommand = lit (codes "FCP_COMMAND") refl
 register_one FcpResponse = lit (codes "FCP_RESPONSE") refl
 register_one TopologyMap = lit (codes "TOPOLOGY_MAP") refl
 
-place_one : (p : Place) → IsOneLine (place_text p)
+place_one : (p : RegisterPlace) → IsOneLine (place_text p)
 unfolding place_text
 place_one (Named register index) = more (register_one register) (if_one (is_row register) (more (more (lit (codes "[") refl) (number index)) (lit (codes "]") refl)) none)
 place_one (Unnamed offset) = more (lit (codes "offset ") refl) (hex_one 12 offset)
@@ -94,7 +116,7 @@ taken_one first word = if_one (word == 0) (lit (codes " none") refl) (channels_o
 
 -- ---- words
 
-told_one : (word : ℕ) (r : Register) → IsOneLine (told_register (Word word) r)
+told_one : (word : ℕ) (r : NamedRegister) → IsOneLine (told_register (Word word) r)
 told_one word StateClear = fields_one word (fields_of StateClear) refl
 told_one word StateSet = fields_one word (fields_of StateSet) refl
 told_one word NodeIds = fields_one word (fields_of NodeIds) refl
@@ -124,7 +146,7 @@ told_one word FcpCommand = fields_one word (fields_of FcpCommand) refl
 told_one word FcpResponse = fields_one word (fields_of FcpResponse) refl
 told_one word TopologyMap = fields_one word (fields_of TopologyMap) refl
 
-word_one : (p : Place) (word : ℕ) → IsOneLine (word_text p word)
+word_one : (p : RegisterPlace) (word : ℕ) → IsOneLine (word_text p word)
 unfolding word_text told_text
 word_one (Named register index) word = more (quadlet_one word) (told_one word register)
 word_one (Unnamed offset) word = more (quadlet_one word) none

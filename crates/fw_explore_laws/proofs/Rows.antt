@@ -10,13 +10,13 @@ use Rattle.fw_explore_movers.specs.Explored.{half_step_of}
 use Rattle.fw_explore_told.specs.Telling.{remark}
 use Rattle.fw_explore_endings.specs.declared.rows.Row.{Row}
 use Rattle.fw_explore_endings.specs.Texts.{count_text, moves_text, rest_text, row_head, row_text}
-use Rattle.fw_explore_meaning.specs.Moves.{Behind, IsAllowed, IsMove, commands_of, half_steps_in}
+use Rattle.fw_explore_meaning.specs.Moves.{Subsequent, IsAllowed, IsMove, commands_of, half_steps_in}
 use Rattle.fw_explore_meaning.specs.Rows.{IsRow}
 use Rattle.fw_explore_meaning.proofs.HistoryLaws.{half_more}
 use Rattle.fw_explore_laws.specs.Rest.{has_short_lines, without_end}
 use Rattle.fw_explore_laws.specs.Rests.{HasRoom, RowIsRest, RowsAreRests}
-use Rattle.fw_explore_laws.proofs.Lines.{AreLines, AreShort, both_short, lines_then, short_front, short_then, skips, whole_script}
-use Rattle.fw_explore_laws.proofs.Front.{front_lines}
+use Rattle.fw_explore_laws.proofs.Lines.{AreLines, AreShort, both_short, lines_then, short_prefix, short_then, skips, whole_script}
+use Rattle.fw_explore_laws.proofs.Prefix.{prefix_lines}
 use Rattle.fw_explore_laws.proofs.Texts.{IsOneLine, if_one, lit, more, none, number}
 use Rattle.fw_explore_laws.proofs.Reading.{IsReadSo, read_so}
 use Rattle.fw_explore_laws.proofs.Remarks.{entries_lines, left_lines, remark_lines, remarks_then}
@@ -78,7 +78,7 @@ module _ (D : DeskRelations) (only : IsFunction D) (x : Explored) (read : IsRead
       let e = row.lines.ends in
       subst (λ (l : List ℕ). AreLines l []) (sym e.is)
       (remarks_then (remarks_then (entries_lines (e.moved ++ e.written)) (left_lines x r.first.items read.movers))
-      (refused_lines D commands (commands_of x r.first.items) x.behind.items e.written row.lines.kept e.refused e.finishes read.lines))
+      (refused_lines D commands (commands_of x r.first.items) x.following.items e.written row.lines.kept e.refused e.finishes read.lines))
 
   moves_lines : AreShort (moves_text x r.first.items ++ r.lines.items) rest_of
   moves_lines =
@@ -87,7 +87,7 @@ module _ (D : DeskRelations) (only : IsFunction D) (x : Explored) (read : IsRead
       let most = read.most in
       both_short (gathered_lines x read.movers r.first.items (omega (arith, few, most)))
       (subst (λ (l : List ℕ). AreShort l (commands_in row.lines.kept)) (sym row.lines.lines)
-      (kept_lines D commands (commands_of x r.first.items) x.behind.items e.written row.lines.kept e.refused e.finishes read.lines))
+      (kept_lines D commands (commands_of x r.first.items) x.following.items e.written row.lines.kept e.refused e.finishes read.lines))
 
   -- the remarks, and the lines after them
   abbrev head_text : ℕ → List ℕ
@@ -107,68 +107,68 @@ module _ (D : DeskRelations) (only : IsFunction D) (x : Explored) (read : IsRead
       sym (append_assoc (head_text n) ((moves_text x r.first.items ++ r.lines.items) ++ codes "end") (10 ∷ []))
       ∙ ap (λ (l : List ℕ). l ++ 10 ∷ []) (sym (append_assoc (head_text n) (moves_text x r.first.items ++ r.lines.items) (codes "end")))
 
-  after_is : (n : ℕ) (front : List ℕ) → front ++ row_text x n r ≡ ((front ++ body_text n) ++ codes "end") ++ 10 ∷ []
-  after_is n front =
-      ap (λ (l : List ℕ). front ++ l) (text_is n) ∙ sym (append_assoc front (body_text n ++ codes "end") (10 ∷ []))
-      ∙ ap (λ (l : List ℕ). l ++ 10 ∷ []) (sym (append_assoc front (body_text n) (codes "end")))
+  after_is : (n : ℕ) (prefix : List ℕ) → prefix ++ row_text x n r ≡ ((prefix ++ body_text n) ++ codes "end") ++ 10 ∷ []
+  after_is n prefix =
+      ap (λ (l : List ℕ). prefix ++ l) (text_is n) ∙ sym (append_assoc prefix (body_text n ++ codes "end") (10 ∷ []))
+      ∙ ap (λ (l : List ℕ). l ++ 10 ∷ []) (sym (append_assoc prefix (body_text n) (codes "end")))
 
   body_short : (n : ℕ) → has_short_lines (row_text x n r) ≡ true → has_short_lines (body_text n) ≡ true
-  body_short n short = (short_front (body_lines n) (codes "end" ++ 10 ∷ []) (sym (ap has_short_lines (text_is n ∙ append_assoc (body_text n) (codes "end") (10 ∷ []))) ∙ short)).0
+  body_short n short = (short_prefix (body_lines n) (codes "end" ++ 10 ∷ []) (sym (ap has_short_lines (text_is n ∙ append_assoc (body_text n) (codes "end") (10 ∷ []))) ∙ short)).0
 
-  body_within : (n : ℕ) (front : List ℕ) → length (front ++ row_text x n r) ≤ 1048576 → length (front ++ body_text n) + 4 ≤ 1048576
-  body_within n front within =
-      let size : length (front ++ row_text x n r) ≡ length (front ++ body_text n) + 4
-      = ap length (after_is n front) ∙ end_size (front ++ body_text n) in
+  body_within : (n : ℕ) (prefix : List ℕ) → length (prefix ++ row_text x n r) ≤ 1048576 → length (prefix ++ body_text n) + 4 ≤ 1048576
+  body_within n prefix within =
+      let size : length (prefix ++ row_text x n r) ≡ length (prefix ++ body_text n) + 4
+      = ap length (after_is n prefix) ∙ end_size (prefix ++ body_text n) in
       omega (arith, size, within)
 
   paragraph_says : (n : ℕ) (script : List ℕ) → IsScript script (commands ++ End ∷ []) None → HasRoom script (row_text x n r)
       → IsScript (without_end script ++ row_text x n r) (commands ++ rest_of ++ End ∷ []) None
   paragraph_says n script says room =
-      let front = front_lines script commands says in
+      let prefix = prefix_lines script commands says in
       subst (λ (l : List ℕ). IsScript l (commands ++ rest_of ++ End ∷ []) None) (sym (after_is n (without_end script)))
-      (whole_script (lines_then front.0 (body_lines n)) (short_then front.0 (body_text n) front.1 (body_short n room.short)) (body_within n (without_end script) room.within))
+      (whole_script (lines_then prefix.0 (body_lines n)) (short_then prefix.0 (body_text n) prefix.1 (body_short n room.short)) (body_within n (without_end script) room.within))
 
   -- ---- the lines alone
 
-  lines_are : (front : List ℕ) → front ++ rest_text x r ≡ ((front ++ lines_text_of) ++ codes "end") ++ 10 ∷ []
-  lines_are front =
-      sym (append_assoc front (lines_text_of ++ codes "end") (10 ∷ [])) ∙ ap (λ (l : List ℕ). l ++ 10 ∷ []) (sym (append_assoc front lines_text_of (codes "end")))
+  lines_are : (prefix : List ℕ) → prefix ++ rest_text x r ≡ ((prefix ++ lines_text_of) ++ codes "end") ++ 10 ∷ []
+  lines_are prefix =
+      sym (append_assoc prefix (lines_text_of ++ codes "end") (10 ∷ [])) ∙ ap (λ (l : List ℕ). l ++ 10 ∷ []) (sym (append_assoc prefix lines_text_of (codes "end")))
 
-  lines_within : (front : List ℕ) → length (front ++ rest_text x r) ≤ 1048576 → length (front ++ lines_text_of) + 4 ≤ 1048576
-  lines_within front within =
-      let size : length (front ++ rest_text x r) ≡ length (front ++ lines_text_of) + 4
-      = ap length (lines_are front) ∙ end_size (front ++ lines_text_of) in
+  lines_within : (prefix : List ℕ) → length (prefix ++ rest_text x r) ≤ 1048576 → length (prefix ++ lines_text_of) + 4 ≤ 1048576
+  lines_within prefix within =
+      let size : length (prefix ++ rest_text x r) ≡ length (prefix ++ lines_text_of) + 4
+      = ap length (lines_are prefix) ∙ end_size (prefix ++ lines_text_of) in
       omega (arith, size, within)
 
   lines_say : (script : List ℕ) → IsScript script (commands ++ End ∷ []) None → length (without_end script ++ rest_text x r) ≤ 1048576
       → IsScript (without_end script ++ rest_text x r) (commands ++ rest_of ++ End ∷ []) None
   lines_say script says within =
-      let front = front_lines script commands says in
+      let prefix = prefix_lines script commands says in
       subst (λ (l : List ℕ). IsScript l (commands ++ rest_of ++ End ∷ []) None) (sym (lines_are (without_end script)))
-      (whole_script (lines_then front.0 moves_lines.lines) (short_then front.0 lines_text_of front.1 moves_lines.short) (lines_within (without_end script) within))
+      (whole_script (lines_then prefix.0 moves_lines.lines) (short_then prefix.0 lines_text_of prefix.1 moves_lines.short) (lines_within (without_end script) within))
 
   -- ---- what it does
 
-  paragraph_runs : (t : State) × Behind D commands rest_of (row.lines.ends.moved ++ row.lines.ends.written) t
+  paragraph_runs : (t : State) × Subsequent D commands rest_of (row.lines.ends.moved ++ row.lines.ends.written) t
   paragraph_runs =
       let e = row.lines.ends in
       let others = commands_in row.lines.kept in
-      let k = kept_runs D commands only (commands_of x r.first.items) x.behind.items e.written row.lines.kept e.refused e.finishes e.moved e.state e.moves in
+      let k = kept_runs D commands only (commands_of x r.first.items) x.following.items e.written row.lines.kept e.refused e.finishes e.moved e.state e.moves in
       let b = k.1 in
       let s = run_split (commands_of x r.first.items ++ others) commands (commands ++ (commands_of x r.first.items ++ others)) b.whole.actions
       (b.earlier ++ (e.moved ++ e.written)) k.0 b.whole.run refl in
       let p = carried_parts (commands_of x r.first.items) others s.more s.later s.middle k.0 s.carried in
-      let g = gathered_runs x read.movers r.first.items so.movers s.middle p.middle p.first p.now p.front in
+      let g = gathered_runs x read.movers r.first.items so.movers s.middle p.middle p.first p.now p.prefix in
       let c = carried_then (gathered x r.first.items) others p.first p.more p.now p.later s.middle p.middle k.0 g p.rest in
-      let run = run_on rest_of commands s.early (p.first ++ p.more) s.front (p.now ++ p.later) s.middle k.0 s.run c in (
+      let run = run_on rest_of commands s.early (p.first ++ p.more) s.prefix (p.now ++ p.later) s.middle k.0 s.run c in (
         k.0,
         record {
           earlier = b.earlier;
           middle = b.middle;
-          front = b.front;
+          prefix = b.prefix;
           whole = record {
             actions = b.whole.actions;
-            run = as_run (ap (λ z. s.early ++ z) (sym p.actions_are) ∙ sym s.actions_are) (ap (λ z. s.front ++ z) (sym p.out_is) ∙ sym s.log_is) run;
+            run = as_run (ap (λ z. s.early ++ z) (sym p.actions_are) ∙ sym s.actions_are) (ap (λ z. s.prefix ++ z) (sym p.out_is) ∙ sym s.log_is) run;
             given = b.whole.given;
           };
         },

@@ -9,16 +9,17 @@ use Rattle.fw_order.specs.declared.order.Order.TheVariants as order
 use Rattle.fw_order.specs.declared.rule.RuleFault.{RuleFault}
 use Rattle.fw_order.specs.declared.rule.RuleFault.TheVariants.{UnknownName, NameTaken, TooMany, NoPort, PortUsed, Loop, NotController, OffBus}
 use Rattle.fw_order.specs.declared.rule.RuleFault.TheVariants.{Guarded, NoRegister, Limit, TableFull, Busy, NoSuchConnection, NotOwnPlug, NoDeck, NothingStands, TooLate, NotCapable, NotCandidate}
-use Rattle.fw_model_run.specs.Actions.{Finish, Steps}
+use Rattle.fw_model_run.specs.Actions.{Finish}
+use Rattle.fw_model_run.specs.Deeds.{Transitions}
 use Rattle.fw_model_run.specs.Desks.{IsFunction}
 use Rattle.fw_model_run.specs.Given.{AreGiven}
 use Rattle.fw_model_run.specs.Giving.{at_most}
 use Rattle.fw_model_run.specs.Rules.{Breaks, Decides}
 use Rattle.fw_model_run.proofs.Given.{given_append}
 use Rattle.fw_model_run.proofs.OneLog.{last_of, one_run}
-use Rattle.fw_model_run.proofs.OneResult.{CarriedBy, carried}
+use Rattle.fw_model_run.proofs.Decided.{CarriedBy, carried}
 use Rattle.fw_script.specs.declared.ScriptFault.{ScriptFault}
-use Rattle.fw_script.proofs.ScriptLaws.{says_after, says_behind, says_once}
+use Rattle.fw_script.proofs.ScriptLaws.{says_after, says_following, says_once}
 use Rattle.fw_explore_endings.specs.declared.rows.Row.{Row}
 use Rattle.fw_script_words.specs.Ending.{Logged, RefusesBy, RefusesCommand, RefusesLine, Runs}
 use Rattle.fw_script_words.specs.declared.ending.Refusal.{Refusal as WhyRefused}
@@ -61,8 +62,8 @@ never s TooLate b = b
 -- what `end` writes
 end_writes : (s t : State) (o : Order) (xs : List Action) (out : List Timed) → o ≡ order.End → CarriedBy s o xs out t → out ≡ at_most s.clock.cycle (Some EndEntry)
 end_writes s t o xs out is f =
-    let g : Steps s (Finish ∷ []) out t = subst (λ z. CarriedBy s z xs out t) is f in
-    g.4 ∙ ap (λ z. g.0 ++ z) g.5.0 ∙ append-nil g.0 ∙ g.3.1.0
+    let g : Transitions s (Finish ∷ []) out t = (subst (λ z. CarriedBy s z xs out t) is f).1 in
+    g.4 ∙ ap (λ z. g.0 ++ z) g.5.0 ∙ append-nil g.0 ∙ g.3.out_is
 
 -- a command before the last one
 before_end : (cs ds later : List Command) (c : Command) → c ≢ End → cs ++ End ∷ [] ≡ ds ++ c ∷ later → (rest : List Command) × (cs ≡ ds ++ c ∷ rest)
@@ -93,7 +94,7 @@ module _ (D : DeskRelations) (only : IsFunction D) (script : List ℕ) (commands
       let same : l.commands ≡ said ++ End ∷ [] = (says_once (subst (λ (b : List ℕ). IsScript b l.commands None) taken l.says) rest.says).0 in
       let last = last_of l.commands said End l.logged.actions l.logged.log l.logged.state l.logged.run same in
       let given = (given_append D last.early last.more (subst (AreGiven D) last.actions_are l.logged.given)).0 in
-      let one = one_run D only said last.early rest.runs.whole.actions last.front (rest.runs.earlier ++ (rest.told.ends.moved ++ rest.told.ends.written)) last.state
+      let one = one_run D only said last.early rest.runs.whole.actions last.prefix (rest.runs.earlier ++ (rest.told.ends.moved ++ rest.told.ends.written)) last.state
       rest.state last.run rest.runs.whole.run given
       rest.runs.whole.given in
       let written = end_writes last.state l.logged.state last.order last.more last.out last.decided.0 (carried last.state last.order last.more last.out l.logged.state last.carries) in
@@ -109,13 +110,13 @@ module _ (D : DeskRelations) (only : IsFunction D) (script : List ℕ) (commands
   no_rule rule line f =
       let says : IsScript f.script (said ++ End ∷ []) None = subst (λ (b : List ℕ). IsScript b (said ++ End ∷ []) None) f.takes.told rest.says in
       let other : f.command ≢ End = λ e. never f.logged.state rule (subst (λ z. Breaks f.logged.state z rule) e f.decided.0) in
-      let behind = says_behind f.on_line.leads (said ++ End ∷ []) None says in
-      let next = says_after f.command f.on_line.gives other behind.2 in
-      let here = before_end said f.commands next.0 f.command other (behind.1 ∙ ap (λ z. f.commands ++ z) next.1) in
+      let following = says_following f.on_line.leads (said ++ End ∷ []) None says in
+      let next = says_after f.command f.on_line.gives other following.2 in
+      let here = before_end said f.commands next.0 f.command other (following.1 ∙ ap (λ z. f.commands ++ z) next.1) in
       let split = run_split (f.command ∷ here.0) f.commands said rest.runs.whole.actions (rest.runs.earlier ++ (rest.told.ends.moved ++ rest.told.ends.written)) rest.state
       rest.runs.whole.run here.1 in
       let given = (given_append D split.early split.more (subst (AreGiven D) split.actions_are rest.runs.whole.given)).0 in
-      let one = one_run D only f.commands split.early f.logged.actions split.front f.logged.log split.middle f.logged.state split.run f.logged.run given f.logged.given in
+      let one = one_run D only f.commands split.early f.logged.actions split.prefix f.logged.log split.middle f.logged.state split.run f.logged.run given f.logged.given in
       let ok : Decides f.logged.state f.command (Ok split.carried.0) = subst (λ z. Decides z f.command (Ok split.carried.0)) one.1 split.carried.6 in
       ok.1 rule f.decided.0
 

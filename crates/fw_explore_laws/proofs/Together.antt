@@ -9,11 +9,12 @@ use Rattle.fw_order.specs.declared.order.Order.TheVariants as order
 use Rattle.fw_order.specs.declared.rule.RuleFault.{RuleFault}
 use Rattle.fw_order.specs.declared.rule.RuleFault.TheVariants.{UnknownName, NameTaken, TooMany, NoPort, PortUsed, Loop, NotController, OffBus}
 use Rattle.fw_order.specs.declared.rule.RuleFault.TheVariants.{Guarded, NoRegister, Limit, TableFull, Busy, NoSuchConnection, NotOwnPlug, NoDeck, NothingStands, TooLate, NotCapable, NotCandidate}
-use Rattle.fw_model_run.specs.Actions.{HalfStep, Contend, Step, Steps}
+use Rattle.fw_model_run.specs.Actions.{HalfStep, Contend}
+use Rattle.fw_model_run.specs.Deeds.{Transition, Transitions}
 use Rattle.fw_model_run.specs.Carrying.{Carries, steps, contends, times}
 use Rattle.fw_model_run.specs.Named.{IsNamed}
 use Rattle.fw_model_run.specs.Rules.{Breaks, Decides}
-use Rattle.fw_model_run.proofs.Taking.{Taken, listens, keeps_deaf, forces_reset, taken_as}
+use Rattle.fw_model_run.proofs.Taking.{Taken, listens, keeps_deaf, forces_reset, may_step, taken_as}
 use Rattle.fw_explore_laws.proofs.Carried.{Carried}
 
 -- ---- half steps one after another
@@ -30,14 +31,14 @@ times_none a = refl
 -- what a kind of half steps is: its commands, orders and actions
 pub record IsKind (K : List ℕ → ℕ → Command) (A : ℕ → Action) (O : ℕ → ℕ → Order) : Type 0 where
   pub ordered : (s : State) (name : List ℕ) (n : ℕ) (o : Order) → Decides s (K name n) (Ok o) → (d : ℕ) × IsNamed s name d × (o ≡ O d n)
-  pub opened : (s : State) (d n : ℕ) (xs : List Action) (out : List Timed) (t : State) → Carries s (O d n) xs out t → (xs ≡ times n (A d)) × Steps s (times n (A d)) out t
-  pub closed : (s : State) (d n : ℕ) (out : List Timed) (t : State) → Steps s (times n (A d)) out t → Carries s (O d n) (times n (A d)) out t
-  pub counts : (s : State) (d : ℕ) (out : List Timed) (t : State) → Step s (A d) out t → (s.half_steps < MOST_HALF_STEPS) × (t.half_steps ≡ s.half_steps + 1) × (t.declared ≡ s.declared)
+  pub opened : (s : State) (d n : ℕ) (xs : List Action) (out : List Timed) (t : State) → Carries s (O d n) xs out t → (xs ≡ times n (A d)) × Transitions s (times n (A d)) out t
+  pub closed : (s : State) (d n : ℕ) (out : List Timed) (t : State) → Transitions s (times n (A d)) out t → Carries s (O d n) (times n (A d)) out t
+  pub counts : (s : State) (d : ℕ) (out : List Timed) (t : State) → Transition s (A d) out t → (s.half_steps < MOST_HALF_STEPS) × (t.half_steps ≡ s.half_steps + 1) × (t.declared ≡ s.declared)
   pub decided : (s : State) (name : List ℕ) (d n : ℕ) (o : Order) → Decides s (K name 1) (Ok o) → IsNamed s name d → s.half_steps + n ≤ MOST_HALF_STEPS → Decides s (K name n) (Ok (O d n))
 
 -- so many half steps from a state on
 record Took (A : ℕ → Action) (d n : ℕ) (s : State) (actions : List Action) (out : List Timed) (t : State) : Type 0 where
-  pub steps : Steps s (times n (A d)) out t
+  pub steps : Transitions s (times n (A d)) out t
   pub actions_are : actions ≡ times n (A d)
   pub few : (n ≡ 0) ⊎ (s.half_steps + n ≤ MOST_HALF_STEPS)
 
@@ -45,12 +46,12 @@ module _ (K : List ℕ → ℕ → Command) (A : ℕ → Action) (O : ℕ → �
   one_device : (d e : ℕ) (s t : State) → IsNamed s name d → t.declared ≡ s.declared → IsNamed t name e → d ≡ e
   one_device d e s t here same there = same_Some d e (sym here ∙ sym (ap (λ z. device_named z.names name) same) ∙ there)
 
-  took_more : (d n : ℕ) (s m t : State) (first more : List Action) (now later : List Timed) → Step s (A d) now m → first ≡ A d ∷ [] → Took A d n m more later t
+  took_more : (d n : ℕ) (s m t : State) (first more : List Action) (now later : List Timed) → Transition s (A d) now m → first ≡ A d ∷ [] → Took A d n m more later t
       → Took A d (suc n) s (first ++ more) (now ++ later) t
   took_more d n s m t first more now later step first_is took =
       let c = is.counts s d now m step in
       record {
-        steps = subst (λ z. Steps s z (now ++ later) t) (sym (times_first n (A d))) (now, later, m, step, refl, took.steps);
+        steps = subst (λ z. Transitions s z (now ++ later) t) (sym (times_first n (A d))) (now, later, m, step, refl, took.steps);
         actions_are = ap (λ z. z ++ more) first_is ∙ ap (λ z. A d ∷ z) took.actions_are ∙ sym (times_first n (A d));
         few = inr (elim took.few [ inl none ↦ omega (arith, c.0, none) | inr few ↦ omega (arith, c.1, few) ]);
       }
@@ -58,7 +59,7 @@ module _ (K : List ℕ → ℕ → Command) (A : ℕ → Action) (O : ℕ → �
   -- one after the other, all of the device with the name
   took_all : (n d : ℕ) (s t : State) (actions : List Action) (out : List Timed) → IsNamed s name d → Carried s (replicate n (K name 1)) actions out t → Took A d n s actions out t
   took_all zero d s t actions out named f = record {
-    steps = subst (λ z. Steps s z out t) (sym (times_none (A d))) (f.1, f.2);
+    steps = subst (λ z. Transitions s z out t) (sym (times_none (A d))) (f.1, f.2);
     actions_are = f.0 ∙ sym (times_none (A d));
     few = inl refl;
   }
@@ -67,10 +68,10 @@ module _ (K : List ℕ → ℕ → Command) (A : ℕ → Action) (O : ℕ → �
       let same : d ≡ o.0 = one_device d o.0 s s named refl o.1 in
       let opened = is.opened s o.0 1 f.1 f.3 f.5 (subst (λ z. Carries s z f.1 f.3 f.5) o.2 f.7) in
       let at : f.1 ≡ A d ∷ [] = opened.0 ∙ times_first 0 (A o.0) ∙ ap (λ z. A o.0 ∷ z) (times_none (A o.0)) ∙ ap (λ z. A z ∷ []) (sym same) in
-      let steps : Steps s (A d ∷ []) f.3 f.5
-      = subst (λ z. Steps s z f.3 f.5) (times_first 0 (A o.0) ∙ ap (λ z. A o.0 ∷ z) (times_none (A o.0)) ∙ ap (λ z. A z ∷ []) (sym same)) opened.1 in
+      let steps : Transitions s (A d ∷ []) f.3 f.5
+      = subst (λ z. Transitions s z f.3 f.5) (times_first 0 (A o.0) ∙ ap (λ z. A o.0 ∷ z) (times_none (A o.0)) ∙ ap (λ z. A z ∷ []) (sym same)) opened.1 in
       let now_is : f.3 ≡ steps.0 = steps.4 ∙ ap (λ z. steps.0 ++ z) steps.5.0 ∙ append-nil steps.0 in
-      let step : Step s (A d) f.3 f.5 = subst (λ z. Step s (A d) z f.5) (sym now_is) (subst (Step s (A d) steps.0) (sym steps.5.1) steps.3) in
+      let step : Transition s (A d) f.3 f.5 = subst (λ z. Transition s (A d) z f.5) (sym now_is) (subst (Transition s (A d) steps.0) (sym steps.5.1) steps.3) in
       let kept = (is.counts s d f.3 f.5 step).2 in
       let there : IsNamed f.5 name d = ap (λ z. device_named z.names name) kept ∙ named in
       let rest = took_all n d f.5 t f.2 f.4 there f.8 in
@@ -98,13 +99,17 @@ module _ (K : List ℕ → ℕ → Command) (A : ℕ → Action) (O : ℕ → �
 
 -- ---- of controllers
 
-controller_counts : (s : State) (d : ℕ) (out : List Timed) (t : State) → Step s (HalfStep d) out t → (s.half_steps < MOST_HALF_STEPS) × (t.half_steps ≡ s.half_steps + 1) × (t.declared ≡ s.declared)
-controller_counts s d out t x = go (taken_as s d out t x.1.2)
+controller_counts : (s : State) (d : ℕ) (out : List Timed) (t : State) → Transition s (HalfStep d) out t → (s.half_steps < MOST_HALF_STEPS) × (t.half_steps ≡ s.half_steps + 1)
+    × (t.declared ≡ s.declared)
+controller_counts s d out t x = go (taken_as s d out t x)
   where
+    few : s.half_steps < MOST_HALF_STEPS
+    few = (may_step s d x.found x.may).few
+
     go : Taken s d out t → (s.half_steps < MOST_HALF_STEPS) × (t.half_steps ≡ s.half_steps + 1) × (t.declared ≡ s.declared)
-    go (listens quiet said is) = (x.1.1, ap (λ (z : State). z.half_steps) is, ap (λ (z : State). z.declared) is)
-    go (keeps_deaf deaf said is) = (x.1.1, ap (λ (z : State). z.half_steps) is, ap (λ (z : State). z.declared) is)
-    go (forces_reset deaf r) = (x.1.1, ap (λ (z : State). z.half_steps) r.state_is, ap (λ (z : State). z.declared) r.state_is)
+    go (listens quiet said is) = (few, ap (λ (z : State). z.half_steps) is, ap (λ (z : State). z.declared) is)
+    go (keeps_deaf deaf said is) = (few, ap (λ (z : State). z.half_steps) is, ap (λ (z : State). z.declared) is)
+    go (forces_reset deaf r) = (few, ap (λ (z : State). z.half_steps) r.state_is, ap (λ (z : State). z.declared) r.state_is)
 
 controller_rules : (s : State) (name : List ℕ) (n : ℕ) → ((g : RuleFault) → Breaks s (StepCommand name 1) g → ⊥) → s.half_steps + n ≤ MOST_HALF_STEPS
     → (g : RuleFault) → Breaks s (StepCommand name n) g → ⊥
@@ -130,12 +135,12 @@ controller_rules s name n none few Limit b = omega (arith, b, few)
 controller_rules s name n none few TooLate b = none TooLate b
 
 controller_opened : (s : State) (o : Order) (xs : List Action) (out : List Timed) (t : State) → Carries s o xs out t → (d n : ℕ) → o ≡ order.Step d n
-    → (xs ≡ times n (HalfStep d)) × Steps s (times n (HalfStep d)) out t
+    → (xs ≡ times n (HalfStep d)) × Transitions s (times n (HalfStep d)) out t
 controller_opened s o xs out t (steps {d = e} {count = k} f) d n is =
     let device : e ≡ d = cc in
     let count : k ≡ n = cc in
     let same : times k (HalfStep e) ≡ times n (HalfStep d) = ap (λ z. times k (HalfStep z)) device ∙ ap (λ z. times z (HalfStep d)) count in
-    (same, subst (λ z. Steps s z out t) same f)
+    (same, subst (λ z. Transitions s z out t) same f)
 controller_opened s o xs out t f d n is = absurd cc
 
 pub controllers : IsKind StepCommand HalfStep order.Step
@@ -149,8 +154,9 @@ controllers = record {
 
 -- ---- of candidates
 
-candidate_counts : (s : State) (d : ℕ) (out : List Timed) (t : State) → Step s (Contend d) out t → (s.half_steps < MOST_HALF_STEPS) × (t.half_steps ≡ s.half_steps + 1) × (t.declared ≡ s.declared)
-candidate_counts s d out t x = (x.1.few, ap (λ (z : State). z.half_steps) x.1.state_is, ap (λ (z : State). z.declared) x.1.state_is)
+candidate_counts : (s : State) (d : ℕ) (out : List Timed) (t : State) → Transition s (Contend d) out t → (s.half_steps < MOST_HALF_STEPS) × (t.half_steps ≡ s.half_steps + 1)
+    × (t.declared ≡ s.declared)
+candidate_counts s d out t x = (x.may.few, ap (λ (z : State). z.half_steps) x.state_is, ap (λ (z : State). z.declared) x.state_is)
 
 candidate_rules : (s : State) (name : List ℕ) (n : ℕ) → ((g : RuleFault) → Breaks s (ContendCommand name 1) g → ⊥) → s.half_steps + n ≤ MOST_HALF_STEPS
     → (g : RuleFault) → Breaks s (ContendCommand name n) g → ⊥
@@ -176,12 +182,12 @@ candidate_rules s name n none few Limit b = omega (arith, b, few)
 candidate_rules s name n none few TooLate b = none TooLate b
 
 candidate_opened : (s : State) (o : Order) (xs : List Action) (out : List Timed) (t : State) → Carries s o xs out t → (d n : ℕ) → o ≡ order.Contend d n
-    → (xs ≡ times n (Contend d)) × Steps s (times n (Contend d)) out t
+    → (xs ≡ times n (Contend d)) × Transitions s (times n (Contend d)) out t
 candidate_opened s o xs out t (contends {d = e} {count = k} f) d n is =
     let device : e ≡ d = cc in
     let count : k ≡ n = cc in
     let same : times k (Contend e) ≡ times n (Contend d) = ap (λ z. times k (Contend z)) device ∙ ap (λ z. times z (Contend d)) count in
-    (same, subst (λ z. Steps s z out t) same f)
+    (same, subst (λ z. Transitions s z out t) same f)
 candidate_opened s o xs out t f d n is = absurd cc
 
 pub candidates : IsKind ContendCommand Contend order.Contend

@@ -9,8 +9,8 @@ use Rattle.fw_explore_laws.proofs.Rows.{rows_are_rests}
 -- a row's paragraph stands among those of all rows
 record Stands (x : Explored) (n : ℕ) (rows : List Row) (r : Row) (at : ℕ) : Type 0 where
   before : List ℕ
-  behind : List ℕ
-  is : rows_text x n rows ≡ before ++ row_text x at r ++ behind
+  following : List ℕ
+  is : rows_text x n rows ≡ before ++ row_text x at r ++ following
 
 stands : (x : Explored) (rows : List Row) (n k at : ℕ) (r : Row) → slice_get rows k ≡ Some r → n + k ≡ at → Stands x n rows r at
 unfolding rows_text
@@ -18,14 +18,14 @@ stands x [] n k at r e is = absurd cc
 stands x (q ∷ rows) n zero at r e is =
     let same : q ≡ r = same_Some q r e in
     let here : n ≡ at = omega (arith, is) in
-    record { before = []; behind = rows_text x (n + 1) rows; is = ap (λ z. row_text x n z ++ rows_text x (n + 1) rows) same ∙ ap (λ z. row_text x z r ++ rows_text x (n + 1) rows) here }
+    record { before = []; following = rows_text x (n + 1) rows; is = ap (λ z. row_text x n z ++ rows_text x (n + 1) rows) same ∙ ap (λ z. row_text x z r ++ rows_text x (n + 1) rows) here }
 stands x (q ∷ rows) n (suc k) at r e is =
     let rest = stands x rows (n + 1) k at r e (omega (arith, is)) in
     record {
       before = row_text x n q ++ rest.before;
-      behind = rest.behind;
-      is = ap (λ (l : List ℕ). row_text x n q ++ l) rest.is ∙ sym (append_assoc (row_text x n q) (rest.before ++ row_text x at r) rest.behind)
-          ∙ ap (λ (l : List ℕ). l ++ rest.behind) (sym (append_assoc (row_text x n q) rest.before (row_text x at r)));
+      following = rest.following;
+      is = ap (λ (l : List ℕ). row_text x n q ++ l) rest.is ∙ sym (append_assoc (row_text x n q) (rest.before ++ row_text x at r) rest.following)
+          ∙ ap (λ (l : List ℕ). l ++ rest.following) (sym (append_assoc (row_text x n q) rest.before (row_text x at r)));
     }
 
 pub paragraphs_are_rests : (D : DeskRelations) → ParagraphsAreRests D
@@ -36,8 +36,8 @@ paragraphs_are_rests D only words x by left left' text e k r at =
     let s = stands x t.rows 1 k (k + 1) r at (omega arith) in
     record {
       before = head ++ s.before;
-      behind = s.behind;
-      stands = t.is ∙ ap (λ (l : List ℕ). head ++ l) s.is ∙ sym (append_assoc head (s.before ++ row_text x (k + 1) r) s.behind)
-          ∙ ap (λ (l : List ℕ). l ++ s.behind) (sym (append_assoc head s.before (row_text x (k + 1) r)));
+      following = s.following;
+      stands = t.is ∙ ap (λ (l : List ℕ). head ++ l) s.is ∙ sym (append_assoc head (s.before ++ row_text x (k + 1) r) s.following)
+          ∙ ap (λ (l : List ℕ). l ++ s.following) (sym (append_assoc head s.before (row_text x (k + 1) r)));
       rest = rows_are_rests D only words x by e.carried.read.script e.carried.commands e.carried.read.says t.rows t.ended t.cut t.longest (t.explores only) k r at;
     }

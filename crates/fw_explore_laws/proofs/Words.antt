@@ -15,7 +15,7 @@ use Rattle.hex.specs.declared.error.FromHexError.TheVariants.{OddLength, Invalid
 use Rattle.fw_terms.specs.declared.device.DeviceKind.{DeviceKind}
 use Rattle.fw_terms.specs.declared.device.DeviceKind.TheVariants.{Relay, Deck, Camcorder, Computer}
 use Rattle.fw_terms.specs.Devices.{code_of, name_of}
-use Rattle.fw_script_command.specs.Pieces.{parted, pieces}
+use Rattle.fw_script_command.specs.Pieces.{separated, pieces}
 use Rattle.fw_script_command.specs.Words.{both, channel_in, frame_in, is, is_decimal, is_name, is_name_byte, is_taken, kind_in, late_in}
 use Rattle.fw_script_command.specs.Words.{meaning_in, name_in, number_in, offset_in, only_if, or_none, place_by, place_in, shown_in, some_in, word_in}
 use Rattle.fw_script_command.proofs.NumberLaws.{all_digits}
@@ -62,8 +62,8 @@ name_one w = only_one (is_name w) w w (λ e. by e)
   where
     by : is_name w ≡ true → is_one_line w ≡ true
     by e =
-        let front = and_parts _ (not (is_taken w)) e in
-        let bytes = and_parts _ (list_all is_name_byte w) front.0 in
+        let prefix = and_parts _ (not (is_taken w)) e in
+        let bytes = and_parts _ (list_all is_name_byte w) prefix.0 in
         all_weaker is_name_byte (λ b. not (b == 10)) name_byte w bytes.1
 
 pub number_one : (low high : ℕ) (w : List ℕ) → IsRead (number_in low high w) w
@@ -71,8 +71,8 @@ number_one low high w = only_one (is_decimal w && nat_le low (digits_value 10 w)
   where
     by : (is_decimal w && nat_le low (digits_value 10 w) && nat_le (digits_value 10 w) high) ≡ true → is_one_line w ≡ true
     by e =
-        let front = and_parts (is_decimal w && nat_le low (digits_value 10 w)) (nat_le (digits_value 10 w) high) e in
-        let digits = and_parts (is_decimal w) (nat_le low (digits_value 10 w)) front.0 in
+        let prefix = and_parts (is_decimal w && nat_le low (digits_value 10 w)) (nat_le (digits_value 10 w) high) e in
+        let digits = and_parts (is_decimal w) (nat_le low (digits_value 10 w)) prefix.0 in
         all_weaker is_ascii_digit (λ b. not (b == 10)) digit_byte w (all_digits w digits.0)
 
 -- a word that is some text has what the text has
@@ -123,12 +123,12 @@ pub kind_one : (w : List ℕ) → IsRead (kind_in w) w
 kind_one w e = kinds_one (Relay ∷ Deck ∷ Camcorder ∷ Computer ∷ []) w refl e
 
 -- texts with a byte between them
-pub parted_one : (s : ℕ) (ws : List (List ℕ)) → not (s == 10) ≡ true → list_all is_one_line ws ≡ true → is_one_line (parted s ws) ≡ true
-parted_one s [] other all = refl
-parted_one s (w ∷ []) other all = (and_parts (is_one_line w) true all).0
-parted_one s (w ∷ v ∷ ws) other all =
+pub separated_one : (s : ℕ) (ws : List (List ℕ)) → not (s == 10) ≡ true → list_all is_one_line ws ≡ true → is_one_line (separated s ws) ≡ true
+separated_one s [] other all = refl
+separated_one s (w ∷ []) other all = (and_parts (is_one_line w) true all).0
+separated_one s (w ∷ v ∷ ws) other all =
     let parts = and_parts (is_one_line w) (list_all is_one_line (v ∷ ws)) all in
-    one_more w (s ∷ parted s (v ∷ ws)) parts.0 (both_true other (parted_one s (v ∷ ws) other parts.1))
+    one_more w (s ∷ separated s (v ∷ ws)) parts.0 (both_true other (separated_one s (v ∷ ws) other parts.1))
 
 both_one : (o : Option (List ℕ)) (n : Option ℕ) → is_some (both o n) ≡ true → (is_some o ≡ true) × (is_some n ≡ true)
 both_one (Some name) (Some n) e = (refl, refl)
@@ -144,7 +144,7 @@ place_by_one high (name ∷ number ∷ []) e =
 place_by_one high (name ∷ number ∷ w ∷ ws) e = absurd cc
 
 pub place_one : (high : ℕ) (w : List ℕ) → IsRead (place_in high w) w
-place_one high w e = subst (λ (l : List ℕ). is_one_line l ≡ true) (pieces_part 46 w).0 (parted_one 46 (pieces 46 w) refl (place_by_one high (pieces 46 w) e))
+place_one high w e = subst (λ (l : List ℕ). is_one_line l ≡ true) (pieces_part 46 w).0 (separated_one 46 (pieces 46 w) refl (place_by_one high (pieces 46 w) e))
 
 some_read : {A : Type 0} (o : Option A) → is_some (some_in o) ≡ true → is_some o ≡ true
 some_read (Some x) e = refl

@@ -9,7 +9,7 @@ use Rattle.fw_explore_movers.specs.declared.mover.Explored.{Explored}
 use Rattle.fw_explore_movers.specs.Words.{IsExploredBy}
 use Rattle.fw_explore_endings.specs.declared.rows.Row.{Row}
 use Rattle.fw_explore_endings.specs.Texts.{rest_text, row_text}
-use Rattle.fw_explore_meaning.specs.Moves.{Behind}
+use Rattle.fw_explore_meaning.specs.Moves.{Subsequent}
 use Rattle.fw_explore_meaning.specs.Rows.{Explores, HasLines}
 use Rattle.fw_explore_laws.specs.Rest.{without_end, has_short_lines}
 
@@ -27,7 +27,7 @@ pub record IsRest (D : DeskRelations) (script : List ℕ) (commands : List Comma
   pub says : IsScript (without_end script ++ paragraph) (commands ++ rest ++ End ∷ []) None
   pub told : HasLines D commands x r
   pub state : State
-  pub runs : Behind D commands rest (told.ends.moved ++ told.ends.written) state
+  pub runs : Subsequent D commands rest (told.ends.moved ++ told.ends.written) state
 
 -- So are the row's lines below its remarks, if the script has room for them; and with its remarks the whole paragraph.
 pub record RowIsRest (D : DeskRelations) (script : List ℕ) (commands : List Command) (x : Explored) (number : ℕ) (r : Row) : Type 0 where

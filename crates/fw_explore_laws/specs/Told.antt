@@ -11,8 +11,8 @@ use Rattle.fw_explore_laws.specs.Rests.{RowIsRest}
 -- A row of what was told: its paragraph stands in the text, and is the rest of the script that was read.
 pub record IsParagraph (D : DeskRelations) (x : Explored) (left left' : Option (List ℕ)) (text : List ℕ) (e : HasExplored D x left left' text) (number : ℕ) (r : Row) : Type 0 where
   pub before : List ℕ
-  pub behind : List ℕ
-  pub stands : text ≡ before ++ row_text x number r ++ behind
+  pub following : List ℕ
+  pub stands : text ≡ before ++ row_text x number r ++ following
   pub rest : RowIsRest D e.carried.read.script e.carried.commands x number r
 
 -- So is each row of a text that `explore` writes.

@@ -52,10 +52,10 @@ module _ (keys : List ℕ → Option (List ℕ)) (n : ℕ) (from : List ℕ) (p 
 
   with_test : (v : List ℕ) → IsWith v → is_with keys n from p v ≡ true
   with_test v h =
-      let front : take n v ≡ h.before = ap (take n) h.is ∙ take_at h.before (p ∷ []) n h.size in
+      let prefix : take n v ≡ h.before = ap (take n) h.is ∙ take_at h.before (p ∷ []) n h.size in
       both_true (bytes_eq v (take n v ++ p ∷ [])) (is_key from (keys (take n v)))
-      ((bytes_eq-Decides v (take n v ++ p ∷ [])).1 (h.is ∙ ap (λ x. x ++ p ∷ []) (sym front)))
-      (ap (is_key from) (ap keys front ∙ h.key) ∙ is_key_at from)
+      ((bytes_eq-Decides v (take n v ++ p ∷ [])).1 (h.is ∙ ap (λ x. x ++ p ∷ []) (sym prefix)))
+      (ap (is_key from) (ap keys prefix ∙ h.key) ∙ is_key_at from)
 
   test_with : (v : List ℕ) → is_with keys n from p v ≡ true → length v ≡ n + 1 → IsWith v
   test_with v e size =

@@ -23,13 +23,13 @@ below_last [] p q h = inl h
 below_last (x ∷ w) p q h = inr (refl, below_last w p q h)
 
 -- the same move after each
-pub below_front : (w v : List ℕ) (p : ℕ) → length w ≡ length v → IsBelow (w ++ p ∷ []) (v ++ p ∷ []) → IsBelow w v
-below_front [] [] p e (inl h) = absurd (omega arith)
-below_front [] [] p e (inr h) = h.1
-below_front [] (y ∷ v) p e h = absurd (omega (arith, e))
-below_front (x ∷ w) [] p e h = absurd (omega (arith, e))
-below_front (x ∷ w) (y ∷ v) p e (inl h) = inl h
-below_front (x ∷ w) (y ∷ v) p e (inr h) = inr (h.0, below_front w v p (omega (arith, e)) h.1)
+pub below_prefix : (w v : List ℕ) (p : ℕ) → length w ≡ length v → IsBelow (w ++ p ∷ []) (v ++ p ∷ []) → IsBelow w v
+below_prefix [] [] p e (inl h) = absurd (omega arith)
+below_prefix [] [] p e (inr h) = h.1
+below_prefix [] (y ∷ v) p e h = absurd (omega (arith, e))
+below_prefix (x ∷ w) [] p e h = absurd (omega (arith, e))
+below_prefix (x ∷ w) (y ∷ v) p e (inl h) = inl h
+below_prefix (x ∷ w) (y ∷ v) p e (inr h) = inr (h.0, below_prefix w v p (omega (arith, e)) h.1)
 
 pub earlier_trans : (a b c : List ℕ) → IsEarlier a b → IsEarlier b c → IsEarlier a c
 earlier_trans a b c (inl h) (inl k) = inl (omega arith)
@@ -44,8 +44,8 @@ earlier_push w v p q (inr h) = inr (omega (arith, h.0, length-append w (p ∷ []
 pub earlier_last : (w : List ℕ) (p q : ℕ) → p < q → IsEarlier (w ++ p ∷ []) (w ++ q ∷ [])
 earlier_last w p q h = inr (omega (arith, length-append w (p ∷ []), length-append w (q ∷ [])), below_last w p q h)
 
-pub earlier_front : (w v : List ℕ) (p : ℕ) → IsEarlier (w ++ p ∷ []) (v ++ p ∷ []) → IsEarlier w v
-earlier_front w v p (inl h) = inl (omega (arith, length-append w (p ∷ []), length-append v (p ∷ [])))
-earlier_front w v p (inr h) =
+pub earlier_prefix : (w v : List ℕ) (p : ℕ) → IsEarlier (w ++ p ∷ []) (v ++ p ∷ []) → IsEarlier w v
+earlier_prefix w v p (inl h) = inl (omega (arith, length-append w (p ∷ []), length-append v (p ∷ [])))
+earlier_prefix w v p (inr h) =
     let same : length w ≡ length v = omega (arith, h.0, length-append w (p ∷ []), length-append v (p ∷ [])) in
-    inr (same, below_front w v p same h.1)
+    inr (same, below_prefix w v p same h.1)

@@ -8,7 +8,7 @@ use Rattle.fw_explore_levels.specs.Tables.{Entry, IsReached, IsTable}
 use Rattle.fw_explore_levels.specs.Walks.{IsLevel, IsAt, StandsAt, IsEnded, IsRowHead, AreRows}
 use Rattle.fw_explore_levels.proofs.CountLaws.{counts_same, counts_both}
 use Rattle.fw_explore_levels.proofs.TableLaws.{HasOneKey, table_more, table_same, no_table}
-use Rattle.fw_explore_levels.proofs.ScheduleLaws.{front_of}
+use Rattle.fw_explore_levels.proofs.ScheduleLaws.{prefix_of}
 use Rattle.fw_explore_levels.proofs.WalkLaws.{same_entry_at, entry_at, precedes_at, same_place, first_at, counts_at}
 
 pub none_ended : (M : List ℕ → ℕ → Type 0) (K : List ℕ → List ℕ → Type 0) (level : List Entry) (w : List ℕ) → IsEnded M K 0 level 0 w → ⊥
@@ -166,7 +166,7 @@ module _ (M : List ℕ → ℕ → Type 0) (K : List ℕ → List ℕ → Type 0
       ends = h;
       passed = elim (cases_lt (length w) n) [
         | inl less ↦ inl less
-        | inr ge ↦ let f = front_of M n w h.schedule ge in let place = table.whole f.0 f.1 in absurd (omega (arith, place.2))
+        | inr ge ↦ let f = prefix_of M n w h.schedule ge in let place = table.whole f.0 f.1 in absurd (omega (arith, place.2))
       ];
     },
   )

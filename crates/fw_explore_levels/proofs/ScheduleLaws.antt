@@ -27,10 +27,10 @@ module _ (M : List ℕ → ℕ → Type 0) where
   }
 
   -- a long schedule has a prefix of each length
-  pub front_of : (n : ℕ) (w : List ℕ) → Schedule M w → n ≤ length w → (v : List ℕ) × IsOfLength M n v
-  front_of n w begun h = ([], record { schedule = begun; size = omega (arith, h) })
-  front_of n w (and_then {w = v} s p m) h =
+  pub prefix_of : (n : ℕ) (w : List ℕ) → Schedule M w → n ≤ length w → (v : List ℕ) × IsOfLength M n v
+  prefix_of n w begun h = ([], record { schedule = begun; size = omega (arith, h) })
+  prefix_of n w (and_then {w = v} s p m) h =
       elim (cases_lt (length v) n) [
         | inl lt ↦ (v ++ p ∷ [], record { schedule = and_then s p m; size = omega (arith, h, lt, length_push v p) })
-        | inr ge ↦ front_of n v s ge
+        | inr ge ↦ prefix_of n v s ge
       ]

@@ -7,7 +7,7 @@ use Rattle.fw_explore_levels.specs.Order.{IsEarlier}
 use Rattle.fw_explore_levels.specs.Schedules.{begun, IsOfLength}
 use Rattle.fw_explore_levels.specs.Tables.{Entry, IsReached, IsEntry, Precedes}
 use Rattle.fw_explore_levels.specs.Walks.{IsLevel, IsAt, StandsAt, IsBefore, IsTaken, IsHead, IsUnderWay, LeadsOn, IsNoMove}
-use Rattle.fw_explore_levels.proofs.OrderLaws.{earlier_push, earlier_last, earlier_front}
+use Rattle.fw_explore_levels.proofs.OrderLaws.{earlier_push, earlier_last, earlier_prefix}
 use Rattle.fw_explore_levels.proofs.CountLaws.{counts_same, counts_pushed}
 use Rattle.fw_explore_levels.proofs.TableLaws.{HasOneKey, IsMore, table_more, table_same, no_table, one_table}
 use Rattle.fw_explore_levels.proofs.ScheduleLaws.{longer_of, of_longer}
@@ -92,7 +92,7 @@ module _ (M : List ℕ → ℕ → Type 0) (K : List ℕ → List ℕ → Type 0
   more key on = record {
     leads = λ w a. subst (λ x. K x key) (sym a.1) (on a.0 a.2).1;
     first_is = (e.first, refl, first_at M K n level table i e stands);
-    no_earlier = λ w a less. (entry_at M K n level table i e stands).no_earlier a.0 a.2.is a.2.leads (earlier_front a.0 e.first p (subst (λ x. IsEarlier x (e.first ++ p ∷ [])) a.1 less));
+    no_earlier = λ w a less. (entry_at M K n level table i e stands).no_earlier a.0 a.2.is a.2.leads (earlier_prefix a.0 e.first p (subst (λ x. IsEarlier x (e.first ++ p ∷ [])) a.1 less));
     later = head_later;
     counts = counts_pushed (IsAt M K n e) e.ways p (counts_at M K n level table i e stands);
     within = λ w d. d;

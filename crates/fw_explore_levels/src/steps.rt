@@ -5,7 +5,7 @@ use std::marker::Model;
 
 // A step: the number of the one before it, from 1, or 0 for none, and the move.
 #[derive(Clone, Copy)]
-pub(crate) struct Step {
+pub(crate) struct PathStep {
     pub(crate) before: u32,
     pub(crate) mover: u8,
 }
@@ -13,7 +13,7 @@ pub(crate) struct Step {
 // The steps that led to places first, of all lengths: clauses see the path of each, by number, if number 0 is the empty path.
 #[derive(Drop)]
 pub(crate) struct Steps {
-    list: Vec<Step>,
+    list: Vec<PathStep>,
 }
 
 impl Model for Steps {
@@ -49,7 +49,7 @@ impl Steps {
         ensures ok { OnOk result (self.new ≡ self.old ++ (slice_index_or self.old before [] ++ mover ∷ []) ∷ []) }
         ensures err { OnErr result (self.new ≡ self.old) }
     {
-        self.list.push(Step { before, mover })?;
+        self.list.push(PathStep { before, mover })?;
         Ok(())
     }
 

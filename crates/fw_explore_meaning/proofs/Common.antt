@@ -1,11 +1,11 @@
 -- What most files of proofs import.
-pub use Rattle.fw_bus.specs.Buses.{ContinuesRun, Standing, StandsFor}
+pub use Rattle.fw_bus.specs.Buses.{ContinuesRun, BusView, StandsFor}
 pub use Rattle.fw_script_command.specs.declared.command.Command.{Command}
 pub use Rattle.fw_explore_endings.specs.Tallies.{tallies}
 pub use Rattle.fw_explore_endings.specs.declared.rows.Row.{Row}
 pub use Rattle.fw_explore_endings.specs.declared.rows.Rows.{Rows}
 pub use Rattle.fw_log_entry.specs.declared.entry.Timed.{Timed}
-pub use Rattle.fw_explore_meaning.specs.Moves.{Behind, IsCutOff, IsMove, Moves, commands_of}
+pub use Rattle.fw_explore_meaning.specs.Moves.{Subsequent, IsCutOff, IsMove, Moves, commands_of}
 pub use Rattle.fw_explore_meaning.specs.Pasts.{AreDone, Leads, LeadsAt, LeadsTo}
 pub use Rattle.fw_explore_meaning.specs.Rows.{Comes, Explores, HasLines}
 pub use Rattle.fw_explore_meaning.specs.Steps.{Had, IsPlacedKey, IsWiderBy}

@@ -1,14 +1,14 @@
 -- Whether an interleaving is cut off.
 use Rattle.fw_explore_meaning.proofs.Common.{ℕ, ◌≡◌, ◌<◌, List, [], ◌∷◌, ◌++◌, Option, Some, None, drop, length}
 use Rattle.fw_explore_meaning.proofs.Common.{refl, sym, ap, subst, ◌∙◌, same_Some, Timed, Command, Machine, RuleFault, DeskRelations}
-use Rattle.fw_explore_meaning.proofs.Common.{IsFunction, State, Standing, StandsFor, Mover, HalfSteps, Once, Explored, IsMover, History, IsCutOff, Moves, commands_of, LeadsAt, Had}
+use Rattle.fw_explore_meaning.proofs.Common.{IsFunction, State, BusView, StandsFor, Mover, HalfSteps, Once, Explored, IsMover, History, IsCutOff, Moves, commands_of, LeadsAt, Had}
 use Rattle.std.proofs.lemmas.Option.{slice_get_within}
 use Rattle.fw_model_run.specs.Actions.{Action}
 use Rattle.fw_model_run.specs.Runs.{Run}
 use Rattle.fw_model_run.specs.State.{epoch_of}
 use Rattle.fw_explore_meaning.specs.Steps.{CarriesOn, half_in}
 use Rattle.fw_explore_meaning.specs.Finishing.{WritesMore}
-use Rattle.fw_explore_meaning.proofs.BehindLaws.{moves_one, not_refused}
+use Rattle.fw_explore_meaning.proofs.AfterLaws.{moves_one, not_refused}
 use Rattle.fw_explore_meaning.proofs.HistoryLaws.{apart}
 use Rattle.fw_explore_meaning.proofs.PlaceLaws.{moves_on}
 use Rattle.fw_explore_meaning.proofs.StepLaws.{here, going, no_bytes, some_bytes}
@@ -47,14 +47,14 @@ module _ (D : DeskRelations) (script : List Command) (x : Explored) (pasts : Lis
     never_writes e m = apart mover.kind (sym (ap (λ (n : Mover). n.kind) (same_mover m)) ∙ m.kind) e
 
     module _ (only : IsFunction D) (bus : Machine) (stands : (m : Machine) (s : State) → Kept (drop 2 words) m → StandsFor m s
-        → StandsFor bus s) (now : Standing) (bytes : List ℕ) (o : Option RuleFault)
+        → StandsFor bus s) (now : BusView) (bytes : List ℕ) (o : Option RuleFault)
         (carries : (commands : List Command) (actions : List Action) (log : List Timed) (s : State) → Run commands actions log s → StandsFor bus s
         → CarriesOn D commands actions log s mover.command now bytes o) where
       pub never_ruled : (rule : RuleFault) → o ≡ Some rule → WritesMore D script x w p → ⊥
       never_ruled rule e m =
-          let h = subst (λ z. CarriesOn D (script ++ commands_of x w) l.leads.behind.whole.actions (l.leads.behind.earlier ++ l.leads.out) l.leads.state mover.command now bytes z) e
+          let h = subst (λ z. CarriesOn D (script ++ commands_of x w) l.leads.following.whole.actions (l.leads.following.earlier ++ l.leads.out) l.leads.state mover.command now bytes z) e
           (here D script x pasts Kept w words l p mover is only bus stands now bytes o carries) in
-          not_refused D script only (commands_of x w) mover.command l.leads.out m.out l.leads.state rule l.leads.behind h.0 (its_moves m)
+          not_refused D script only (commands_of x w) mover.command l.leads.out m.out l.leads.state rule l.leads.following h.0 (its_moves m)
 
       pub never_silent : o ≡ None → bytes ≡ [] → WritesMore D script x w p → ⊥
       never_silent e none m =

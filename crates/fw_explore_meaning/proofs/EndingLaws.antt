@@ -3,11 +3,11 @@ use Rattle.fw_explore_meaning.proofs.Common.{ℕ, ◌≡◌, List, [], ◌++◌,
 use Rattle.fw_explore_told.specs.Sayings.{said_all, unmarked_from}
 use Rattle.fw_explore_told.specs.Telling.{told, left_out}
 use Rattle.fw_explore_told.proofs.TellingLaws.{told_all, left_marked}
-use Rattle.fw_explore_meaning.specs.Finishing.{CarriedBehind, IsFinished}
+use Rattle.fw_explore_meaning.specs.Finishing.{CarriedAfter, IsFinished}
 use Rattle.fw_explore_meaning.proofs.HistoryLaws.{told_more}
 
 module _ (D : DeskRelations) (script : List Command) (x : Explored) (half : ℕ) (past past' : History) (m : Machine) (w : List ℕ) (l : Leads D script x half past m w) (refused lines : List ℕ)
-    (c : CarriedBehind D script (commands_of x w) x.behind.items past past' [] refused [] lines) where
+    (c : CarriedAfter D script (commands_of x w) x.following.items past past' [] refused [] lines) where
   texts : said_all past'.said ≡ told (l.out ++ c.written)
   texts = ap said_all (c.said ∙ ap (λ z. z ++ told_entries c.written) l.said ∙ sym (told_more l.out c.written)) ∙ sym (told_all (l.out ++ c.written))
 
@@ -20,7 +20,7 @@ module _ (D : DeskRelations) (script : List Command) (x : Explored) (half : ℕ)
     ends = record {
       moved = l.out;
       state = l.state;
-      moves = l.behind;
+      moves = l.following;
       written = c.written;
       refused = c.told;
       finishes = c.finishes;

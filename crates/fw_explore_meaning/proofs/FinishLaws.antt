@@ -1,13 +1,13 @@
 -- What is told after an interleaving is one text, if the desk is a function.
 use Rattle.fw_explore_meaning.proofs.Common.{ℕ, ◌≡◌, List, [], ◌∷◌, ◌++◌, codes, Err, refl, sym, ap, subst}
-use Rattle.fw_explore_meaning.proofs.Common.{◌∙◌, Timed, Command, DeskRelations, IsFunction, Decides, RuleFault, Line, Explored, Behind, Moves}
+use Rattle.fw_explore_meaning.proofs.Common.{◌∙◌, Timed, Command, DeskRelations, IsFunction, Decides, RuleFault, Line, Explored, Subsequent, Moves}
 use Rattle.fw_explore_meaning.proofs.Common.{commands_of, Comes}
 use Rattle.fw_model_run.proofs.Rules.{one_answer}
 use Rattle.fw_explore_levels.proofs.TableLaws.{HasOneKey}
 use Rattle.fw_explore_meaning.specs.Names.{rule_name}
 use Rattle.fw_explore_meaning.specs.Endings.{Finishes, done, carried, refuses}
 use Rattle.fw_explore_told.specs.Telling.{remark, told, left_out}
-use Rattle.fw_explore_meaning.proofs.BehindLaws.{behind_one, moves_one, not_refused}
+use Rattle.fw_explore_meaning.proofs.AfterLaws.{following_one, moves_one, not_refused}
 
 module _ (D : DeskRelations) (script : List Command) (only : IsFunction D) where
   pub finishes_one : (cs : List Command) (lines lines' : List Line) (out other : List Timed) (kept others : List Line) (refused refuseds : List ℕ)
@@ -34,7 +34,7 @@ module _ (D : DeskRelations) (script : List Command) (only : IsFunction D) where
       (refuses {lines = ls'} {kept = ks'} {earlier = r'} {more = o'} {refused = rf'} {state = s'} line' rule' b' d' f') e =
       let head : line ≡ line' = cc e in
       let tail : ls ≡ ls' = cc e in
-      let states = behind_one D script only cs r r' s s' b b' in
+      let states = following_one D script only cs r r' s s' b b' in
       let there : Decides s line.command (Err rule') = subst (λ z. Decides z line.command (Err rule')) (sym states.1) (subst (λ z. Decides s' z.command (Err rule')) (sym head) d') in
       let same : rule ≡ rule' = cc (one_answer s line.command (Err rule) (Err rule') d there) in
       let rest = finishes_one cs ls ls' o o' ks ks' rf rf' f f' tail in (
@@ -49,8 +49,8 @@ module _ (D : DeskRelations) (script : List Command) (only : IsFunction D) where
   pub comes_one : (x : Explored) → HasOneKey (Comes D script x)
   comes_one x = record {
     one = λ w e f a b.
-        let moved = behind_one D script only (commands_of x w) a.ends.moved b.ends.moved a.ends.state b.ends.state a.ends.moves b.ends.moves in
-        let rest = finishes_one (commands_of x w) x.behind.items x.behind.items a.ends.written b.ends.written a.kept b.kept a.ends.refused b.ends.refused a.ends.finishes b.ends.finishes refl in
+        let moved = following_one D script only (commands_of x w) a.ends.moved b.ends.moved a.ends.state b.ends.state a.ends.moves b.ends.moves in
+        let rest = finishes_one (commands_of x w) x.following.items x.following.items a.ends.written b.ends.written a.kept b.kept a.ends.refused b.ends.refused a.ends.finishes b.ends.finishes refl in
         a.ends.is
         ∙ ap (λ z. told (z ++ a.ends.written) ++ left_out x w ++ a.ends.refused) moved.0
         ∙ ap (λ z. told (b.ends.moved ++ z) ++ left_out x w ++ a.ends.refused) rest.0

@@ -1,10 +1,10 @@
 pub mod Common
-pub mod BehindLaws
+pub mod AfterLaws
 pub mod HistoryLaws
 pub mod PlaceLaws
 pub mod StepLaws
 pub mod FinishLaws
-pub mod BehindLines
+pub mod AfterLines
 pub mod WalkingLaws
 pub mod WholeRows
 pub mod CutLaws

@@ -75,7 +75,7 @@ module _ (D : DeskRelations) (only : IsFunction D) (script : List Command) (x : 
   partner_same j p =
       let firsts = first_same D script x rows others e c l e' c' l' a b j p in
       let its = subst (λ w. EndsWith D script x w p.other.ending.items p.other_is.lines.kept) (sym firsts) p.other_is.lines.ends in
-      let kept = finishes_one D script only (commands_of x p.row.first.items) x.behind.items x.behind.items p.is.lines.ends.written its.written p.is.lines.kept p.other_is.lines.kept
+      let kept = finishes_one D script only (commands_of x p.row.first.items) x.following.items x.following.items p.is.lines.ends.written its.written p.is.lines.kept p.other_is.lines.kept
       p.is.lines.ends.refused its.refused
       p.is.lines.ends.finishes its.finishes refl in
       record {

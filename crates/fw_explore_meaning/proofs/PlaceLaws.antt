@@ -1,13 +1,13 @@
 -- What the schedules of a place have alike: each move of one is a move of all, and leads all to one place.
 use Rattle.fw_explore_meaning.proofs.Common.{ℕ, ◌≡◌, ◌+◌, ◌<◌, ◌≤◌, List, [], ◌∷◌, ◌++◌, Option, Some, Err, get_or}
 use Rattle.fw_explore_meaning.proofs.Common.{false, IsTrue, IsFalse, refl, sym, ap, subst, ◌∙◌, arith, Contains, same_Some, Timed}
-use Rattle.fw_explore_meaning.proofs.Common.{Command, words_of, Machine, RuleFault, DeskRelations, IsFunction, Decides, Standing, StandsFor, ContinuesRun, Mover, MoverKind, HalfSteps, Once, Explored}
-use Rattle.fw_explore_meaning.proofs.Common.{IsMover, IsMove, IsCutOff, Behind, Moves, commands_of, History, told_entries, Leads, LeadsAt, LeadsTo, AreDone}
+use Rattle.fw_explore_meaning.proofs.Common.{Command, words_of, Machine, RuleFault, DeskRelations, IsFunction, Decides, BusView, StandsFor, ContinuesRun, Mover, MoverKind, HalfSteps, Once, Explored}
+use Rattle.fw_explore_meaning.proofs.Common.{IsMover, IsMove, IsCutOff, Subsequent, Moves, commands_of, History, told_entries, Leads, LeadsAt, LeadsTo, AreDone}
 use Rattle.std.proofs.lemmas.Bool.{false≢true}
 use Rattle.fw_kept_parts.proofs.WordLaws.{words_back}
 use Rattle.fw_explore_movers.specs.Explored.{half_step_of}
 use Rattle.fw_explore_meaning.specs.Moves.{IsAllowed, half_steps_in}
-use Rattle.fw_explore_meaning.proofs.BehindLaws.{behind_more, moves_of, moves_one, not_refused}
+use Rattle.fw_explore_meaning.proofs.AfterLaws.{following_more, moves_of, moves_one, not_refused}
 use Rattle.fw_explore_meaning.proofs.HistoryLaws.{told_more, apart, commands_more, half_more}
 
 module _ (D : DeskRelations) (script : List Command) (x : Explored) where
@@ -70,7 +70,7 @@ module _ (D : DeskRelations) (script : List Command) (x : Explored) where
     module _ (only : IsFunction D) where
       -- nor what a rule refuses
       pub not_ruled : (fault : RuleFault) → Decides l.state mover.command (Err fault) → IsMove D script x w p → ⊥
-      not_ruled fault refused move = not_refused D script only (commands_of x w) mover.command l.out move.out l.state fault l.behind refused (moves_as move)
+      not_ruled fault refused move = not_refused D script only (commands_of x w) mover.command l.out move.out l.state fault l.following refused (moves_as move)
 
       -- nor a half step that writes nothing
       pub not_silent : mover.kind ≡ HalfSteps → Moves D script (commands_of x w) mover.command [] → IsMove D script x w p → ⊥
@@ -97,20 +97,22 @@ module _ (D : DeskRelations) (script : List Command) (x : Explored) where
     )
 
     -- it leads on
-    pub leads_on : (now : Standing) (held after : Option (List ℕ))
-        (d : ContinuesRun D (script ++ commands_of x w) l.behind.whole.actions (l.behind.earlier ++ l.out) l.state mover.command now held after) (more : History) → AreDone x (w ++ p ∷ []) more.done
+    pub leads_on : (now : BusView) (held after : Option (List ℕ))
+        (d : ContinuesRun D (script ++ commands_of x w) l.following.whole.actions (l.following.earlier ++ l.out) l.state mover.command now held after) (more : History)
+        → AreDone x (w ++ p ∷ []) more.done
         → more.said ≡ past.said ++ told_entries d.out → Leads D script x (half + half_step_of (Some mover)) more now.machine (w ++ p ∷ [])
     leads_on now held after d more done said = record {
       out = l.out ++ d.out;
       state = d.state;
-      behind = subst (λ cs. Behind D script cs (l.out ++ d.out) d.state) (sym (commands_more x w p mover is))
-          (behind_more D script (commands_of x w) mover.command l.out l.state l.behind now held after d);
+      following = subst (λ cs. Subsequent D script cs (l.out ++ d.out) d.state) (sym (commands_more x w p mover is))
+          (following_more D script (commands_of x w) mover.command l.out l.state l.following now held after d);
       stands = d.stands;
       half_is = ap (λ n. n + half_step_of (Some mover)) l.half_is ∙ sym (half_more x w p mover is);
       done = done;
       said = said ∙ ap (λ z. z ++ told_entries d.out) l.said ∙ sym (told_more l.out d.out);
     }
 
-    pub moves_on : (now : Standing) (held after : Option (List ℕ))
-        (d : ContinuesRun D (script ++ commands_of x w) l.behind.whole.actions (l.behind.earlier ++ l.out) l.state mover.command now held after) → Moves D script (commands_of x w) mover.command d.out
-    moves_on now held after d = moves_of D script (commands_of x w) mover.command l.out l.state l.behind now held after d
+    pub moves_on : (now : BusView) (held after : Option (List ℕ))
+        (d : ContinuesRun D (script ++ commands_of x w) l.following.whole.actions (l.following.earlier ++ l.out) l.state mover.command now held after)
+        → Moves D script (commands_of x w) mover.command d.out
+    moves_on now held after d = moves_of D script (commands_of x w) mover.command l.out l.state l.following now held after d

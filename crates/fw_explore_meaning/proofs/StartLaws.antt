@@ -1,7 +1,26 @@
 -- Before any move: the place that the script leads to.
 use Rattle.fw_explore_meaning.proofs.Common.{ℕ, zero, suc, ◌≡◌, ◌<◌, List, [], ◌∷◌, ◌++◌, Bool, true, false, IsTrue}
 use Rattle.fw_explore_meaning.proofs.Common.{get_or, length, refl, sym, ap, subst, ◌∙◌, arith, All, Contains, Timed, Command, Machine}
-use Rattle.fw_explore_meaning.proofs.Common.{DeskRelations, State, StandsFor, Entry, Walked, Rows, tallies, Explored, History, Behind, IsMove, IsCutOff, AreDone, Leads, LeadsTo, Comes, HasLines, Had}
+use Rattle.fw_explore_meaning.proofs.Common.{
+  DeskRelations,
+  State,
+  StandsFor,
+  Entry,
+  Walked,
+  Rows,
+  tallies,
+  Explored,
+  History,
+  Subsequent,
+  IsMove,
+  IsCutOff,
+  AreDone,
+  Leads,
+  LeadsTo,
+  Comes,
+  HasLines,
+  Had,
+}
 use Rattle.fw_explore_meaning.proofs.Common.{IsPlacedKey, IsGoing}
 use Rattle.std.proofs.Common.{◌^◌, replicate, slice_index, append-nil}
 use Rattle.std.proofs.lemmas.Bool.{false≢true}
@@ -19,11 +38,11 @@ no_mark (suc n) zero = refl
 no_mark (suc n) (suc p) = no_mark n p
 
 module _ (D : DeskRelations) (script : List Command) (x : Explored) (log : List Timed) (state : State) (runs : RunsTo D script log state) where
-  nothing_more : Behind D script [] [] state
+  nothing_more : Subsequent D script [] [] state
   nothing_more = record {
     earlier = log;
     middle = state;
-    front = runs;
+    prefix = runs;
     whole = subst (λ cs. RunsTo D cs (log ++ []) state) (sym (append-nil script)) (subst (λ l. RunsTo D script l state) (sym (append-nil log)) runs);
   }
 
@@ -34,7 +53,7 @@ module _ (D : DeskRelations) (script : List Command) (x : Explored) (log : List 
   )
 
   pub leads_first : (m : Machine) → StandsFor m state → Leads D script x 0 first_history m []
-  leads_first m stands = record { out = []; state = state; behind = nothing_more; stands = stands; half_is = refl; done = none_done; said = refl }
+  leads_first m stands = record { out = []; state = state; following = nothing_more; stands = stands; half_is = refl; done = none_done; said = refl }
 
   -- the walk begins there
   pub starts : (pasts : List History) (K : List ℕ → Machine → Type 0) (key : List ℕ) (m : Machine) → IsFirstKey (Had pasts) K m key → StandsFor m state → (levels : Walked) (rows : Rows)

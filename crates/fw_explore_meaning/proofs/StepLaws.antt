@@ -2,7 +2,7 @@
 use Rattle.fw_explore_meaning.proofs.Common.{ℕ, ◌≡◌, ◌+◌, ◌<◌, ◌≤◌, List, [], ◌∷◌, ◌++◌, Bool, true, false, Option, Some}
 use Rattle.fw_explore_meaning.proofs.Common.{None, Err, drop, length, get_or, IsTrue, IsFalse, inl, inr, refl, sym, ap, subst}
 use Rattle.fw_explore_meaning.proofs.Common.{◌∙◌, arith, All, Timed, Command, Machine, RuleFault, DeskRelations, IsFunction}
-use Rattle.fw_explore_meaning.proofs.Common.{Decides, State, Standing, StandsFor, ContinuesRun, Mover, MoverKind, HalfSteps}
+use Rattle.fw_explore_meaning.proofs.Common.{Decides, State, BusView, StandsFor, ContinuesRun, Mover, MoverKind, HalfSteps}
 use Rattle.fw_explore_meaning.proofs.Common.{Once, Explored, IsMover, IsMove, Moves, commands_of, History, told_entries, Leads, LeadsAt, LeadsTo, AreDone, Had}
 use Rattle.std.proofs.Common.{◌^◌, set, slice_index}
 use Rattle.std.proofs.Common.{append_assoc, append-nil}
@@ -20,9 +20,9 @@ use Rattle.fw_explore_meaning.proofs.HistoryLaws.{done_once, done_half}
 use Rattle.fw_explore_meaning.proofs.PlaceLaws.{not_again, not_before, not_beyond, not_ruled, not_silent, is_move, half_allowed, once_allowed, leads_on, moves_on}
 
 -- entries after others fit
-pub fit_after : (log out : List Timed) → ((front rest : List Timed) (t : Timed) → log ++ out ≡ front ++ t ∷ rest → TimedFits t) → All TimedFits out
+pub fit_after : (log out : List Timed) → ((prefix rest : List Timed) (t : Timed) → log ++ out ≡ prefix ++ t ∷ rest → TimedFits t) → All TimedFits out
 fit_after log [] h = λ k d l. absurd (omega (arith, l))
-fit_after log (t ∷ ts) h = All-cons TimedFits t ts (h log ts t refl) (fit_after (log ++ t ∷ []) ts (λ front rest u e. h front rest u (sym (append_assoc log (t ∷ []) ts) ∙ e)))
+fit_after log (t ∷ ts) h = All-cons TimedFits t ts (h log ts t refl) (fit_after (log ++ t ∷ []) ts (λ prefix rest u e. h prefix rest u (sym (append_assoc log (t ∷ []) ts) ∙ e)))
 
 -- no bytes are no entries
 pub no_bytes : (epoch : ℕ) (out : List Timed) → out ≡ [] → entries_bytes Two epoch out ≡ []
@@ -55,20 +55,20 @@ module _ (D : DeskRelations) (script : List Command) (x : Explored) (pasts : Lis
   pub none_beyond : mover.kind ≡ HalfSteps → x.most ≤ half_in words → IsMove D script x w p → ⊥
   none_beyond e full = let h = half_is in not_beyond D script x l.half l.past l.machine w l.leads p mover is e (omega (arith, full, h))
 
-  module _ (only : IsFunction D) (bus : Machine) (stands : (m : Machine) (s : State) → Kept (drop 2 words) m → StandsFor m s → StandsFor bus s) (now : Standing) (bytes : List ℕ) (o : Option RuleFault)
+  module _ (only : IsFunction D) (bus : Machine) (stands : (m : Machine) (s : State) → Kept (drop 2 words) m → StandsFor m s → StandsFor bus s) (now : BusView) (bytes : List ℕ) (o : Option RuleFault)
       (carries : (commands : List Command) (actions : List Action) (log : List Timed) (s : State) → Run commands actions log s → StandsFor bus s
       → CarriesOn D commands actions log s mover.command now bytes o) where
-    pub here : CarriesOn D (script ++ commands_of x w) l.leads.behind.whole.actions (l.leads.behind.earlier ++ l.leads.out) l.leads.state mover.command now bytes o
-    here = carries (script ++ commands_of x w) l.leads.behind.whole.actions (l.leads.behind.earlier ++ l.leads.out) l.leads.state l.leads.behind.whole.run
+    pub here : CarriesOn D (script ++ commands_of x w) l.leads.following.whole.actions (l.leads.following.earlier ++ l.leads.out) l.leads.state mover.command now bytes o
+    here = carries (script ++ commands_of x w) l.leads.following.whole.actions (l.leads.following.earlier ++ l.leads.out) l.leads.state l.leads.following.whole.run
         (stands l.machine l.leads.state (subst (λ n. Kept n l.machine) (sym machine_is) l.kept) l.leads.stands)
 
     pub none_ruled : (rule : RuleFault) → o ≡ Some rule → IsMove D script x w p → ⊥
     none_ruled rule e =
-        let h = subst (λ z. CarriesOn D (script ++ commands_of x w) l.leads.behind.whole.actions (l.leads.behind.earlier ++ l.leads.out) l.leads.state mover.command now bytes z) e here in
+        let h = subst (λ z. CarriesOn D (script ++ commands_of x w) l.leads.following.whole.actions (l.leads.following.earlier ++ l.leads.out) l.leads.state mover.command now bytes z) e here in
         not_ruled D script x l.half l.past l.machine w l.leads p mover is only rule h.0
 
-    pub going : o ≡ None → ContinuesRun D (script ++ commands_of x w) l.leads.behind.whole.actions (l.leads.behind.earlier ++ l.leads.out) l.leads.state mover.command now (Some []) (Some bytes)
-    going e = subst (λ z. CarriesOn D (script ++ commands_of x w) l.leads.behind.whole.actions (l.leads.behind.earlier ++ l.leads.out) l.leads.state mover.command now bytes z) e here
+    pub going : o ≡ None → ContinuesRun D (script ++ commands_of x w) l.leads.following.whole.actions (l.leads.following.earlier ++ l.leads.out) l.leads.state mover.command now (Some []) (Some bytes)
+    going e = subst (λ z. CarriesOn D (script ++ commands_of x w) l.leads.following.whole.actions (l.leads.following.earlier ++ l.leads.out) l.leads.state mover.command now bytes z) e here
 
     pub none_silent : o ≡ None → mover.kind ≡ HalfSteps → bytes ≡ [] → IsMove D script x w p → ⊥
     none_silent e half none =
@@ -94,7 +94,7 @@ module _ (D : DeskRelations) (script : List Command) (x : Explored) (pasts : Lis
     steps_on Had' Kept' key e size few there below wrote arrives =
         let d = going e in
         let epoch = epoch_of l.leads.state.account.latest in
-        let fits = fit_after (l.leads.behind.earlier ++ l.leads.out) d.out d.sound.fits in
+        let fits = fit_after (l.leads.following.earlier ++ l.leads.out) d.out d.sound.fits in
         let had : Had pasts (past_in words) l.past = subst (λ n. Had pasts n l.past) (sym (ap past_in l.words_are)) l.had in
         let a = arrives epoch d.out l.past fits d.grew had in
         let moves = moves_on D script x l.half l.past l.machine w l.leads p mover is now (Some []) (Some bytes) d in
@@ -118,7 +118,8 @@ module _ (D : DeskRelations) (script : List Command) (x : Explored) (pasts : Lis
           },
         )
       where
-        led : (kind : MoverKind) → mover.kind ≡ kind → (d : ContinuesRun D (script ++ commands_of x w) l.leads.behind.whole.actions (l.leads.behind.earlier ++ l.leads.out) l.leads.state mover.command
+        led : (kind : MoverKind) → mover.kind ≡ kind
+            → (d : ContinuesRun D (script ++ commands_of x w) l.leads.following.whole.actions (l.leads.following.earlier ++ l.leads.out) l.leads.state mover.command
             now (Some []) (Some bytes))
             → Leads D script x (half_after kind (half_in words)) (history_after kind p d.out l.past) now.machine (w ++ p ∷ [])
         led HalfSteps k d =

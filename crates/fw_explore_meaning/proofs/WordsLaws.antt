@@ -9,20 +9,20 @@ use Rattle.std.proofs.lemmas.List.Elements.{All-nil, All-push, All-weaker}
 use Rattle.std.proofs.lemmas.Option.{get_or_from_slice_get, slice_get_within}
 use Rattle.fw_bus.specs.Buses.{IsCommand}
 use Rattle.fw_explore_movers.specs.Explored.{AreInOrder}
-use Rattle.fw_explore_movers.specs.Words.{Read, Reads, ReadsAll, nothing_read, with_mover, with_line, number, goes_on, half_steps, line, behind, all_read, reads, IsExploredBy}
+use Rattle.fw_explore_movers.specs.Words.{Read, Reads, ReadsAll, nothing_read, with_mover, with_line, number, goes_on, half_steps, line, following, all_read, reads, IsExploredBy}
 use Rattle.fw_explore_meaning.specs.Steps.{IsExplored}
 
 -- what holds of the words so far, of which the next has the number n
 record IsSoFar (n : ℕ) (r : Read) : Type 0 where
   pub few : length r.movers ≤ 32
   pub movers : All (λ (m : Mover). IsCommand m.command) r.movers
-  pub commands : All (λ (l : Line). IsCommand l.command) r.behind
+  pub commands : All (λ (l : Line). IsCommand l.command) r.following
   pub below : All (λ (m : Mover). m.word < n) r.movers
-  pub lines_below : All (λ (l : Line). l.word < n) r.behind
+  pub lines_below : All (λ (l : Line). l.word < n) r.following
   pub in_order : AllPairs (λ (m k : Mover). m.word < k.word) r.movers
-  pub lines_in_order : AllPairs (λ (l k : Line). l.word < k.word) r.behind
-  pub apart : All (λ (m : Mover). All (λ (l : Line). m.word < l.word) r.behind) r.movers
-  pub early : IsFalse r.follows → r.behind ≡ []
+  pub lines_in_order : AllPairs (λ (l k : Line). l.word < k.word) r.following
+  pub apart : All (λ (m : Mover). All (λ (l : Line). m.word < l.word) r.following) r.movers
+  pub early : IsFalse r.follows → r.following ≡ []
 
 at_first : IsSoFar 1 nothing_read
 at_first = record {
@@ -40,8 +40,8 @@ at_first = record {
 later : (n : ℕ) (r : Read) → IsSoFar n r → All (λ (m : Mover). m.word < n + 1) r.movers
 later n r s = All-weaker (λ (m : Mover). m.word < n) (λ (m : Mover). m.word < n + 1) (λ m h. omega (arith, h)) r.movers s.below
 
-lines_later : (n : ℕ) (r : Read) → IsSoFar n r → All (λ (l : Line). l.word < n + 1) r.behind
-lines_later n r s = All-weaker (λ (l : Line). l.word < n) (λ (l : Line). l.word < n + 1) (λ l h. omega (arith, h)) r.behind s.lines_below
+lines_later : (n : ℕ) (r : Read) → IsSoFar n r → All (λ (l : Line). l.word < n + 1) r.following
+lines_later n r s = All-weaker (λ (l : Line). l.word < n) (λ (l : Line). l.word < n + 1) (λ l h. omega (arith, h)) r.following s.lines_below
 
 -- a mover more
 mover_more : (n : ℕ) (r : Read) (m : Mover) → IsSoFar n r → IsFalse r.follows → IsCommand m.command → m.word ≡ n → length r.movers < 32 → IsSoFar (n + 1) (with_mover r m)
@@ -54,7 +54,7 @@ mover_more n r m s first command word room = record {
   in_order = all_pairs_push (λ (o k : Mover). o.word < k.word) r.movers m s.in_order (All-weaker (λ (o : Mover). o.word < n) (λ (o : Mover). o.word < m.word) (λ o h. omega (arith, h, word)) r.movers
       s.below);
   lines_in_order = s.lines_in_order;
-  apart = All-push (λ (o : Mover). All (λ (l : Line). o.word < l.word) r.behind) r.movers m s.apart
+  apart = All-push (λ (o : Mover). All (λ (l : Line). o.word < l.word) r.following) r.movers m s.apart
       (subst (All (λ (l : Line). m.word < l.word)) (sym (s.early first)) (All-nil (λ (l : Line). m.word < l.word)));
   early = s.early;
 }
@@ -64,13 +64,14 @@ line_more : (n : ℕ) (r : Read) (l : Line) → IsSoFar n r → r.follows ≡ tr
 line_more n r l s follows command word = record {
   few = s.few;
   movers = s.movers;
-  commands = All-push (λ (k : Line). IsCommand k.command) r.behind l s.commands command;
+  commands = All-push (λ (k : Line). IsCommand k.command) r.following l s.commands command;
   below = later n r s;
-  lines_below = All-push (λ (k : Line). k.word < n + 1) r.behind l (lines_later n r s) (omega (arith, word));
+  lines_below = All-push (λ (k : Line). k.word < n + 1) r.following l (lines_later n r s) (omega (arith, word));
   in_order = s.in_order;
-  lines_in_order = all_pairs_push (λ (o k : Line). o.word < k.word) r.behind l s.lines_in_order (All-weaker (λ (k : Line). k.word < n) (λ (k : Line). k.word < l.word) (λ k h. omega (arith, h, word))
-      r.behind s.lines_below);
-  apart = λ k d less. All-push (λ (o : Line). (get_or r.movers k d).word < o.word) r.behind l (s.apart k d less) (let h = s.below k d less in omega (arith, h, word));
+  lines_in_order = all_pairs_push (λ (o k : Line). o.word < k.word) r.following l s.lines_in_order
+      (All-weaker (λ (k : Line). k.word < n) (λ (k : Line). k.word < l.word) (λ k h. omega (arith, h, word))
+      r.following s.lines_below);
+  apart = λ k d less. All-push (λ (o : Line). (get_or r.movers k d).word < o.word) r.following l (s.apart k d less) (let h = s.below k d less in omega (arith, h, word));
   early = λ f. absurd (true≢false (sym follows ∙ f));
 }
 
@@ -99,7 +100,7 @@ one_more n word r s (goes_on is first then) so = record {
 }
 one_more n word r s (half_steps {line = l} m is first then steps form text kind at room once) so = mover_more n r m so first (l, form) at room
 one_more n word r s (line m is first steps short form may text kind at room) so = mover_more n r m so first (word, form.form) at room
-one_more n word r s (behind l is follows short form may text at room) so = line_more n r l so follows (word, form.form) at
+one_more n word r s (following l is follows short form may text at room) so = line_more n r l so follows (word, form.form) at
 
 all_more : (n : ℕ) (words : List (List ℕ)) (r s : Read) → ReadsAll n words r s → IsSoFar n r → (m : ℕ) × IsSoFar m s
 all_more n words r s all_read so = (n, so)
@@ -116,12 +117,12 @@ explored_by words x e =
       record {
         few = subst (λ ms. length ms ≤ 32) (sym e.movers) so.few;
         commands = mover_command x movers;
-        behind = subst (All (λ (l : Line). IsCommand l.command)) (sym e.behind) so.commands;
+        following = subst (All (λ (l : Line). IsCommand l.command)) (sym e.following) so.commands;
       },
       record {
         movers = subst (AllPairs (λ (m k : Mover). m.word < k.word)) (sym e.movers) so.in_order;
-        lines = subst (AllPairs (λ (l k : Line). l.word < k.word)) (sym e.behind) so.lines_in_order;
-        apart = subst (λ ms. All (λ (m : Mover). All (λ (l : Line). m.word < l.word) x.behind.items) ms) (sym e.movers)
-            (subst (λ ls. All (λ (m : Mover). All (λ (l : Line). m.word < l.word) ls) e.read.movers) (sym e.behind) so.apart);
+        lines = subst (AllPairs (λ (l k : Line). l.word < k.word)) (sym e.following) so.lines_in_order;
+        apart = subst (λ ms. All (λ (m : Mover). All (λ (l : Line). m.word < l.word) x.following.items) ms) (sym e.movers)
+            (subst (λ ls. All (λ (m : Mover). All (λ (l : Line). m.word < l.word) ls) e.read.movers) (sym e.following) so.apart);
       },
     )

@@ -9,7 +9,7 @@ use Rattle.fw_model_run.specs.State.{State}
 use Rattle.fw_explore_movers.specs.declared.mover.Line.{Line}
 use Rattle.fw_explore_movers.specs.declared.mover.Explored.{Explored}
 use Rattle.fw_explore_told.specs.Telling.{remark, told, left_out}
-use Rattle.fw_explore_meaning.specs.Moves.{Behind, Moves, commands_of}
+use Rattle.fw_explore_meaning.specs.Moves.{Subsequent, Moves, commands_of}
 use Rattle.fw_explore_meaning.specs.Names.{rule_name}
 
 -- what is told of a line that a rule refused
@@ -24,15 +24,15 @@ pub data Finishes (D : DeskRelations) (script : List Command) : List Command →
       → Moves D script commands line.command out → Finishes D script (commands ++ line.command ∷ []) lines more kept refused
       → Finishes D script commands (line ∷ lines) (out ++ more) (line ∷ kept) refused
   refuses : {commands : List Command} {lines kept : List Line} {earlier more : List Timed} {refused : List ℕ} {state : State} → (line : Line) → (rule : RuleFault)
-      → Behind D script commands earlier state → Decides state line.command (Err rule) → Finishes D script commands lines more kept refused
+      → Subsequent D script commands earlier state → Decides state line.command (Err rule) → Finishes D script commands lines more kept refused
       → Finishes D script commands (line ∷ lines) more kept (refusal_of rule line ++ refused)
 
 -- The ending of an interleaving, and which lines were carried out after it.
 pub record EndsWith (D : DeskRelations) (script : List Command) (x : Explored) (w : List ℕ) (ending : List ℕ) (kept : List Line) : Type 0 where
   pub moved : List Timed
   pub state : State
-  pub moves : Behind D script (commands_of x w) moved state
+  pub moves : Subsequent D script (commands_of x w) moved state
   pub written : List Timed
   pub refused : List ℕ
-  pub finishes : Finishes D script (commands_of x w) x.behind.items written kept refused
+  pub finishes : Finishes D script (commands_of x w) x.following.items written kept refused
   pub is : ending ≡ told (moved ++ written) ++ left_out x w ++ refused

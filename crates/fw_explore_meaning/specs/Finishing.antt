@@ -4,13 +4,13 @@ use Rattle.fw_log_entry.specs.declared.entry.Timed.{Timed}
 use Rattle.fw_script_command.specs.declared.command.Command.{Command}
 use Rattle.fw_model_run.specs.Desks.{DeskRelations}
 use Rattle.fw_model_run.specs.State.{State}
-use Rattle.fw_bus.specs.Buses.{Standing, StandsFor}
+use Rattle.fw_bus.specs.Buses.{BusView, StandsFor}
 use Rattle.fw_explore_movers.specs.declared.mover.Mover.{Mover}
 use Rattle.fw_explore_movers.specs.declared.mover.Line.{Line}
 use Rattle.fw_explore_movers.specs.declared.mover.MoverKind.TheVariants.{HalfSteps}
 use Rattle.fw_explore_movers.specs.declared.mover.Explored.{Explored}
 use Rattle.fw_explore_movers.specs.Explored.{IsMover}
-use Rattle.fw_explore_meaning.specs.Moves.{IsCutOff, Moves, commands_of, Behind}
+use Rattle.fw_explore_meaning.specs.Moves.{IsCutOff, Moves, commands_of, Subsequent}
 use Rattle.fw_explore_meaning.specs.Endings.{Finishes, EndsWith}
 use Rattle.fw_explore_told.specs.Histories.{History, told_entries}
 use Rattle.fw_explore_told.specs.Sayings.{lines_text}
@@ -35,7 +35,7 @@ IsCut D script x w true = IsCutOff D script x w
 IsCut D script x w false = IsCutOff D script x w → ⊥
 
 -- the lines after were carried out or refused: what was told, what is told of it, and the text of both
-pub record CarriedBehind (D : DeskRelations) (script commands : List Command) (lines : List Line) (past past' : History) (refused refused' text text' : List ℕ) : Type 0 where
+pub record CarriedAfter (D : DeskRelations) (script commands : List Command) (lines : List Line) (past past' : History) (refused refused' text text' : List ℕ) : Type 0 where
   pub written : List Timed
   pub kept : List Line
   pub told : List ℕ

@@ -24,10 +24,10 @@ pub record RunsTo (D : DeskRelations) (commands : List Command) (log : List Time
   pub given : AreGiven D actions
 
 -- after the script these commands are carried out without a refusal, and write these entries
-pub record Behind (D : DeskRelations) (script commands : List Command) (out : List Timed) (state : State) : Type 0 where
+pub record Subsequent (D : DeskRelations) (script commands : List Command) (out : List Timed) (state : State) : Type 0 where
   pub earlier : List Timed
   pub middle : State
-  pub front : RunsTo D script earlier middle
+  pub prefix : RunsTo D script earlier middle
   pub whole : RunsTo D (script ++ commands) (earlier ++ out) state
 
 -- after the script and the commands so is one more, and it writes these entries
@@ -35,8 +35,8 @@ pub record Moves (D : DeskRelations) (script commands : List Command) (c : Comma
   pub earlier : List Timed
   pub from : State
   pub to : State
-  pub before : Behind D script commands earlier from
-  pub after : Behind D script (commands ++ c ∷ []) (earlier ++ out) to
+  pub before : Subsequent D script commands earlier from
+  pub after : Subsequent D script (commands ++ c ∷ []) (earlier ++ out) to
 
 -- ---- moves
 

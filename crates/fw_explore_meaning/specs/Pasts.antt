@@ -13,7 +13,7 @@ use Rattle.fw_explore_movers.specs.declared.mover.MoverKind.TheVariants.{Once}
 use Rattle.fw_explore_movers.specs.declared.mover.Explored.{Explored}
 use Rattle.fw_explore_movers.specs.Explored.{IsMover}
 use Rattle.fw_explore_told.specs.Histories.{History, told_entries}
-use Rattle.fw_explore_meaning.specs.Moves.{Behind, commands_of, half_steps_in}
+use Rattle.fw_explore_meaning.specs.Moves.{Subsequent, commands_of, half_steps_in}
 
 -- those lines are marked that are among the moves
 abbrev pub AreDone : Explored → List ℕ → List Bool → Type 0
@@ -23,7 +23,7 @@ AreDone x w done = (p : ℕ) (m : Mover) → IsMover x p m → m.kind ≡ Once �
 pub record Leads (D : DeskRelations) (script : List Command) (x : Explored) (half : ℕ) (past : History) (m : Machine) (w : List ℕ) : Type 0 where
   pub out : List Timed
   pub state : State
-  pub behind : Behind D script (commands_of x w) out state
+  pub following : Subsequent D script (commands_of x w) out state
   pub stands : StandsFor m state
   pub half_is : half ≡ half_steps_in x w
   pub done : AreDone x w past.done

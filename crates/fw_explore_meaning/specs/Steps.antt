@@ -12,7 +12,7 @@ use Rattle.fw_model_run.specs.Actions.{Action}
 use Rattle.fw_model_run.specs.Desks.{DeskRelations, IsFunction}
 use Rattle.fw_model_run.specs.Rules.{Decides}
 use Rattle.fw_model_run.specs.State.{State}
-use Rattle.fw_bus.specs.Buses.{Standing, StandsFor, ContinuesRun, IsCommand}
+use Rattle.fw_bus.specs.Buses.{BusView, StandsFor, ContinuesRun, IsCommand}
 use Rattle.fw_explore_movers.specs.declared.mover.Mover.{Mover}
 use Rattle.fw_explore_movers.specs.declared.mover.MoverKind.{MoverKind}
 use Rattle.fw_explore_movers.specs.declared.mover.MoverKind.TheVariants.{HalfSteps, Once}
@@ -25,7 +25,7 @@ use Rattle.fw_explore_meaning.specs.Pasts.{LeadsAt, LeadsTo}
 -- ---- one command
 
 -- the run goes on with it, and these bytes were written; or a rule refuses it
-abbrev pub CarriesOn : DeskRelations → List Command → List Action → List Timed → State → Command → Standing → List ℕ → Option RuleFault → Type 0
+abbrev pub CarriesOn : DeskRelations → List Command → List Action → List Timed → State → Command → BusView → List ℕ → Option RuleFault → Type 0
 CarriesOn D commands actions log s c now bytes None = ContinuesRun D commands actions log s c now (Some []) (Some bytes)
 CarriesOn D commands actions log s c now bytes (Some rule) = Decides s c (Err rule) × StandsFor now.machine s
 
@@ -84,7 +84,7 @@ Steps D script x Had Kept w p key false = IsMove D script x w p → ⊥
 pub record IsExplored (x : Explored) : Type 0 where
   pub few : length x.movers.items ≤ 32
   pub commands : (p : ℕ) (m : Mover) → IsMover x p m → IsCommand m.command
-  pub behind : All (λ l. IsCommand l.command) x.behind.items
+  pub following : All (λ l. IsCommand l.command) x.following.items
 
 -- a place: there is a history and a machine with these numbers
 pub record IsPlaced (Had : ℕ → History → Type 0) (Kept : List ℕ → Machine → Type 0) (words : List ℕ) : Type 0 where

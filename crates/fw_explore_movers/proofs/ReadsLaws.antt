@@ -4,11 +4,11 @@ use Rattle.std.proofs.lemmas.List.{take_more, take_all, take-append-drop, take-m
 use Rattle.fw_explore_movers.specs.declared.fault.WordWhy.{WordWhy}
 use Rattle.fw_explore_movers.specs.Words.{Read, Reads, ReadsAll, Refused, IsFirstRefused, nothing_read, all_read, reads}
 
-pub reads_push : (n m : ℕ) (front : List (List ℕ)) (word : List ℕ) (r s t : Read) → ReadsAll n front r s → m ≡ n + length front → Reads m word s t → ReadsAll n (front ++ word ∷ []) r t
-reads_push n m front word r s t all_read at one =
+pub reads_push : (n m : ℕ) (prefix : List (List ℕ)) (word : List ℕ) (r s t : Read) → ReadsAll n prefix r s → m ≡ n + length prefix → Reads m word s t → ReadsAll n (prefix ++ word ∷ []) r t
+reads_push n m prefix word r s t all_read at one =
     let same : m ≡ n = omega arith in
     reads (subst (λ k. Reads k word s t) same one) all_read
-reads_push n m front word r s t (reads {word = w} {words = ws} {s = u} first rest) at one =
+reads_push n m prefix word r s t (reads {word = w} {words = ws} {s = u} first rest) at one =
     let on : m ≡ (n + 1) + length ws = omega arith in
     reads first (reads_push (n + 1) m ws word u s t rest on one)
 
@@ -31,7 +31,7 @@ module _ {T : Type 0} (f : T → List ℕ) (words : List T) (at : ℕ) (word : T
 
   pub first_refused : (r : Read) (why : WordWhy) → ReadsAll 1 (map f (take at words)) nothing_read r → Refused (at + 1) (f word) r why → IsFirstRefused (map f words) (at + 1) why
   first_refused r why so refused = record {
-    front = take at (map f words);
+    prefix = take at (map f words);
     word = f word;
     rest = drop (at + 1) (map f words);
     parts = sym (take-append-drop at (map f words)) ∙ ap (λ (l : List (List ℕ)). take at (map f words) ++ l)
@@ -39,7 +39,7 @@ module _ {T : Type 0} (f : T → List ℕ) (words : List T) (at : ℕ) (word : T
         ∙ ap (λ (k : ℕ). f word ∷ drop k (map f words)) (sym (add-one at)));
     number = omega (arith, far);
     read = r;
-    reads_front = subst (λ (l : List (List ℕ)). ReadsAll 1 l nothing_read r) (sym (take-map f at words)) so;
+    reads_prefix = subst (λ (l : List (List ℕ)). ReadsAll 1 l nothing_read r) (sym (take-map f at words)) so;
     refused = refused;
   }
 

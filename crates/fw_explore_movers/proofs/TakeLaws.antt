@@ -4,7 +4,7 @@ use Rattle.std.proofs.lemmas.Bool.{cases_lt, false≢true, true≢false}
 use Rattle.fw_explore_movers.specs.declared.mover.Mover.{Mover}
 use Rattle.fw_explore_movers.specs.declared.mover.Line.{Line}
 use Rattle.fw_explore_movers.specs.declared.mover.MoverKind.TheVariants.{Once}
-use Rattle.fw_explore_movers.specs.Words.{Read, Reads, IsLine, IsFull, is_number, line_of_half_steps, may_stand, with_mover, with_line, line, behind}
+use Rattle.fw_explore_movers.specs.Words.{Read, Reads, IsLine, IsFull, is_number, line_of_half_steps, may_stand, with_mover, with_line, line, following}
 
 -- what is said of an option that is none, or some
 pub none_then : {T : Type 0} {P : Type 0} (o : Option T) → is_some o ≡ false → IfNone o P → P
@@ -15,16 +15,16 @@ pub some_then : {T : Type 0} {P : Type 0} (o : Option T) → is_some o ≡ true 
 some_then None some p = absurd (false≢true some)
 some_then (Some x) some p = p
 
-room_behind : (r : Read) → IsTrue r.follows → (IsFull r → ⊥) → length r.behind < 64
-room_behind r follows room = elim (cases_lt (length r.behind) 64) [ inl less ↦ less | inr more ↦ absurd (room (inr (follows, more))) ]
+room_following : (r : Read) → IsTrue r.follows → (IsFull r → ⊥) → length r.following < 64
+room_following r follows room = elim (cases_lt (length r.following) 64) [ inl less ↦ less | inr more ↦ absurd (room (inr (follows, more))) ]
 
 room_movers : (r : Read) → IsFalse r.follows → (IsFull r → ⊥) → length r.movers < 32
 room_movers r first room = elim (cases_lt (length r.movers) 32) [ inl less ↦ less | inr more ↦ absurd (room (inl (first, more))) ]
 
-pub take_behind : (n : ℕ) (word : List ℕ) (r : Read) (l : Line) → IsFalse (is_number n word) → IsTrue r.follows → length word ≤ 256 → IsLine l.command word → IsTrue (may_stand r.follows l.command)
+pub take_after : (n : ℕ) (word : List ℕ) (r : Read) (l : Line) → IsFalse (is_number n word) → IsTrue r.follows → length word ≤ 256 → IsLine l.command word → IsTrue (may_stand r.follows l.command)
     → (IsFull r → ⊥) → l.text.items ≡ word → l.word ≡ n → Reads n word r (with_line r l)
-take_behind n word r l other follows short form stands room text at =
-    behind l other follows short form (subst (λ (b : Bool). may_stand b l.command ≡ true) follows stands) text at (room_behind r follows room)
+take_after n word r l other follows short form stands room text at =
+    following l other follows short form (subst (λ (b : Bool). may_stand b l.command ≡ true) follows stands) text at (room_following r follows room)
 
 pub take_once : (n : ℕ) (word : List ℕ) (r : Read) (m : Mover) → IsFalse (is_number n word) → IsFalse r.follows → line_of_half_steps word ≡ None → length word ≤ 256 → IsLine m.command word
     → IsTrue (may_stand r.follows m.command) → (IsFull r → ⊥) → m.line.items ≡ word → m.kind ≡ Once → m.word ≡ n → Reads n word r (with_mover r m)

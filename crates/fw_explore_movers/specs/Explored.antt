@@ -35,5 +35,5 @@ half_step_of (Some m) = elim m.kind [ HalfSteps ↦ 1 | Once ↦ 0 ]
 -- movers and lines come in the order of their words, the movers first
 pub record AreInOrder (x : Explored) : Type 0 where
   pub movers : AllPairs (λ m n. m.word < n.word) x.movers.items
-  pub lines : AllPairs (λ l k. l.word < k.word) x.behind.items
-  pub apart : All (λ m. All (λ l. m.word < l.word) x.behind.items) x.movers.items
+  pub lines : AllPairs (λ l k. l.word < k.word) x.following.items
+  pub apart : All (λ m. All (λ l. m.word < l.word) x.following.items) x.movers.items

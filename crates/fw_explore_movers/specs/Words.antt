@@ -68,11 +68,11 @@ IsNoLine line = (c : Command) → IsLine c line → ⊥
 pub record Read : Type 0 where
   pub most : ℕ
   pub movers : List Mover
-  pub behind : List Line
+  pub following : List Line
   pub follows : Bool
 
 abbrev pub nothing_read : Read
-nothing_read = record { most = 200; movers = []; behind = []; follows = false }
+nothing_read = record { most = 200; movers = []; following = []; follows = false }
 
 -- a mover has this line
 abbrev pub HasMover : Read → List ℕ → Type 0
@@ -87,7 +87,7 @@ abbrev pub with_mover : Read → Mover → Read
 with_mover r m = record r { movers = r.movers ++ m ∷ [] }
 
 abbrev pub with_line : Read → Line → Read
-with_line r l = record r { behind = r.behind ++ l ∷ [] }
+with_line r l = record r { following = r.following ++ l ∷ [] }
 
 -- the n-th word, from 1, is read
 pub data Reads (n : ℕ) (word : List ℕ) : Read → Read → Type 0 where
@@ -97,8 +97,8 @@ pub data Reads (n : ℕ) (word : List ℕ) : Read → Read → Type 0 where
       → m.line.items ≡ line → m.kind ≡ HalfSteps → m.word ≡ n → length r.movers < 32 → (HasMover r line → ⊥) → Reads n word r (with_mover r m)
   line : {r : Read} → (m : Mover) → IsFalse (is_number n word) → IsFalse r.follows → line_of_half_steps word ≡ None → length word ≤ 256 → IsLine m.command word → IsTrue (may_move m.command)
       → m.line.items ≡ word → m.kind ≡ Once → m.word ≡ n → length r.movers < 32 → Reads n word r (with_mover r m)
-  behind : {r : Read} → (l : Line) → IsFalse (is_number n word) → IsTrue r.follows → length word ≤ 256 → IsLine l.command word → IsTrue (may_follow l.command)
-      → l.text.items ≡ word → l.word ≡ n → length r.behind < 64 → Reads n word r (with_line r l)
+  following : {r : Read} → (l : Line) → IsFalse (is_number n word) → IsTrue r.follows → length word ≤ 256 → IsLine l.command word → IsTrue (may_follow l.command)
+      → l.text.items ≡ word → l.word ≡ n → length r.following < 64 → Reads n word r (with_line r l)
 
 -- ---- what is refused
 
@@ -112,7 +112,7 @@ may_stand follows c = if follows then may_follow c else may_move c
 
 -- there is no room for one more
 abbrev pub IsFull : Read → Type 0
-IsFull r = (IsFalse r.follows × 32 ≤ length r.movers) ⊎ (IsTrue r.follows × 64 ≤ length r.behind)
+IsFull r = (IsFalse r.follows × 32 ≤ length r.movers) ⊎ (IsTrue r.follows × 64 ≤ length r.following)
 
 -- the n-th word is refused, the first reason first
 pub data Refused (n : ℕ) (word : List ℕ) (r : Read) : WordWhy → Type 0 where
@@ -141,7 +141,7 @@ pub record IsExploredBy (words : List (List ℕ)) (x : Explored) : Type 0 where
   pub reads_all : ReadsAll 1 words nothing_read read
   pub most : x.most ≡ read.most
   pub movers : x.movers.items ≡ read.movers
-  pub behind : x.behind.items ≡ read.behind
+  pub following : x.following.items ≡ read.following
   pub some : read.movers ≡ [] → ⊥
 
 -- no mover is among them
@@ -152,13 +152,13 @@ pub record HasNoMover (words : List (List ℕ)) : Type 0 where
 
 -- the word with this number is the first that is refused
 pub record IsFirstRefused (words : List (List ℕ)) (n : ℕ) (why : WordWhy) : Type 0 where
-  pub front : List (List ℕ)
+  pub prefix : List (List ℕ)
   pub word : List ℕ
   pub rest : List (List ℕ)
-  pub parts : words ≡ front ++ word ∷ rest
-  pub number : n ≡ length front + 1
+  pub parts : words ≡ prefix ++ word ∷ rest
+  pub number : n ≡ length prefix + 1
   pub read : Read
-  pub reads_front : ReadsAll 1 front nothing_read read
+  pub reads_prefix : ReadsAll 1 prefix nothing_read read
   pub refused : Refused n word read why
 
 -- a word was read, or is refused for this reason, and nothing was read

@@ -69,11 +69,11 @@ fn takes_steps(keyword: &[u8]) -> bool
 }
 
 // The line of one half step.
-fn half_step(alloc: Global, front: &[u8], word: &[u8]) -> Result<Vec<u8>, AllocError>
-    ensures { IfOk result (λ v. v.items ≡ front.now ++ word.now ++ codes " 1") }
+fn half_step(alloc: Global, prefix: &[u8], word: &[u8]) -> Result<Vec<u8>, AllocError>
+    ensures { IfOk result (λ v. v.items ≡ prefix.now ++ word.now ++ codes " 1") }
 {
     let mut line = Vec::new(alloc);
-    line.extend_from_slice(front)?;
+    line.extend_from_slice(prefix)?;
     line.extend_from_slice(word)?;
     line.extend_from_slice(b" 1")?;
     Ok(line)

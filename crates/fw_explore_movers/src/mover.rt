@@ -46,7 +46,7 @@ pub struct Explored {
     /// The movers, 1 to 32, in the order of their words.
     pub movers: Vec<Mover>,
     /// The lines that are carried out after each interleaving, at most 64, in the order of their words.
-    pub behind: Vec<Line>,
+    pub following: Vec<Line>,
 }
 
 impl Mover {

@@ -17,7 +17,7 @@ const MOST: u32 = 200;
 /// The most bytes of a line.
 const LINE_LIMIT: usize = 256;
 /// The most lines that come after interleavings.
-const MOST_BEHIND: usize = 64;
+const MOST_AFTER: usize = 64;
 
 /// The words that were read so far.
 #[derive(Drop)]
@@ -25,7 +25,7 @@ pub(crate) struct Reading {
     pub(crate) alloc: Global,
     pub(crate) most: u32,
     pub(crate) movers: Vec<Mover>,
-    pub(crate) behind: Vec<Line>,
+    pub(crate) following: Vec<Line>,
     pub(crate) follows: bool,
 }
 
@@ -34,7 +34,7 @@ impl Model for Reading {
 
     ghost Value = { Read };
 
-    ghost view = { λ r. record { most = r.most; movers = r.movers.items; behind = r.behind.items; follows = r.follows } };
+    ghost view = { λ r. record { most = r.most; movers = r.movers.items; following = r.following.items; follows = r.follows } };
 }
 
 // Whether a mover has this line.
@@ -66,7 +66,7 @@ impl Reading {
             alloc,
             most: MOST,
             movers: Vec::new(alloc),
-            behind: Vec::new(alloc),
+            following: Vec::new(alloc),
             follows: false,
         }
     }
@@ -76,7 +76,7 @@ impl Reading {
         ensures { IsTrue result ↔ IsFull self.now }
     {
         if self.follows {
-            return self.behind.len() >= MOST_BEHIND;
+            return self.following.len() >= MOST_AFTER;
         }
         self.movers.len() >= MOST_MOVERS
     }
@@ -203,7 +203,7 @@ impl Reading {
             Err(why) => return Ok(Some(why)),
         };
         let text = copied(self.alloc, word)?;
-        self.behind.push(Line {
+        self.following.push(Line {
             text,
             command,
             word: number,

@@ -25,7 +25,7 @@ pub fn read_words(alloc: Global, words: &[String]) -> Result<Explored, WordsFaul
     let Reading {
         most,
         movers,
-        behind,
+        following,
         ..
     } = reading;
     if movers.is_empty() {
@@ -34,6 +34,6 @@ pub fn read_words(alloc: Global, words: &[String]) -> Result<Explored, WordsFaul
     Ok(Explored {
         most,
         movers,
-        behind,
+        following,
     })
 }

@@ -5,25 +5,25 @@ use Rattle.std.proofs.lemmas.List.{take_more, length-take-le}
 use Rattle.std.proofs.lemmas.List.Concat.{flat_map-append}
 use Rattle.std.proofs.lemmas.List.Elements.{filter-append}
 use Rattle.fw_log_entry.specs.declared.entry.Entry.{Entry}
-use Rattle.fw_explore_told.specs.declared.past.Told.{Told}
+use Rattle.fw_explore_told.specs.declared.past.ToldEntry.{ToldEntry}
 use Rattle.fw_explore_movers.specs.declared.mover.Mover.{Mover}
 use Rattle.fw_explore_told.specs.Telling.{is_of_controller, is_of_candidate}
 use Rattle.fw_explore_told.specs.Sayings.{entry_of, said_text, said_by, said_of, unmarked_by, unmarked, unmarked_from}
 
-pub said_append : (test : Entry → Bool) (xs ys : List Told) → said_by test (xs ++ ys) ≡ said_by test xs ++ said_by test ys
+pub said_append : (test : Entry → Bool) (xs ys : List ToldEntry) → said_by test (xs ++ ys) ≡ said_by test xs ++ said_by test ys
 said_append test xs ys =
-    ap (flat_map said_text) (filter-append (λ (t : Told). test (entry_of t)) xs ys)
-    ∙ flat_map-append said_text (filter (λ (t : Told). test (entry_of t)) xs) (filter (λ (t : Told). test (entry_of t)) ys)
+    ap (flat_map said_text) (filter-append (λ (t : ToldEntry). test (entry_of t)) xs ys)
+    ∙ flat_map-append said_text (filter (λ (t : ToldEntry). test (entry_of t)) xs) (filter (λ (t : ToldEntry). test (entry_of t)) ys)
 
 -- one that passes is told, and another is not
-pub one_told : (test : Entry → Bool) (t : Told) → test (entry_of t) ≡ true → said_by test (t ∷ []) ≡ said_text t
+pub one_told : (test : Entry → Bool) (t : ToldEntry) → test (entry_of t) ≡ true → said_by test (t ∷ []) ≡ said_text t
 one_told test t e = ap (λ b. flat_map said_text (cond b (t ∷ []) [])) e ∙ append-nil (said_text t)
 
-pub none_told : (test : Entry → Bool) (t : Told) → test (entry_of t) ≡ false → said_by test (t ∷ []) ≡ []
+pub none_told : (test : Entry → Bool) (t : ToldEntry) → test (entry_of t) ≡ false → said_by test (t ∷ []) ≡ []
 none_told test t e = ap (λ b. flat_map said_text (cond b (t ∷ []) [])) e
 
 -- the first of a list and one more
-pub said_more : (test : Entry → Bool) (out : List ℕ) (xs : List Told) (i : ℕ) (d : Told) → i < length xs → (now after : List ℕ)
+pub said_more : (test : Entry → Bool) (out : List ℕ) (xs : List ToldEntry) (i : ℕ) (d : ToldEntry) → i < length xs → (now after : List ℕ)
     → now ≡ out ++ said_by test (take i xs) → after ≡ now ++ said_by test (get_or xs i d ∷ [])
     → after ≡ out ++ said_by test (take (i + 1) xs)
 said_more test out xs i d h now after e f =
@@ -32,16 +32,16 @@ said_more test out xs i d h now after e f =
 
 -- ---- device by device
 
-pub none_said : (said : List Told) → said_of 0 said ≡ []
+pub none_said : (said : List ToldEntry) → said_of 0 said ≡ []
 unfolding said_of
 none_said said = refl
 
-pub next_said : (said : List Told) (d : ℕ) → said_of (d + 1) said ≡ said_of d said ++ said_by (is_of_controller d) said ++ said_by (is_of_candidate d) said
+pub next_said : (said : List ToldEntry) (d : ℕ) → said_of (d + 1) said ≡ said_of d said ++ said_by (is_of_controller d) said ++ said_by (is_of_candidate d) said
 unfolding said_of
 next_said said d = rw (add-one d) refl
 
 -- one device more
-pub device_more : (said : List Told) (d : ℕ) (out now after : List ℕ) → now ≡ out ++ said_of d said
+pub device_more : (said : List ToldEntry) (d : ℕ) (out now after : List ℕ) → now ≡ out ++ said_of d said
     → after ≡ now ++ (said_by (is_of_controller d) said ++ said_by (is_of_candidate d) said) → after ≡ out ++ said_of (d + 1) said
 device_more said d out now after e f =
     let a : List ℕ = said_by (is_of_controller d) said in

@@ -13,8 +13,8 @@ use Rattle.fw_log_explain.specs.Lines.{what_text}
 use Rattle.fw_explore_movers.specs.declared.mover.Mover.{Mover}
 use Rattle.fw_explore_movers.specs.declared.mover.MoverKind.{MoverKind}
 use Rattle.fw_explore_movers.specs.declared.mover.MoverKind.TheVariants.{HalfSteps, Once}
-use Rattle.fw_explore_told.specs.declared.past.Told.{Told}
-use Rattle.fw_explore_told.specs.declared.past.Told.TheVariants as Tolds
+use Rattle.fw_explore_told.specs.declared.past.ToldEntry.{ToldEntry}
+use Rattle.fw_explore_told.specs.declared.past.ToldEntry.TheVariants as Tolds
 use Rattle.fw_explore_told.specs.Telling.{remark, is_of_controller, is_of_candidate, is_shown, told_by, told_of, told, left_of, left_from}
 use Rattle.fw_explore_told.specs.Histories.{told_in, told_entries}
 use Rattle.fw_explore_told.specs.Sayings.{entry_of, said_text, said_by, said_of, said_all, unmarked, unmarked_from}
@@ -60,10 +60,10 @@ flat_if f false x xs = refl
 told_first : (test : Entry → Bool) (t : Timed) (ts : List Timed) → told_by test (t ∷ ts) ≡ cond (test t.what) (remark (what_text [] t.what)) [] ++ told_by test ts
 told_first test t ts = flat_if (λ (u : Timed). remark (what_text [] u.what)) (test t.what) t (filter (λ (u : Timed). test u.what) ts)
 
-said_first : (test : Entry → Bool) → PassesTold test → (e : Entry) (said : List Told) → said_by test (told_in e ++ said) ≡ cond (test e) (remark (what_text [] e)) [] ++ said_by test said
-said_first test h (Event e) said = flat_if said_text (test (Event e)) (Tolds.Event e) (filter (λ (t : Told). test (entry_of t)) said)
-said_first test h (Outcome o) said = flat_if said_text (test (Outcome o)) (Tolds.Outcome o) (filter (λ (t : Told). test (entry_of t)) said)
-said_first test h (Shown s) said = flat_if said_text (test (Shown s)) (Tolds.Shown s) (filter (λ (t : Told). test (entry_of t)) said)
+said_first : (test : Entry → Bool) → PassesTold test → (e : Entry) (said : List ToldEntry) → said_by test (told_in e ++ said) ≡ cond (test e) (remark (what_text [] e)) [] ++ said_by test said
+said_first test h (Event e) said = flat_if said_text (test (Event e)) (Tolds.Event e) (filter (λ (t : ToldEntry). test (entry_of t)) said)
+said_first test h (Outcome o) said = flat_if said_text (test (Outcome o)) (Tolds.Outcome o) (filter (λ (t : ToldEntry). test (entry_of t)) said)
+said_first test h (Shown s) said = flat_if said_text (test (Shown s)) (Tolds.Shown s) (filter (λ (t : ToldEntry). test (entry_of t)) said)
 said_first test h (Reset r) said = ap (λ b. cond b (remark (what_text [] (Reset r))) [] ++ said_by test said) (sym (h.none (Reset r) refl))
 said_first test h (Async p) said = ap (λ b. cond b (remark (what_text [] (Async p))) [] ++ said_by test said) (sym (h.none (Async p) refl))
 said_first test h (Iso p) said = ap (λ b. cond b (remark (what_text [] (Iso p))) [] ++ said_by test said) (sym (h.none (Iso p) refl))

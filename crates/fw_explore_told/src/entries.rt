@@ -6,7 +6,7 @@ ghost use Rattle.fw_log_entry.specs.declared.version.Version.TheVariants.{Two};
 ghost use Rattle.fw_log_entry.specs.declared.entry.Timed.{Timed};
 ghost use Rattle.fw_explore_told.specs.Histories.{told_in, first_of};
 
-use crate::past::Told;
+use crate::past::ToldEntry;
 use fw_log_entry::codes::kind;
 use fw_log_entry::{EventEntry, OutcomeEntry, ShownEntry, has_tape};
 use fw_words::quadlet_at;
@@ -81,15 +81,15 @@ fn shown_in(body: &[u8]) -> ShownEntry
 }
 
 /// What is told of an entry, by its bytes.
-pub(crate) fn told_in(entry: &[u8]) -> Option<Told>
+pub(crate) fn told_in(entry: &[u8]) -> Option<ToldEntry>
     requires { 16 ≤ length entry.now }
     ensures { (epoch : ℕ) (t : Timed) → TimedFits t → entry.now ≡ entry_bytes Two epoch t → result ≡ first_of (told_in t.what) }
 {
     let body = &entry[HEAD..];
     match entry[0] {
-        kind::EVENT if body.len() >= 4 => Some(Told::Event(event_in(body))),
-        kind::OUTCOME if body.len() >= 8 => Some(Told::Outcome(outcome_in(body))),
-        kind::SHOWN if body.len() >= 8 => Some(Told::Shown(shown_in(body))),
+        kind::EVENT if body.len() >= 4 => Some(ToldEntry::Event(event_in(body))),
+        kind::OUTCOME if body.len() >= 8 => Some(ToldEntry::Outcome(outcome_in(body))),
+        kind::SHOWN if body.len() >= 8 => Some(ToldEntry::Shown(shown_in(body))),
         _ => None,
     }
 }

@@ -6,5 +6,5 @@ mod entries;
 mod past;
 mod telling;
 
-pub use past::{Past, Told, tells};
+pub use past::{Past, ToldEntry, tells};
 pub use telling::{put_left, put_remark, put_said};

@@ -16,7 +16,7 @@ use std::marker::Model;
 
 /// What is told of: an event, an outcome or a shown word.
 #[derive(Clone, Copy)]
-pub enum Told {
+pub enum ToldEntry {
     Event(EventEntry),
     Outcome(OutcomeEntry),
     Shown(ShownEntry),
@@ -26,7 +26,7 @@ pub enum Told {
 #[derive(Drop)]
 pub struct Past {
     done: [bool; MOST_MOVERS],
-    said: Vec<Told>,
+    said: Vec<ToldEntry>,
 }
 
 impl Model for Past {
@@ -60,7 +60,7 @@ impl Past {
     }
 
     /// What is told of.
-    pub fn said(&self) -> &[Told]
+    pub fn said(&self) -> &[ToldEntry]
         ensures { result.now ≡ self.now.said }
     {
         self.said.as_slice()
@@ -97,7 +97,7 @@ impl Past {
 }
 
 // Adds what is told of an entry, if anything is.
-fn add(said: &mut Vec<Told>, told: Option<Told>) -> Result<(), AllocError>
+fn add(said: &mut Vec<ToldEntry>, told: Option<ToldEntry>) -> Result<(), AllocError>
     ensures { OnOk result (said.new.items ≡ with_one said.old.items told) }
 {
     match told {
@@ -108,7 +108,7 @@ fn add(said: &mut Vec<Told>, told: Option<Told>) -> Result<(), AllocError>
 }
 
 // Adds what is told of entries of version 2.
-fn tell_in(said: &mut Vec<Told>, bytes: &[u8]) -> Result<(), AllocError>
+fn tell_in(said: &mut Vec<ToldEntry>, bytes: &[u8]) -> Result<(), AllocError>
     ensures { (epoch : ℕ) (out : List TimedEntry) → All TimedFits out → bytes.now ≡ entries_bytes Two epoch out
         → OnOk result (said.new.items ≡ said.old.items ++ told_entries out) }
 {
@@ -167,18 +167,20 @@ fn same_shown(shown: ShownEntry, other: ShownEntry) -> bool
     shown.device == other.device && shown.offset == other.offset && shown.word == other.word
 }
 
-fn same_told(told: Told, other: Told) -> bool
+fn same_told(told: ToldEntry, other: ToldEntry) -> bool
     ensures { IsTrue result → told ≡ other }
 {
     match (told, other) {
-        (Told::Event(event), Told::Event(event2)) => same_event(event, event2),
-        (Told::Outcome(outcome), Told::Outcome(outcome2)) => same_outcome(outcome, outcome2),
-        (Told::Shown(shown), Told::Shown(shown2)) => same_shown(shown, shown2),
+        (ToldEntry::Event(event), ToldEntry::Event(event2)) => same_event(event, event2),
+        (ToldEntry::Outcome(outcome), ToldEntry::Outcome(outcome2)) => same_outcome(
+            outcome, outcome2,
+        ),
+        (ToldEntry::Shown(shown), ToldEntry::Shown(shown2)) => same_shown(shown, shown2),
         _ => false,
     }
 }
 
-fn same_said(said: &[Told], other: &[Told]) -> bool
+fn same_said(said: &[ToldEntry], other: &[ToldEntry]) -> bool
     ensures { IsTrue result → said.now ≡ other.now }
 {
     if said.len() != other.len() {
@@ -221,10 +223,10 @@ impl Part for Past {
 }
 
 // A number by which most of what is told of differs.
-fn told_mark(told: Told) -> u32 {
+fn told_mark(told: ToldEntry) -> u32 {
     match told {
-        Told::Event(e) => u32::from_le_bytes([1, e.code, e.device, 0]),
-        Told::Outcome(o) => u32::from_le_bytes([2, o.code, o.device, o.slot]) ^ o.value,
-        Told::Shown(s) => u32::from_le_bytes([3, s.device, 0, 0]) ^ s.word,
+        ToldEntry::Event(e) => u32::from_le_bytes([1, e.code, e.device, 0]),
+        ToldEntry::Outcome(o) => u32::from_le_bytes([2, o.code, o.device, o.slot]) ^ o.value,
+        ToldEntry::Shown(s) => u32::from_le_bytes([3, s.device, 0, 0]) ^ s.word,
     }
 }

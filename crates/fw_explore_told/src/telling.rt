@@ -6,7 +6,7 @@ ghost use Rattle.fw_log_explain.specs.Lines.{what_text};
 ghost use Rattle.fw_explore_told.specs.Telling.{is_of_bid, is_of_candidate, is_of_controller, remark};
 ghost use Rattle.fw_explore_told.specs.Sayings.{IsNotOf, entry_of, said_text, said_by, said_all, test_of, unmarked_by, unmarked_from};
 
-use crate::past::Told;
+use crate::past::ToldEntry;
 use fw_explore_movers::{MOST_MOVERS, Mover, MoverKind};
 use fw_log_entry::codes::{NO_DEVICE, event};
 use fw_log_explain::{put_event, put_outcome, put_shown};
@@ -33,43 +33,45 @@ fn is_of_bid(code: u8) -> bool
 
 impl Whose {
     // Whether it is told of them.
-    fn has(self, told: &Told) -> bool
+    fn has(self, told: &ToldEntry) -> bool
         ensures { result ≡ test_of self (entry_of told.now) }
     {
         match (self, told) {
-            (Whose::Controller(device), Told::Event(e)) => !is_of_bid(e.code) && e.device == device,
-            (Whose::Controller(device), Told::Outcome(o)) => o.device == device,
-            (Whose::Candidate(device), Told::Event(e)) => is_of_bid(e.code) && e.device == device,
-            (Whose::Nobody, Told::Shown(_)) => true,
+            (Whose::Controller(device), ToldEntry::Event(e)) => !is_of_bid(e.code)
+                && e.device == device,
+            (Whose::Controller(device), ToldEntry::Outcome(o)) => o.device == device,
+            (Whose::Candidate(device), ToldEntry::Event(e)) => is_of_bid(e.code)
+                && e.device == device,
+            (Whose::Nobody, ToldEntry::Shown(_)) => true,
             _ => false,
         }
     }
 }
 
 /// Appends a text as a line that a script skips. An error says that memory ran out.
-pub fn put_remark(out: &mut Vec<u8>, front: &str, text: &[u8]) -> Result<(), AllocError>
-    ensures { OnOk result (out.new.items ≡ out.old.items ++ remark (front.now ++ text.now)) }
+pub fn put_remark(out: &mut Vec<u8>, prefix: &str, text: &[u8]) -> Result<(), AllocError>
+    ensures { OnOk result (out.new.items ≡ out.old.items ++ remark (prefix.now ++ text.now)) }
 {
     out.extend_from_slice(b"# ")?;
-    out.extend_from_slice(front.as_bytes())?;
+    out.extend_from_slice(prefix.as_bytes())?;
     out.extend_from_slice(text)?;
     out.extend_from_slice(b"\n")
 }
 
 // Appends what is told of, as a line has it after its cycle.
 #[tactic(auto, unfolding(fw_log_explain::specs::Lines::what_text))]
-fn put_what(text: &mut Vec<u8>, pairs: &Pairs, told: &Told) -> Result<(), AllocError>
+fn put_what(text: &mut Vec<u8>, pairs: &Pairs, told: &ToldEntry) -> Result<(), AllocError>
     ensures { OnOk result (text.new.items ≡ text.old.items ++ what_text [] (entry_of told.now)) }
 {
     match told {
-        Told::Event(event) => put_event(text, event),
-        Told::Outcome(outcome) => put_outcome(text, pairs, outcome),
-        Told::Shown(shown) => put_shown(text, pairs, shown),
+        ToldEntry::Event(event) => put_event(text, event),
+        ToldEntry::Outcome(outcome) => put_outcome(text, pairs, outcome),
+        ToldEntry::Shown(shown) => put_shown(text, pairs, shown),
     }
 }
 
 // Appends the line of what is told of.
-fn put_told(out: &mut Vec<u8>, pairs: &Pairs, told: &Told) -> Result<(), AllocError>
+fn put_told(out: &mut Vec<u8>, pairs: &Pairs, told: &ToldEntry) -> Result<(), AllocError>
     ensures { OnOk result (out.new.items ≡ out.old.items ++ said_text told.now) }
 {
     out.extend_from_slice(b"# ")?;
@@ -79,7 +81,12 @@ fn put_told(out: &mut Vec<u8>, pairs: &Pairs, told: &Told) -> Result<(), AllocEr
 
 // Appends its line, if it is told of them.
 #[tactic(auto, using(crate::proofs::SayingLaws::one_told, crate::proofs::SayingLaws::none_told))]
-fn put_if(out: &mut Vec<u8>, pairs: &Pairs, told: &Told, whose: Whose) -> Result<(), AllocError>
+fn put_if(
+    out: &mut Vec<u8>,
+    pairs: &Pairs,
+    told: &ToldEntry,
+    whose: Whose,
+) -> Result<(), AllocError>
     ensures { OnOk result (out.new.items ≡ out.old.items ++ said_by (test_of whose) (told.now ∷ [])) }
 {
     if whose.has(told) {
@@ -92,7 +99,7 @@ fn put_if(out: &mut Vec<u8>, pairs: &Pairs, told: &Told, whose: Whose) -> Result
 fn put_whose(
     out: &mut Vec<u8>,
     pairs: &Pairs,
-    said: &[Told],
+    said: &[ToldEntry],
     whose: Whose,
 ) -> Result<(), AllocError>
     ensures { OnOk result (out.new.items ≡ out.old.items ++ said_by (test_of whose) said.now) }
@@ -104,7 +111,12 @@ fn put_whose(
 }
 
 // Appends the lines of what is told of a device: of its controller, then of its candidate.
-fn put_device(out: &mut Vec<u8>, pairs: &Pairs, said: &[Told], device: u8) -> Result<(), AllocError>
+fn put_device(
+    out: &mut Vec<u8>,
+    pairs: &Pairs,
+    said: &[ToldEntry],
+    device: u8,
+) -> Result<(), AllocError>
     ensures { OnOk result (out.new.items ≡ out.old.items ++ (said_by (is_of_controller device) said.now ++ said_by (is_of_candidate device) said.now)) }
 {
     put_whose(out, pairs, said, Whose::Controller(device))?;
@@ -119,20 +131,20 @@ fn after_device(device: u8) -> u8
     if device < 63 { device + 1 } else { 0 }
 }
 
-// One more than the number of the device of which it is told, and 0 where it is told of none.
-fn after_told(told: &Told) -> u8
+// One more than the number of the device of which it is told, and 0 if it is told of none.
+fn after_told(told: &ToldEntry) -> u8
     ensures few { result ≤ 63 }
     ensures others { (d : ℕ) → result ≤ d → d < 63 → IsNotOf d told.now }
 {
     match told {
-        Told::Event(e) => after_device(e.device),
-        Told::Outcome(o) => after_device(o.device),
-        Told::Shown(_) => 0,
+        ToldEntry::Event(e) => after_device(e.device),
+        ToldEntry::Outcome(o) => after_device(o.device),
+        ToldEntry::Shown(_) => 0,
     }
 }
 
 // From this device on nothing is told of any.
-fn end_of(said: &[Told]) -> u8
+fn end_of(said: &[ToldEntry]) -> u8
     ensures few { result ≤ 63 }
     ensures others { (d : ℕ) → result ≤ d → d < 63 → All (IsNotOf d) said.now }
 {
@@ -147,7 +159,7 @@ fn end_of(said: &[Told]) -> u8
 }
 
 /// Appends all that is told: by device, then without one, then what was shown. An error says that memory ran out.
-pub fn put_said(out: &mut Vec<u8>, pairs: &Pairs, said: &[Told]) -> Result<(), AllocError>
+pub fn put_said(out: &mut Vec<u8>, pairs: &Pairs, said: &[ToldEntry]) -> Result<(), AllocError>
     ensures { OnOk result (out.new.items ≡ out.old.items ++ said_all said.now) }
 {
     for device in 0..end_of(said) {

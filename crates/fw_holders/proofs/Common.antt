@@ -15,7 +15,7 @@ pub use Rattle.fw_holders.specs.Deeds.{packet_told, told}
 pub use Rattle.fw_holders.specs.Seated.{ends_in}
 pub use Rattle.fw_holders.specs.Table.{input_line, output_line}
 unfoldable pub use Rattle.fw_holders.specs.Table.{channel_lines, counts_below, lines_below, plug_lines}
-pub use Rattle.fw_holders.specs.Told.{Holds, Room, TakesMore, holders, line_of}
+pub use Rattle.fw_holders.specs.Told.{Holds, HolderState, TakesMore, holders, line_of}
 unfoldable pub use Rattle.fw_holders.specs.Told.{line, rest_of_line}
 pub use Rattle.fw_holders.specs.declared.judged.Judged.{Judged}
 pub use Rattle.fw_ledger.specs.Refused.{IsAnswered, ShowsAnswer}

@@ -1,6 +1,6 @@
 -- Entries that were taken, and one more.
 use Rattle.fw_holders.proofs.Common.{◌≡◌, ◌+◌, ◌<◌, ◌^◌, Option, Some, None, List, [], ◌∷◌, ◌++◌, length, refl, ap, sym, subst, ◌∙◌, Ok, append-nil, Entry, Account, looked, Judged, entry_judged}
-use Rattle.fw_holders.proofs.Common.{IsWithin, told, Holds, Room, TakesMore, holders, line_of}
+use Rattle.fw_holders.proofs.Common.{IsWithin, told, Holds, HolderState, TakesMore, holders, line_of}
 use Rattle.std.proofs.Common.{length-append, Result, Err, IfOk}
 use Rattle.fw_log_entry.specs.declared.entry.Timed.{Timed}
 use Rattle.fw_model_account.specs.Fold.{account_from, account_of, entries_of, next_of, no_account}
@@ -39,9 +39,10 @@ line_push entries t l m at next =
     ∙ sym (append-nil (entry_line (account_of (entries_of entries)) t))
 
 -- the entry has a fault
-pub faulty_push : (entries : List Timed) (t : Timed) (r : Room) (f : AuditFault) → (h : Holds entries r) → IsVerdict h.account (looked t.what) (Some f) → EndsFaulty (entries_of (entries ++ t ∷ [])) f
+pub faulty_push : (entries : List Timed) (t : Timed) (r : HolderState) (f : AuditFault) → (h : Holds entries r) → IsVerdict h.account (looked t.what) (Some f)
+    → EndsFaulty (entries_of (entries ++ t ∷ [])) f
 faulty_push entries t r f h is = record {
-  front = entries_of entries;
+  prefix = entries_of entries;
   entry = t.what;
   parts = entries_push entries t;
   audited = h.audited;
@@ -51,7 +52,7 @@ faulty_push entries t r f h is = record {
 }
 
 -- it has none
-pub holds_push : (entries : List Timed) (t : Timed) (old new : Room) → length entries + 1 < 2 ^ 64 → (h : Holds entries old) → TakesMore h.account t old new → Holds (entries ++ t ∷ []) new
+pub holds_push : (entries : List Timed) (t : Timed) (old new : HolderState) → length entries + 1 < 2 ^ 64 → (h : Holds entries old) → TakesMore h.account t old new → Holds (entries ++ t ∷ []) new
 holds_push entries t old new few h m =
     let counts = m.judged (length entries) few h.within in
     let es = entries_push entries t in
@@ -72,18 +73,18 @@ holds_push entries t old new few h m =
     follows = record { account = h.account; is = h.is_account; stands = h.stands; audited = h.audited }
 
 -- what is written with it
-pub text_push : (entries : List Timed) (t : Timed) (old new : Room) → (h : Holds entries old) → TakesMore h.account t old new → new.text ≡ old.text ++ holders entries (t ∷ [])
+pub text_push : (entries : List Timed) (t : Timed) (old new : HolderState) → (h : Holds entries old) → TakesMore h.account t old new → new.text ≡ old.text ++ holders entries (t ∷ [])
 text_push entries t old new h m = m.text ∙ ap (λ x. old.text ++ x) (line_push entries t h.account m.account h.is_account m.follows)
 
 -- what a call says that takes it
-pub takes_holds : {E : Type 0} (entries : List Timed) (t : Timed) (old new : Room) (r : Result (Option AuditFault) E) → length entries + 1 < 2 ^ 64 → (h : Holds entries old)
+pub takes_holds : {E : Type 0} (entries : List Timed) (t : Timed) (old new : HolderState) (r : Result (Option AuditFault) E) → length entries + 1 < 2 ^ 64 → (h : Holds entries old)
     → IfOk r (Takes h.account t old new)
     → IfOk r (λ f. f ≡ None → Holds (entries ++ t ∷ []) new × (new.text ≡ old.text ++ holders entries (t ∷ [])))
 takes_holds entries t old new (Ok None) few h m = λ none. (holds_push entries t old new few h m, text_push entries t old new h m)
 takes_holds entries t old new (Ok (Some f)) few h m = λ none. let z : ⊥ = cc in absurd z
 takes_holds entries t old new (Err e) few h m = m
 
-pub takes_faulty : {E : Type 0} (entries : List Timed) (t : Timed) (old new : Room) (r : Result (Option AuditFault) E) (fault : AuditFault) → (h : Holds entries old)
+pub takes_faulty : {E : Type 0} (entries : List Timed) (t : Timed) (old new : HolderState) (r : Result (Option AuditFault) E) (fault : AuditFault) → (h : Holds entries old)
     → IfOk r (Takes h.account t old new)
     → IfOk r (λ f. f ≡ Some fault → EndsFaulty (entries_of (entries ++ t ∷ [])) fault × (new.text ≡ old.text))
 takes_faulty entries t old new (Ok None) fault h m = λ some. let z : ⊥ = cc in absurd z

@@ -1,7 +1,7 @@
 -- What is held after a packet that was taken from its bytes.
 use Rattle.fw_holders.proofs.Common.{◌≡◌, ℕ, ◌+◌, ◌<◌, ◌^◌, Some, None, Ok, List, [], ◌∷◌, ◌++◌, length, refl, ap, sym, subst, ◌∙◌, append-nil, device_of_id, Entry, Async, Account, Request, Looked}
 use Rattle.fw_holders.proofs.Common.{Asks, Replies, Shows, Happens, Other, Response, looked_packet, IsAnswered, ShowsAnswer, StandsFor, Answer, Tables, packet_judged, IsWithin, packet_told, told}
-use Rattle.fw_holders.proofs.Common.{Holds, Room, TakesMore, holders, line_of, Judged}
+use Rattle.fw_holders.proofs.Common.{Holds, HolderState, TakesMore, holders, line_of, Judged}
 use Rattle.fw_async.specs.declared.packet.Packet.{Packet}
 use Rattle.fw_log_entry.specs.declared.entry.Timed.{Timed}
 use Rattle.fw_model_account.specs.Packets.{answered}
@@ -26,18 +26,18 @@ same_entry : (cycle : ℕ) (e : Entry) (t : Timed) → t.cycle ≡ cycle → t.w
 same_entry cycle e t at what = ap (λ (n : ℕ). record t { cycle = n; what = e }) (sym at) ∙ ap (λ (w : Entry). record t { what = w }) (sym what)
 
 -- what a call says that takes it
-pub passes_entry : (entries : List Timed) (old new : Room) (cycle : ℕ) (e : Entry) (t : Timed) → t.cycle ≡ cycle → t.what ≡ e → length entries + 1 < 2 ^ 64 → (h : Holds entries old)
+pub passes_entry : (entries : List Timed) (old new : HolderState) (cycle : ℕ) (e : Entry) (t : Timed) → t.cycle ≡ cycle → t.what ≡ e → length entries + 1 < 2 ^ 64 → (h : Holds entries old)
     → TakesMore h.account (entry_at cycle e) old new → Holds (entries ++ t ∷ []) new × (new.text ≡ old.text ++ holders entries (t ∷ []))
 passes_entry entries old new cycle e t at what few h m =
     let P : Timed → Type 0 = λ u. Holds (entries ++ u ∷ []) new × (new.text ≡ old.text ++ holders entries (u ∷ [])) in
     subst P (same_entry cycle e t at what) (holds_push entries (entry_at cycle e) old new few h m, text_push entries (entry_at cycle e) old new h m)
 
-pub passes : (entries : List Timed) (old new : Room) (cycle : ℕ) (p : Packet) (t : Timed) → t.cycle ≡ cycle → t.what ≡ Async p → length entries + 1 < 2 ^ 64 → (h : Holds entries old)
+pub passes : (entries : List Timed) (old new : HolderState) (cycle : ℕ) (p : Packet) (t : Timed) → t.cycle ≡ cycle → t.what ≡ Async p → length entries + 1 < 2 ^ 64 → (h : Holds entries old)
     → TakesMore h.account (packet_of cycle p) old new → Holds (entries ++ t ∷ []) new × (new.text ≡ old.text ++ holders entries (t ∷ []))
 passes entries old new cycle p t at what few h m = passes_entry entries old new cycle (Async p) t at what few h m
 
 -- a response is counted, and its line is appended
-pub answer_more : (l : Account) (cycle : ℕ) (p : Packet) (a : Answer) (old new : Room) → IsSound l → Judges new.tables l (Async p) (Ok (Some a))
+pub answer_more : (l : Account) (cycle : ℕ) (p : Packet) (a : Answer) (old new : HolderState) → IsSound l → Judges new.tables l (Async p) (Ok (Some a))
     → ((q : Request) (r : Response) (n : ℕ) → AskedFor a.asked (Some q) → a.rcode ≡ r.rcode → a.shown ≡ r.word → n + 1 < 2 ^ 64 → IsWithin n old.judged
     → new.judged ≡ answer_judged (Some q) r old.judged)
     → ((k : Account) (r : Response) → StandsFor new.tables k → HasReply r.reply r.rcode r.word → answered (device_of_id l.latest r.requester) r.responder r.reply l ≡ Some k → IsAnswered l r a
@@ -63,7 +63,8 @@ packet_unjudged l (Happens e) j h = refl
 packet_unjudged l Other j h = refl
 
 -- another packet is not, and has none
-pub other_more : (l : Account) (cycle : ℕ) (p : Packet) (old : Room) (tables : Tables) → Judges tables l (Async p) (Ok None) → TakesMore l (packet_of cycle p) old (record old { tables = tables })
+pub other_more : (l : Account) (cycle : ℕ) (p : Packet) (old : HolderState) (tables : Tables) → Judges tables l (Async p) (Ok None)
+    → TakesMore l (packet_of cycle p) old (record old { tables = tables })
 other_more l cycle p old tables taken = record {
   clear = taken.0;
   account = taken.1.0;

@@ -1,6 +1,6 @@
 -- Entries that no audit looks at have no line, and nothing is counted of them.
 use Rattle.fw_holders.proofs.Common.{◌≡◌, Bool, true, false, cond, ◌+◌, ◌<◌, ◌^◌, ℕ, length, Option, Some, None, List, [], ◌∷◌, ◌++◌, refl, ap, sym, ◌∙◌, append-nil, Async, Iso, NodeRow, device_of_id}
-use Rattle.fw_holders.proofs.Common.{Account, Looked, Asks, Replies, Shows, Happens, Other, looked_packet, Judged, packet_judged, packet_told, Holds, Room, TakesMore, holders, line_of}
+use Rattle.fw_holders.proofs.Common.{Account, Looked, Asks, Replies, Shows, Happens, Other, looked_packet, Judged, packet_judged, packet_told, Holds, HolderState, TakesMore, holders, line_of}
 use Rattle.std.proofs.Common.{nat_le, option_map}
 use Rattle.fw_async.specs.declared.packet.Packet.{Packet}
 use Rattle.fw_cip.specs.declared.packet.IsoPacket.{IsoPacket}
@@ -46,7 +46,7 @@ quiet_packet p passed = record {
 pub quiet_iso : (p : IsoPacket) → IsPassedOver (Iso p) → IsQuiet (Iso p)
 quiet_iso p passed = record { passed = passed; untold = λ l. refl; uncounted = λ l j. refl }
 
-quiet_more : (entries : List Timed) (t : Timed) (r : Room) → (h : Holds entries r) → IsQuiet t.what → TakesMore h.account t r r
+quiet_more : (entries : List Timed) (t : Timed) (r : HolderState) → (h : Holds entries r) → IsQuiet t.what → TakesMore h.account t r r
 quiet_more entries t r h q = record {
   clear = (q.passed h.account).1;
   account = h.account;
@@ -57,10 +57,10 @@ quiet_more entries t r h q = record {
 }
 
 -- what is held stays
-pub holds_quiet : (entries : List Timed) (t : Timed) (r : Room) → length entries + 1 < 2 ^ 64 → Holds entries r → IsQuiet t.what → Holds (entries ++ t ∷ []) r
+pub holds_quiet : (entries : List Timed) (t : Timed) (r : HolderState) → length entries + 1 < 2 ^ 64 → Holds entries r → IsQuiet t.what → Holds (entries ++ t ∷ []) r
 holds_quiet entries t r few h q = holds_push entries t r r few h (quiet_more entries t r h q)
 
 -- and nothing is written
-pub text_quiet : (entries : List Timed) (t : Timed) (r : Room) → Holds entries r → IsQuiet t.what → holders entries (t ∷ []) ≡ []
+pub text_quiet : (entries : List Timed) (t : Timed) (r : HolderState) → Holds entries r → IsQuiet t.what → holders entries (t ∷ []) ≡ []
 text_quiet entries t r h q =
     sym (line_push entries t h.account h.account h.is_account (q.passed h.account).0) ∙ ap (λ (o : Option (List ℕ)). line_of t.cycle o (Some h.account)) (q.untold h.account)

@@ -1,5 +1,30 @@
 -- A bus reset of which no more is known than its line tells.
-use Rattle.fw_holders.proofs.Common.{◌≡◌, ℕ, ◌+◌, ◌<◌, ◌^◌, Option, Some, None, List, ◌++◌, length, codes, decimal, refl, ap, sym, ◌∙◌, Reset, ResetEntry, NodeRow, Account, StandsFor, IsWithin, Room}
+use Rattle.fw_holders.proofs.Common.{
+  ◌≡◌,
+  ℕ,
+  ◌+◌,
+  ◌<◌,
+  ◌^◌,
+  Option,
+  Some,
+  None,
+  List,
+  ◌++◌,
+  length,
+  codes,
+  decimal,
+  refl,
+  ap,
+  sym,
+  ◌∙◌,
+  Reset,
+  ResetEntry,
+  NodeRow,
+  Account,
+  StandsFor,
+  IsWithin,
+  HolderState,
+}
 use Rattle.fw_holders.proofs.Common.{TakesMore, line}
 use Rattle.std.proofs.Common.{slice_get}
 use Rattle.fw_model_account.specs.Events.{after_reset}
@@ -31,7 +56,7 @@ same_told whole r x =
         ∙ ap (λ (n : ℕ). initiator_text r (slice_get r.nodes n)) x.initiator
 
 -- it is counted, and its line is appended
-pub reset_more : (l : Account) (cycle : ℕ) (r bus : ResetEntry) (old new : Room) → IsBusOf r bus → StandsFor new.tables (after_reset r l)
+pub reset_more : (l : Account) (cycle : ℕ) (r bus : ResetEntry) (old new : HolderState) → IsBusOf r bus → StandsFor new.tables (after_reset r l)
     → ((n : ℕ) → n + 1 < 2 ^ 64 → IsWithin n old.judged → new.judged ≡ record old.judged { resets = old.judged.resets + 1 })
     → new.text ≡ old.text ++ line cycle (reset_text bus) (after_reset r l) → TakesMore l (entry_at cycle (Reset r)) old new
 reset_more l cycle r bus old new is stands counts put = record {

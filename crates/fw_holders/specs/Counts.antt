@@ -39,7 +39,7 @@ abbrev pub operation_judged : Operation → Option ℕ → Judged → Judged
 operation_judged Reads word j = record j { reads = j.reads + 1 }
 operation_judged (Locks function bytes) word j = if is_quadlet_swap function bytes then swap_judged (shows word (quadlet_at bytes 0)) j else j
 
--- an answer to the request that stands
+-- an answer to the outstanding request
 abbrev pub answer_judged : Option Request → Response → Judged → Judged
 answer_judged None r j = j
 answer_judged (Some q) r j = if r.rcode == 0 then (if is_some (watched_offset q.address) then operation_judged q.operation r.word j else j) else j

@@ -89,7 +89,7 @@ abbrev pub answer_told : Account → ℕ → Request → Operation → Reply →
 answer_told l c q Reads reply = None
 answer_told l c q (Locks function bytes) reply = lock_told l c q function bytes reply
 
--- a response to the request that stands of controller c
+-- a response to the outstanding request of controller c
 abbrev pub reply_told : Account → ℕ → Option Request → Reply → Option (List ℕ)
 reply_told l c None reply = None
 reply_told l c (Some q) reply = answer_told l c q q.operation reply

@@ -42,13 +42,13 @@ holders before [] = []
 holders before (t ∷ rest) = entry_line (account_of (entries_of before)) t ++ holders (before ++ t ∷ []) rest
 
 -- what a room for lines holds: the lines that were appended, the tables of the entries that were taken, and how much was judged
-pub record Room : Type 0 where
+pub record HolderState : Type 0 where
   pub text : List ℕ
   pub tables : Tables
   pub judged : Judged
 
 -- the entries that were taken have no fault, and the room stands for what they are
-pub record Holds (entries : List Timed) (r : Room) : Type 0 where
+pub record Holds (entries : List Timed) (r : HolderState) : Type 0 where
   pub audited : IsAudited (entries_of entries)
   pub account : Account
   pub is_account : account_of (entries_of entries) ≡ Some account
@@ -57,7 +57,7 @@ pub record Holds (entries : List Timed) (r : Room) : Type 0 where
   pub within : IsWithin (length entries) r.judged
 
 -- an entry more was taken, which has no fault over the account before it, and its line was appended, if it has one
-pub record TakesMore (l : Account) (t : Timed) (old new : Room) : Type 0 where
+pub record TakesMore (l : Account) (t : Timed) (old new : HolderState) : Type 0 where
   pub clear : HasNoFault l (looked t.what)
   pub account : Account
   pub follows : next_account l t.what ≡ Some account
@@ -66,7 +66,7 @@ pub record TakesMore (l : Account) (t : Timed) (old new : Room) : Type 0 where
   pub text : new.text ≡ old.text ++ line_of t.cycle (told l t.what) (Some account)
 
 -- it was; or it has this fault first, and nothing was appended
-abbrev pub Takes : Account → Timed → Room → Room → Option AuditFault → Type 0
+abbrev pub Takes : Account → Timed → HolderState → HolderState → Option AuditFault → Type 0
 Takes l t old new None = TakesMore l t old new
 Takes l t old new (Some f) = IsVerdict l (looked t.what) (Some f) × (new.text ≡ old.text)
 

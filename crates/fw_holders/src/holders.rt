@@ -38,9 +38,9 @@ pub struct Holders {
 }
 
 impl Model for Holders {
-    ghost use Rattle.fw_holders.specs.Told.{Room};
+    ghost use Rattle.fw_holders.specs.Told.{HolderState};
 
-    ghost Value = { Room };
+    ghost Value = { HolderState };
 
     ghost view = { λ h. record { text = h.text.items; tables = h.ledger; judged = h.judged } };
 }

@@ -3,7 +3,7 @@ use Rattle.fw_ledger.proofs.Common.{ResetEntry, NodeRow, ◌≡◌, ◌≤◌, �
 use Rattle.fw_ledger.proofs.Common.{ShowsReset, Tables}
 use Rattle.std.proofs.Common.{nat_le, option_map, slice_get, IfSome}
 use Rattle.std.specs.Option.{option_or}
-use Rattle.fw_async.specs.NodeIds.{local_number}
+use Rattle.fw_async_fields.specs.NodeIds.{local_number}
 use Rattle.fw_log_entry.specs.Network.{first_id}
 use Rattle.fw_model_account.specs.Words.{Register, is_node, manager_register, plug_register, register_at, register_of, first_address}
 use Rattle.fw_ledger.specs.Stands.{row_at}

@@ -1,11 +1,12 @@
 -- A table that is renewed place by place, and what a place of a plug becomes.
 use Rattle.fw_ledger.proofs.Common.{◌≡◌, ◌≢◌, ◌<◌, ◌≤◌, ◌+◌, ◌-◌, ◌*◌, ◌/◌, ◌%◌, ◌⊎◌, inl, inr, ℕ, Bool, true, false, not, nat_lt, ◌&&◌, ◌||◌, List, length, cond, get_or, slice_index, refl, sym, ◌∙◌}
 use Rattle.fw_ledger.proofs.Common.{ap, subst, arith, get_or-set_same, get_or-set_other, cases_eq, nat_tests, NodeRow, is_connected, AreRates, renewed_seats, Account, StandsFor, no_seats, Seats}
-use Rattle.fw_ledger.proofs.Common.{Tables}
-use Rattle.std.proofs.Common.{set}
+use Rattle.fw_ledger.proofs.Common.{Tables, PlugAt, false≢true}
+use Rattle.std.proofs.Common.{◌↔◌, set}
 use Rattle.fw_phy.specs.declared.packet.PhyPacket.{PhyPacket}
 use Rattle.fw_plug.specs.Plugs.{disconnected}
-use Rattle.fw_ledger.specs.Resets.{GainsNone, rate_of, first_output, first_input, renewed_output, renewed_input, goes_on}
+use Rattle.fw_ledger.specs.Resets.{GainsNone, GainsSome, HasNoNewOutput, rate_of, first_output, first_input, renewed_output, renewed_input, goes_on}
+use Rattle.fw_ledger.specs.Renewed.{AreOuts}
 use Rattle.fw_ledger.specs.Stands.{Stands}
 
 -- the places below k are renewed, and the others are as they were
@@ -76,9 +77,25 @@ small_set rates device v long small low d = go (cases_eq d device)
     go (inl e) = rw (e, get_or-set_same rates device v 0 long) low
     go (inr ne) = rw (get_or-set_other rates device d v 0 ne) (small d)
 
--- none counts where no device has more plugs than before
+-- none counts if no device has more plugs than before
 pub no_rates : (before now : List ℕ) (nodes : List NodeRow) (ids : List PhyPacket) (rates : List ℕ) → GainsNone before now → AreRates before now nodes ids rates
 no_rates before now nodes ids rates none d n there gone = absurd (let most = none d in grind (arith, nat_tests))
+
+-- then no output plug is new
+pub none_new : (t : Tables) (l : Account) (nodes : List NodeRow) (outs : List ℕ) → StandsFor t l → AreOuts nodes outs → GainsNone t.outs outs → HasNoNewOutput l.latest nodes
+none_new t l nodes outs h are none p there =
+    let most = none p.device in
+    let had : nat_lt p.plug (slice_index t.outs p.device) ≡ true = let has = sym (are p) ∙ there in grind (arith, nat_tests) in
+    h.plugs.outs p ∙ had
+
+-- where one has more, that after its last plug is new
+pub some_new : (t : Tables) (l : Account) (nodes : List NodeRow) (outs : List ℕ) → StandsFor t l → AreOuts nodes outs → GainsSome t.outs outs → HasNoNewOutput l.latest nodes → false ≡ true
+some_new t l nodes outs h are some none =
+    let p : PlugAt = record { device = some.0; plug = slice_index t.outs some.0 } in
+    let gains = some.1 in
+    let there : nat_lt p.plug (slice_index outs p.device) ≡ true = grind (arith, nat_tests) in
+    let had : nat_lt p.plug (slice_index t.outs p.device) ≡ true = sym (h.plugs.outs p) ∙ none p (are p ∙ there) in
+    absurd (grind (arith, nat_tests))
 
 -- a ledger stands for some account whether a bus reset was taken or not
 pub bus_stands : (taken : Bool) (old new : Tables) (l m : Account) → StandsFor old l → (taken ≡ true → StandsFor new m) → (taken ≡ false → new ≡ old) → Stands new

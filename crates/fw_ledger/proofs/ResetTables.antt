@@ -69,12 +69,12 @@ started_is started manager nodes (Some r) h = h.0
 none_seated : SeatsFor no_seats no_connections
 none_seated = record { size = refl; counts = λ c clt. let none : ℕ = 0 in copy_at {A = ℕ} 63 c none; broadcast = refl }
 
--- nobody has the broadcast connection where there is none
+-- nobody has the broadcast connection if there is none
 no_owner : (o : Option Owner) → is_there o ≡ false → o ≡ None
 no_owner None h = refl
 no_owner (Some x) h = absurd (false≢true (sym h))
 
--- no connection is counted where there is none
+-- no connection is counted if there is none
 none_of : (n : ℕ) (b : Bool) → (nat_lt 0 n || b) ≡ false → (n ≡ 0) × (b ≡ false)
 none_of n b h = (grind (arith, nat_tests), grind (arith, nat_tests))
 

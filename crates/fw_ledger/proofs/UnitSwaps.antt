@@ -8,7 +8,7 @@ use Rattle.fw_model_account.specs.Moves.{AllocateUnits, ReleaseUnits, with_alloc
 use Rattle.fw_model_account.specs.Words.{BandwidthAvailable}
 use Rattle.fw_model_account.specs.Decode.{is_flow, units_move}
 use Rattle.fw_ledger.specs.Swaps.{IsHeld, held_of}
-use Rattle.fw_ledger.specs.declared.held.Held.{Held}
+use Rattle.fw_ledger.specs.declared.held.PendingAllocation.{PendingAllocation}
 use Rattle.fw_ledger.specs.declared.tables.Charge.TheVariants.{Pending as PendingCharge, Orphaned}
 use Rattle.fw_model_account.proofs.Allocations.{total_changed}
 use Rattle.fw_model_account.proofs.Decode.{pending_is}
@@ -33,13 +33,13 @@ held_is t l c ch h lt found = go (charge_at t.charges.items ch) (h.resources.cha
     go (Orphaned p u) e f = absurd (grind arith)
 
 -- the move that a swap can be, if controller c holds a channel
-pub units_decoded : (l : Account) (c : ℕ) (x : Held) (arg new : ℕ) → IsSound l → IsHeld c (Some x) l
+pub units_decoded : (l : Account) (c : ℕ) (x : PendingAllocation) (arg new : ℕ) → IsSound l → IsHeld c (Some x) l
     → decoded l c BandwidthAvailable arg new ≡ Some (x.plug, units_move arg new x.channel)
 units_decoded l c x arg new s h = rw (pending_is l c x.plug x.channel x.units s h.1, s.for_addressed c x.channel x.plug x.units h.1) refl
 
 -- ---- the tables after the move
 
-units_stand : (t : Tables) (l : Account) (c new u : ℕ) (x : Held) (charges : Vec Charge Global) → StandsFor t l → IsHeld c (Some x) l
+units_stand : (t : Tables) (l : Account) (c new u : ℕ) (x : PendingAllocation) (charges : Vec Charge Global) → StandsFor t l → IsHeld c (Some x) l
     → IsSound (with_allocation x.channel (Some (record { holder = Pending c x.plug; units = u })) l)
     → word_of (with_allocation x.channel (Some (record { holder = Pending c x.plug; units = u })) l) BandwidthAvailable ≡ new
     → charges.items ≡ slice_set t.charges.items x.channel (PendingCharge c x.plug u)
@@ -70,7 +70,7 @@ units_stand t l c new u x charges h held sound later e = record {
 
 -- ---- units are allocated
 
-pub allocates : (t : Tables) (l : Account) (c new : ℕ) (x : Held) → StandsFor t l → IsHeld c (Some x) l → new < t.left → x.units ≡ 0
+pub allocates : (t : Tables) (l : Account) (c new : ℕ) (x : PendingAllocation) → StandsFor t l → IsHeld c (Some x) l → new < t.left → x.units ≡ 0
     → (not l.reclaiming || is_flow x.plug (t.left - new) (l.reclaimable x.channel)) ≡ true
     → IsMove c x.plug (AllocateUnits x.channel (t.left - new)) BandwidthAvailable t.left new l
 allocates t l c new x h held less none test =
@@ -92,7 +92,7 @@ allocates t l c new x h held less none test =
       later = omega arith;
     }
 
-pub allocated_follows : (t : Tables) (l : Account) (c new : ℕ) (x : Held) (charges : Vec Charge Global) → StandsFor t l → c < 63 → IsHeld c (Some x) l
+pub allocated_follows : (t : Tables) (l : Account) (c new : ℕ) (x : PendingAllocation) (charges : Vec Charge Global) → StandsFor t l → c < 63 → IsHeld c (Some x) l
     → new < t.left → x.units ≡ 0 → (not l.reclaiming || is_flow x.plug (t.left - new) (l.reclaimable x.channel)) ≡ true
     → charges.items ≡ slice_set t.charges.items x.channel (PendingCharge c x.plug (t.left - new))
     → Follows true t (record t { left = new; charges = charges })
@@ -104,7 +104,7 @@ allocated_follows t l c new x charges h lt held less none test e =
 
 -- ---- units are given back
 
-releases : (t : Tables) (l : Account) (c new : ℕ) (x : Held) → StandsFor t l → IsHeld c (Some x) l → t.left ≤ new → x.units ≢ 0 → x.units ≡ new - t.left
+releases : (t : Tables) (l : Account) (c new : ℕ) (x : PendingAllocation) → StandsFor t l → IsHeld c (Some x) l → t.left ≤ new → x.units ≢ 0 → x.units ≡ new - t.left
     → IsMove c x.plug (ReleaseUnits x.channel (new - t.left)) BandwidthAvailable t.left new l
 releases t l c new x h held more some same =
     let e = total_changed l.allocations x.channel (Some (record { holder = Pending c x.plug; units = 0 })) held.0 in
@@ -123,7 +123,7 @@ releases t l c new x h held more some same =
       later = omega arith;
     }
 
-pub released_follows : (t : Tables) (l : Account) (c new : ℕ) (x : Held) (charges : Vec Charge Global) → StandsFor t l → c < 63 → IsHeld c (Some x) l
+pub released_follows : (t : Tables) (l : Account) (c new : ℕ) (x : PendingAllocation) (charges : Vec Charge Global) → StandsFor t l → c < 63 → IsHeld c (Some x) l
     → t.left ≤ new → x.units ≢ 0 → x.units ≡ new - t.left
     → charges.items ≡ slice_set t.charges.items x.channel (PendingCharge c x.plug 0)
     → Follows true t (record t { left = new; charges = charges })
@@ -135,7 +135,7 @@ released_follows t l c new x charges h lt held more some same e =
 
 -- ---- what the words decide
 
-pub less_decoded : (t : Tables) (l : Account) (c arg new : ℕ) (x : Held) (taken : Bool) (made : Tables) → StandsFor t l → arg ≡ t.left → IsHeld c (Some x) l
+pub less_decoded : (t : Tables) (l : Account) (c arg new : ℕ) (x : PendingAllocation) (taken : Bool) (made : Tables) → StandsFor t l → arg ≡ t.left → IsHeld c (Some x) l
     → new < arg → Follows taken t made (moved_by c (allowed l c BandwidthAvailable t.left new (Some (x.plug, AllocateUnits x.channel (t.left - new)))) l)
     → Follows taken t made (moved_by c (move_at l c BandwidthAvailable arg new) l)
 less_decoded t l c arg new x taken made h same held less follows =
@@ -146,7 +146,7 @@ less_decoded t l c arg new x taken made h same held less follows =
     (subst (λ k. Follows taken t made (moved_by c (allowed l c BandwidthAvailable k new (Some (x.plug, AllocateUnits x.channel (k - new)))) l)) (sym same)
     follows)
 
-pub more_decoded : (t : Tables) (l : Account) (c arg new : ℕ) (x : Held) (taken : Bool) (made : Tables) → StandsFor t l → arg ≡ t.left → IsHeld c (Some x) l
+pub more_decoded : (t : Tables) (l : Account) (c arg new : ℕ) (x : PendingAllocation) (taken : Bool) (made : Tables) → StandsFor t l → arg ≡ t.left → IsHeld c (Some x) l
     → arg ≤ new → Follows taken t made (moved_by c (allowed l c BandwidthAvailable t.left new (Some (x.plug, ReleaseUnits x.channel (new - t.left)))) l)
     → Follows taken t made (moved_by c (move_at l c BandwidthAvailable arg new) l)
 more_decoded t l c arg new x taken made h same held more follows =

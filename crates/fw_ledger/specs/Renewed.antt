@@ -14,7 +14,7 @@ use Rattle.fw_ledger.specs.declared.tables.Tables.{Tables}
 abbrev pub AreOuts : List NodeRow → List ℕ → Type 0
 AreOuts nodes outs = (p : PlugAt) → list_any (is_output_of p) nodes ≡ nat_lt p.plug (slice_index outs p.device)
 
--- the tables of plugs after a bus reset to these nodes, where devices with new plugs have these speeds
+-- the tables of plugs after a bus reset to these nodes, if devices with new plugs have these speeds
 pub record HasNewPlugs (t : Tables) (nodes : List NodeRow) (rates : List ℕ) (new : Tables) : Type 0 where
   pub outs : AreOuts nodes new.outs
   pub ins : (p : PlugAt) → list_any (is_input_of p) nodes ≡ nat_lt p.plug (slice_index new.ins p.device)

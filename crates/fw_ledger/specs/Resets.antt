@@ -1,11 +1,15 @@
 -- What a bus reset does to the places of the tables.
+use Rattle.fw_terms.specs.declared.plug.PlugAt.{PlugAt}
+use Rattle.fw_log_entry.specs.declared.entry.ResetEntry.{ResetEntry}
 use Rattle.fw_log_entry.specs.declared.nodes.NodeRow.{NodeRow}
 use Rattle.fw_phy.specs.declared.packet.PhyPacket.{PhyPacket}
-use Rattle.std.specs.Prelude.{◌≡◌, ◌≤◌, ℕ, ◌+◌, nat_lt, Bool, true, false, not, ◌&&◌, ◌||◌, None, List, slice_index, if◌then◌else◌}
+use Rattle.std.specs.Prelude.{◌≡◌, ◌<◌, ◌≤◌, ℕ, ◌+◌, nat_lt, Bool, true, false, not, ◌&&◌, ◌||◌, Option, None, List, slice_index, if◌then◌else◌, IsTrue}
+use Rattle.std.specs.List.{list_any}
 use Rattle.fw_plug.specs.Words.{is_connected, out_word, in_word}
 use Rattle.fw_plug.specs.Plugs.{disconnected}
 use Rattle.fw_log_entry.specs.Network.{speed_of, node_of_device}
 use Rattle.fw_model_account.specs.Account.{is_open}
+use Rattle.fw_model_account.specs.Network.{is_output, is_output_of}
 use Rattle.fw_model_account.specs.Words.{bits_word}
 use Rattle.fw_ledger.specs.declared.tables.Charge.{Charge}
 use Rattle.fw_ledger.specs.declared.tables.Charge.TheVariants.{Free, Pending, Connected, Orphaned}
@@ -39,7 +43,15 @@ AreRates before now nodes ids rates =
 abbrev pub GainsNone : List ℕ → List ℕ → Type 0
 GainsNone before now = (d : ℕ) → slice_index now d ≤ slice_index before d
 
--- the word of output plug n of device d, where the devices had these numbers of plugs, and have these now, and have these speeds; of a
+-- some device has
+abbrev pub GainsSome : List ℕ → List ℕ → Type 0
+GainsSome before now = (d : ℕ) × (slice_index before d < slice_index now d)
+
+-- each output plug of these nodes is one of the latest reset entry, so that none is new
+abbrev pub HasNoNewOutput : Option ResetEntry → List NodeRow → Type 0
+HasNoNewOutput latest nodes = (p : PlugAt) → IsTrue (list_any (is_output_of p) nodes) → IsTrue (is_output latest p)
+
+-- the word of output plug n of device d, if the devices had these numbers of plugs, and have these now, and have these speeds; of a
 -- plug that is not there now it is not looked at
 abbrev pub renewed_output : List ℕ → List ℕ → List ℕ → ℕ → ℕ → ℕ → ℕ
 renewed_output before now rates d n word =

@@ -12,7 +12,7 @@ use Rattle.fw_model_account.specs.Moves.{Move, after}
 use Rattle.fw_model_account.specs.Words.{Register, BandwidthAvailable, ChannelsAvailable, OutputPlug, InputPlug}
 use Rattle.fw_ledger.specs.declared.register.Register.{Register as RegisterName}
 use Rattle.fw_ledger.specs.declared.register.Register.TheVariants.{Bandwidth, HighChannels, LowChannels, Output, Input}
-use Rattle.fw_ledger.specs.declared.held.Held.{Held}
+use Rattle.fw_ledger.specs.declared.held.PendingAllocation.{PendingAllocation}
 use Rattle.fw_ledger.specs.declared.tables.Charge.{Charge}
 use Rattle.fw_ledger.specs.declared.tables.Charge.TheVariants.{Free, Pending as PendingCharge, Connected, Orphaned}
 use Rattle.fw_ledger.specs.declared.tables.Tables.{Tables}
@@ -38,14 +38,14 @@ account_after c (Some register) move l = moved_by c (move register) l
 -- ---- channels and units
 
 -- the channel that a charge holds for its controller, with the plug and the units
-abbrev pub held_of : ℕ → Charge → Option Held
+abbrev pub held_of : ℕ → Charge → Option PendingAllocation
 held_of ch Free = None
 held_of ch (PendingCharge c plug units) = Some (record { channel = ch; plug = plug; units = units })
 held_of ch (Connected plug units) = None
 held_of ch (Orphaned plug units) = None
 
 -- what controller c has allocated and not connected
-abbrev pub IsHeld : ℕ → Option Held → Account → Type 0
+abbrev pub IsHeld : ℕ → Option PendingAllocation → Account → Type 0
 IsHeld c None l = pending_channel c l.allocations ≡ None
 IsHeld c (Some h) l = (h.channel < 64) × (l.allocations h.channel ≡ Some (record { holder = Pending c h.plug; units = h.units }))
 

@@ -1,11 +1,11 @@
 //! How many plugs each device has, by a reset entry, and what else is set at a bus reset.
 
-ghost use Rattle.std.specs.Prelude.{◌≡◌, ◌<◌, ◌≤◌, ℕ, length, max, nat_lt, slice_index, slice_set, if◌then◌else◌, IsFalse};
+ghost use Rattle.std.specs.Prelude.{◌≡◌, ◌<◌, ◌≤◌, ℕ, length, max, nat_lt, slice_index, slice_set, if◌then◌else◌, IsTrue, IsFalse};
 ghost use Rattle.std.specs.List.{list_any, All};
 ghost use Rattle.fw_terms.specs.declared.plug.PlugAt.{PlugAt};
 ghost use Rattle.fw_log_entry.specs.Log.{RowFits};
 ghost use Rattle.fw_model_account.specs.Network.{is_output_of, is_input_of};
-ghost use Rattle.fw_ledger.specs.Resets.{GainsNone, talker};
+ghost use Rattle.fw_ledger.specs.Resets.{GainsNone, GainsSome, talker};
 ghost use Rattle.fw_ledger.specs.Stands.{charge_at, reclaimable_at, asked_at};
 
 use crate::tables::{Asked, Charge, Reclaimable};
@@ -34,7 +34,8 @@ pub fn outs_of(nodes: &[NodeRow]) -> [u8; 63]
 
 /// Whether some device has more plugs now than before.
 pub fn gains_plugs(before: &[u8; 63], now: &[u8; 63]) -> bool
-    ensures { IsFalse result → GainsNone before.now now.now }
+    ensures some { IsTrue result → GainsSome before.now now.now }
+    ensures none { IsFalse result → GainsNone before.now now.now }
 {
     for device in 0..63 {
         if before[device] < now[device] {

@@ -13,7 +13,7 @@ use fw_terms::PlugAt;
 
 /// What a controller has allocated and not connected: a channel, the output plug that it is for, and the units with it.
 #[derive(Clone, Copy)]
-pub struct Held {
+pub struct PendingAllocation {
     pub channel: usize,
     pub plug: PlugAt,
     pub units: u32,
@@ -36,11 +36,11 @@ fn reclaimable_at(flows: &[Reclaimable], channel: usize) -> Reclaimable
 }
 
 // What a charge holds for its controller.
-fn held_of(channel: usize, charge: Charge) -> Option<Held>
+fn held_of(channel: usize, charge: Charge) -> Option<PendingAllocation>
     ensures { result ≡ held_of channel charge }
 {
     match charge {
-        Charge::Pending { plug, units, .. } => Some(Held {
+        Charge::Pending { plug, units, .. } => Some(PendingAllocation {
             channel,
             plug,
             units,
@@ -113,7 +113,7 @@ fn is_flow(flow: Reclaimable, p: PlugAt, u: u32) -> bool
 
 impl Tables {
     /// What controller `c` holds.
-    pub fn held(&self, c: u8) -> Option<Held>
+    pub fn held(&self, c: u8) -> Option<PendingAllocation>
         requires stands { Stands self.now }
         ensures { (l : Account) → StandsFor self.now l → IsHeld c result l }
     {

@@ -1,4 +1,4 @@
-ghost use Rattle.std.specs.Prelude.{◌≡◌, ◌+◌, ◌-◌, ◌*◌, ◌/◌, ◌%◌, ◌^◌, ◌<◌, ℕ, IfOk, IfErr, IfSome, IsOkAnd, Some, None, is_some, if◌then◌else◌, ⊤, IsTrue, IsFalse};
+ghost use Rattle.std.specs.Prelude.{◌≡◌, ◌↔◌, ◌+◌, ◌-◌, ◌*◌, ◌/◌, ◌%◌, ◌^◌, ◌<◌, ℕ, IfOk, IfErr, IfSome, IsOkAnd, Some, None, is_some, if◌then◌else◌, ⊤, IsTrue, IsFalse};
 ghost use Rattle.std.specs.Option.{option_map};
 ghost use Rattle.fw_log_entry.specs.Log.{Fits, ResetFits};
 ghost use Rattle.fw_log_entry.specs.declared.entry.ResetEntry.{ResetEntry as AReset};
@@ -11,6 +11,7 @@ ghost use Rattle.fw_model_account.specs.Network.{is_output, is_input};
 ghost use Rattle.fw_model_account.specs.Packets.{asked_by, ended};
 ghost use Rattle.fw_model_account.specs.Words.{BandwidthAvailable, ChannelsAvailable, OutputPlug, InputPlug, word_of, register_of, id_in};
 ghost use Rattle.fw_model_audit.specs.Looked.{Asks, looked};
+ghost use Rattle.fw_ledger.specs.Resets.{HasNoNewOutput};
 ghost use Rattle.fw_ledger.specs.Stands.{Stands, StandsFor, AskedFor, Follows};
 ghost use Rattle.fw_ledger.specs.Swaps.{IsThere, register_named, moved_by};
 ghost use Rattle.fw_ledger.specs.Refused.{GoesOn, IsRefusedFor, ShowsAnswer, Takes};
@@ -81,6 +82,7 @@ impl Ledger {
         requires fits { (r : AReset) × ResetFits r × (r.manager ≡ manager) × (r.nodes ≡ nodes.now) }
         ensures taken { IsTrue result → (l : Account) (r : AReset) → StandsFor self.old l → ResetFits r → r.manager ≡ manager → r.nodes ≡ nodes.now
             → StandsFor self.new (after_reset r l) }
+        ensures exactly { (l : Account) → StandsFor self.old l → IsTrue result ↔ HasNoNewOutput l.latest nodes.now }
         ensures kept { IsFalse result → self.new ≡ self.old }
     {
         self.tables.take_bus(manager, nodes)

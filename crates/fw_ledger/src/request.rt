@@ -67,6 +67,7 @@ impl Tables {
 
     /// A request of the node with the ID `source`, for what `asked` says. It is refused if the ID is no node's, and
     /// beside an outstanding request of that node.
+    #[inline(always)]
     pub fn take_request(
         &mut self,
         source: u16,

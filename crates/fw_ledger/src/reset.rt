@@ -1,11 +1,12 @@
 //! Bus resets.
 
-ghost use Rattle.std.specs.Prelude.{◌≡◌, ◌<◌, ◌≤◌, ℕ, length, slice_index, IsTrue, IsFalse};
+ghost use Rattle.std.specs.Prelude.{◌≡◌, ◌↔◌, ◌<◌, ◌≤◌, ℕ, length, slice_index, IsTrue, IsFalse};
 ghost use Rattle.std.specs.List.{All};
 ghost use Rattle.fw_log_entry.specs.Log.{ResetFits, RowFits};
 ghost use Rattle.fw_log_entry.specs.declared.entry.ResetEntry.{ResetEntry as AReset};
 ghost use Rattle.fw_model_account.specs.Account.{Account};
 ghost use Rattle.fw_model_account.specs.Events.{after_reset};
+ghost use Rattle.fw_ledger.specs.Resets.{HasNoNewOutput};
 ghost use Rattle.fw_ledger.specs.Renewed.{AreOuts, IsRenewed};
 ghost use Rattle.fw_ledger.specs.Stands.{Stands, StandsFor};
 
@@ -64,12 +65,13 @@ impl Tables {
     }
 
     /// A bus reset of which the nodes and the resource manager are known, and not the self-ID packets. It is not taken, and nothing is
-    /// changed, where a device has more output plugs than before it: a new plug begins with the speed of its device.
+    /// changed, if a device has more output plugs than before it: a new plug begins with the speed of its device.
     pub fn take_bus(&mut self, manager: Option<u8>, nodes: &[NodeRow]) -> bool
         requires stands { Stands self.old }
         requires fits { (r : AReset) × ResetFits r × (r.manager ≡ manager) × (r.nodes ≡ nodes.now) }
         ensures taken { IsTrue result → (l : Account) (r : AReset) → StandsFor self.old l → ResetFits r → r.manager ≡ manager → r.nodes ≡ nodes.now
             → StandsFor self.new (after_reset r l) }
+        ensures exactly { (l : Account) → StandsFor self.old l → IsTrue result ↔ HasNoNewOutput l.latest nodes.now }
         ensures kept { IsFalse result → self.new ≡ self.old }
     {
         let outs = outs_of(nodes);

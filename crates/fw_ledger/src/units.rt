@@ -8,12 +8,12 @@ ghost use Rattle.fw_model_account.specs.Decode.{allowed, move_at};
 ghost use Rattle.fw_ledger.specs.Stands.{Stands, StandsFor, Follows};
 ghost use Rattle.fw_ledger.specs.Swaps.{IsHeld, moved_by};
 
-use crate::held::Held;
+use crate::held::PendingAllocation;
 use crate::tables::{Charge, Tables};
 
 impl Tables {
     // Controller `c` allocates units for the channel that it holds.
-    fn allocate_units(&mut self, c: u8, held: Held, new: u32) -> bool
+    fn allocate_units(&mut self, c: u8, held: PendingAllocation, new: u32) -> bool
         requires stands { Stands self.old }
         requires controller { c < 63 }
         requires channel { held.channel < 64 }
@@ -34,7 +34,7 @@ impl Tables {
     }
 
     // Controller `c` gives back the units that it holds.
-    fn release_units(&mut self, c: u8, held: Held, new: u32) -> bool
+    fn release_units(&mut self, c: u8, held: PendingAllocation, new: u32) -> bool
         requires stands { Stands self.old }
         requires controller { c < 63 }
         requires channel { held.channel < 64 }

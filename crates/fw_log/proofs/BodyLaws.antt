@@ -1,10 +1,10 @@
 -- Bodies that are packets.
 use Rattle.fw_log.proofs.Common.{◌≡◌, ℕ, ◌<◌, ◌≤◌, ◌+◌, List, length, take, Some, Result, Ok, Err, arith, ap, sym, subst, take_all, IsBody, BodyRefused, Entry, Reset, Event, Outcome, Shown, End}
 use Rattle.fw_log.proofs.Common.{BodyFault, Fields}
-use Rattle.fw_async.specs.Reading as Packets
+use Rattle.fw_async_fields.specs.Reading as Packets
 use Rattle.fw_async.specs.Reader.{Spells}
 use Rattle.fw_async.specs.declared.packet.Packet.{Packet}
-use Rattle.fw_async.specs.declared.PacketFault.{PacketFault}
+use Rattle.fw_async_fields.specs.declared.PacketFault.{PacketFault}
 use Rattle.fw_async.specs.declared.reader.Fed.{Fed}
 use Rattle.fw_cip.specs.Iso.{Fits as IsoFits, spelling as iso_spelling}
 use Rattle.fw_cip.specs.declared.packet.IsoPacket.{IsoPacket}

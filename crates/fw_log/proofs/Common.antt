@@ -1,5 +1,5 @@
 -- What most files of proofs import.
-pub use Rattle.fw_async.specs.Async.{AreBytes}
+pub use Rattle.fw_async_fields.specs.Data.{AreBytes}
 pub use Rattle.fw_log_entry.specs.Log.{are_ids, body, epoch_after, head_size, header_bytes, kind_of, node_quad, quads, version_of}
 pub use Rattle.fw_log_entry.specs.declared.entry.Entry.{Entry}
 pub use Rattle.fw_log_entry.specs.declared.entry.Entry.TheVariants.{Async, End, Event, Iso, Outcome, Reset, Shown}

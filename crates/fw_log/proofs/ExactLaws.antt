@@ -5,12 +5,12 @@ use Rattle.fw_log.proofs.Common.{Spells, Faulty, WrongBody, HasEpoch, need, skip
 use Rattle.fw_log.proofs.Common.{LogFault}
 use Rattle.std.proofs.Common.{IfOk}
 use Rattle.std.proofs.lemmas.List.{take-take}
-use Rattle.fw_async.proofs.NeedLaws.{fault_stays}
+use Rattle.fw_async_fields.proofs.NeedLaws.{fault_stays}
 use Rattle.fw_async.proofs.ExactLaws.{clear_from_spells}
-use Rattle.fw_async.specs.Reading as Packets
+use Rattle.fw_async_fields.specs.Reading as Packets
 use Rattle.fw_async.specs.Reader.{Spells as SpellsPacket}
 use Rattle.fw_async.specs.declared.packet.Packet.{Packet as AsyncPacket}
-use Rattle.fw_async.specs.declared.PacketFault.{PacketFault}
+use Rattle.fw_async_fields.specs.declared.PacketFault.{PacketFault}
 use Rattle.fw_cip.specs.Iso.{iso_fault}
 use Rattle.fw_cip.proofs.SpelledLaws.{spelled_none as iso_clear}
 use Rattle.fw_log.specs.Bodies.{PacketRefuses, refusal}
@@ -22,15 +22,15 @@ use Rattle.fw_log.proofs.BodyLaws.{packet_in, iso_in}
 use Rattle.fw_log.proofs.IdsLaws.{ids_clear}
 use Rattle.fw_log.proofs.ResetLaws.{reset_in, body_has, shape_of}
 use Rattle.fw_log.proofs.FeedLaws.{further, stays}
-use Rattle.fw_log.proofs.StayLaws.{need_done, no_complete_front}
+use Rattle.fw_log.proofs.StayLaws.{need_done, no_complete_prefix}
 use Rattle.fw_log.proofs.SameLaws.{spelled_clear, spelled_complete, same_spelled, same_body, spelled_body, spelled_epoch}
 
 -- a packet is refused at one byte, and for one reason
-front_of : (k : ℕ) (bytes : List ℕ) → bytes ≡ take k bytes ++ drop k bytes
-front_of k bytes = sym (take-append-drop k bytes)
+prefix_of : (k : ℕ) (bytes : List ℕ) → bytes ≡ take k bytes ++ drop k bytes
+prefix_of k bytes = sym (take-append-drop k bytes)
 
 fault_on : (bytes : List ℕ) (i k : ℕ) (f : PacketFault) → i ≤ k → Packets.fault_of (take i bytes) ≡ Some f → Packets.fault_of (take k bytes) ≡ Some f
-fault_on bytes i k f le h = ap Packets.fault_of (front_of i (take k bytes) ∙ ap (λ t. t ++ drop i (take k bytes)) (take-take i k bytes le)) ∙ fault_stays (take i bytes) (drop i (take k bytes)) f h
+fault_on bytes i k f le h = ap Packets.fault_of (prefix_of i (take k bytes) ∙ ap (λ t. t ++ drop i (take k bytes)) (take-take i k bytes le)) ∙ fault_stays (take i bytes) (drop i (take k bytes)) f h
 
 packet_once : (bytes : List ℕ) (f g : PacketFault) → PacketRefuses bytes f → PacketRefuses bytes g → f ≡ g
 packet_once bytes f g h k =
@@ -127,7 +127,7 @@ complete_once s old piece i k le within a b =
 pub never_complete : {A : Type 0} (s : Position) (old piece : List ℕ) (i k : ℕ) → i ≤ k → length (old ++ take i piece) ≡ need s (old ++ take i piece) → IsPending s (old ++ take k piece) → A
 never_complete s old piece i k le a pending =
     let P : List ℕ → Type 0 = IsPending s in
-    no_complete_front s (old ++ take i piece) (take (k - i) (drop i piece)) (subst P (further old piece i k le) pending) a
+    no_complete_prefix s (old ++ take i piece) (take (k - i) (drop i piece)) (subst P (further old piece i k le) pending) a
 
 -- no part is refused before pending bytes, nor before an entry's
 never_faulty : {A : Type 0} (s : Position) (old piece : List ℕ) (i k : ℕ) (f : LogFault) → i ≤ k → Faulty s (old ++ take i piece) f → IsPending s (old ++ take k piece) → A

@@ -15,35 +15,35 @@ use Rattle.fw_log.proofs.ByteLaws.{are_bytes_part, quadlet_at-append}
 use Rattle.fw_log.proofs.EntryLaws.{complete_head}
 use Rattle.fw_log.proofs.SameLaws.{spelled_complete, spelled_body}
 use Rattle.fw_log.proofs.FeedLaws.{further, stays, need_most}
-use Rattle.fw_log.proofs.StayLaws.{head_stays, need_least, need_head, no_complete_front, length_of-append, cycle_of-append, kind_append, length_append, epoch_append, version_in_same, version_same}
+use Rattle.fw_log.proofs.StayLaws.{head_stays, need_least, need_head, no_complete_prefix, length_of-append, cycle_of-append, kind_append, length_append, epoch_append, version_in_same, version_same}
 
 -- If an entry's length is known, what follows does not change how many bytes it takes.
 same_by : (h n m l k : ℕ) → 4 ≤ n → n ≤ m → k ≡ l → (if nat_lt m 4 then h else h + 4 * k) ≡ (if nat_lt n 4 then h else h + 4 * l)
 same_by h n m l k enough le same = grind (arith, nat_tests)
 
-need_same : (s : Position) (front more : List ℕ) → skip s.start + 4 ≤ length front → need s (front ++ more) ≡ need s front
-need_same s front more enough =
-    let v : Version = version_at s front in
-    let cut : drop (skip s.start) (front ++ more) ≡ drop (skip s.start) front ++ more = drop-append-le (skip s.start) front more (omega arith) in
-    let long : 4 ≤ length (drop (skip s.start) front) = omega (arith, length-drop (skip s.start) front) in
-    let le : length (drop (skip s.start) front) ≤ length (drop (skip s.start) front ++ more) = omega (arith, length-append (drop (skip s.start) front) more) in
-    ap (λ w. skip s.start + entry_need w (drop (skip s.start) (front ++ more))) (version_same s front more (omega arith))
+need_same : (s : Position) (prefix more : List ℕ) → skip s.start + 4 ≤ length prefix → need s (prefix ++ more) ≡ need s prefix
+need_same s prefix more enough =
+    let v : Version = version_at s prefix in
+    let cut : drop (skip s.start) (prefix ++ more) ≡ drop (skip s.start) prefix ++ more = drop-append-le (skip s.start) prefix more (omega arith) in
+    let long : 4 ≤ length (drop (skip s.start) prefix) = omega (arith, length-drop (skip s.start) prefix) in
+    let le : length (drop (skip s.start) prefix) ≤ length (drop (skip s.start) prefix ++ more) = omega (arith, length-append (drop (skip s.start) prefix) more) in
+    ap (λ w. skip s.start + entry_need w (drop (skip s.start) (prefix ++ more))) (version_same s prefix more (omega arith))
     ∙ ap (λ e. skip s.start + entry_need v e) cut
-    ∙ ap (λ n. skip s.start + n) (same_by (head_size v) (length (drop (skip s.start) front)) (length (drop (skip s.start) front ++ more)) (length_of (drop (skip s.start) front))
-    (length_of (drop (skip s.start) front ++ more)) long le (length_of-append (drop (skip s.start) front) more long))
+    ∙ ap (λ n. skip s.start + n) (same_by (head_size v) (length (drop (skip s.start) prefix)) (length (drop (skip s.start) prefix ++ more)) (length_of (drop (skip s.start) prefix))
+    (length_of (drop (skip s.start) prefix ++ more)) long le (length_of-append (drop (skip s.start) prefix) more long))
 
 -- What no fault shows in, none shows in a prefix of.
-clear_by : (s : Position) (front more : List ℕ) (o : Option LogFault) → head_fault s front ≡ o → head_fault s (front ++ more) ≡ None → head_fault s front ≡ None
-clear_by s front more None e h = e
-clear_by s front more (Some g) e h = cc (head_stays s front more g e, h)
+clear_by : (s : Position) (prefix more : List ℕ) (o : Option LogFault) → head_fault s prefix ≡ o → head_fault s (prefix ++ more) ≡ None → head_fault s prefix ≡ None
+clear_by s prefix more None e h = e
+clear_by s prefix more (Some g) e h = cc (head_stays s prefix more g e, h)
 
 -- a prefix of a whole entry is a part of it
-front_pending : (s : Position) (front more : List ℕ) → 0 < length more → head_fault s (front ++ more) ≡ None → length (front ++ more) ≡ need s (front ++ more) → IsPending s front
-front_pending s front more some clear complete = record {
-  no_fault = clear_by s front more (head_fault s front) refl clear;
-  not_complete = elim (cases_lt (length front) (skip s.start + 4)) [
-    | inl short ↦ omega (arith, need_least s front)
-    | inr long ↦ omega (arith, need_same s front more long, length-append front more)
+prefix_pending : (s : Position) (prefix more : List ℕ) → 0 < length more → head_fault s (prefix ++ more) ≡ None → length (prefix ++ more) ≡ need s (prefix ++ more) → IsPending s prefix
+prefix_pending s prefix more some clear complete = record {
+  no_fault = clear_by s prefix more (head_fault s prefix) refl clear;
+  not_complete = elim (cases_lt (length prefix) (skip s.start + 4)) [
+    | inl short ↦ omega (arith, need_least s prefix)
+    | inr long ↦ omega (arith, need_same s prefix more long, length-append prefix more)
   ];
 }
 
@@ -170,9 +170,9 @@ first_complete v s bytes n fit is h =
     subst P (sym is) (complete_head s (take n bytes) (are_bytes_part bytes n 0 fit) e.clear e.whole)
 
 -- the body of the entry that is given
-pub body_behind : (v : Version) (s : Position) (bytes rest : List ℕ) (t : Timed) (at head : ℕ) → v ≡ version_at s bytes → at ≡ skip s.start → head ≡ head_size v
+pub body_after : (v : Version) (s : Position) (bytes rest : List ℕ) (t : Timed) (at head : ℕ) → v ≡ version_at s bytes → at ≡ skip s.start → head ≡ head_size v
     → rest ≡ drop (at + head) bytes → Spells s t bytes → rest ≡ body t.what
-body_behind v s bytes rest t at head is here size after h =
+body_after v s bytes rest t at head is here size after h =
     let e : version_at s bytes ≡ v = sym is in
     after ∙ ap (λ n. drop (n + head) bytes) here ∙ ap (λ n. drop (skip s.start + n) bytes) size
     ∙ sym (drop-drop (head_size v) (skip s.start) bytes ∙ ap (λ n. drop n bytes) (omega arith))
@@ -191,7 +191,7 @@ first_wrong s bytes n f h w =
       n - 1,
       record {
         within = omega (arith, h.2, e.some);
-        before = front_pending s (take (n - 1) bytes) (take (n - (n - 1)) (drop (n - 1) bytes)) some (ap (head_fault s) (sym parts) ∙ e.clear) (subst Q parts e.whole);
+        before = prefix_pending s (take (n - 1) bytes) (take (n - (n - 1)) (drop (n - 1) bytes)) some (ap (head_fault s) (sym parts) ∙ e.clear) (subst Q parts e.whole);
         shown = subst P (sym last) (inr (record { no_fault = e.clear; complete = e.whole; wrong = w }));
       },
     )
@@ -206,9 +206,9 @@ length_joined : (old piece : List ℕ) (m : ℕ) → m ≤ length piece → leng
 length_joined old piece m within = length-append old (take m piece) ∙ ap (λ n. length old + n) (length-take-le m piece within)
 
 -- a prefix of what is pending is not refused and not whole
-not_faulty : {A : Type 0} (s : Position) (front more : List ℕ) (f : LogFault) → Faulty s front f → IsPending s (front ++ more) → A
-not_faulty s front more f (inl a) pending = cc (head_stays s front more f a, pending.no_fault)
-not_faulty s front more f (inr b) pending = no_complete_front s front more pending b.complete
+not_faulty : {A : Type 0} (s : Position) (prefix more : List ℕ) (f : LogFault) → Faulty s prefix f → IsPending s (prefix ++ more) → A
+not_faulty s prefix more f (inl a) pending = cc (head_stays s prefix more f a, pending.no_fault)
+not_faulty s prefix more f (inr b) pending = no_complete_prefix s prefix more pending b.complete
 
 in_old : (s : Position) (old piece : List ℕ) (m k : ℕ) → IsPending s old → k ≤ length old → IsPending s (take k (old ++ take m piece) ++ drop k old)
 in_old s old piece m k pending within =
@@ -248,7 +248,7 @@ pub kept_entry : (s : Position) (old piece : List ℕ) (found : Found) → IsPen
 kept_entry s old piece found pending h =
     let size = length_joined old piece h.count h.within in
     let past : length old ≤ found.end = elim (cases_lt found.end (length old)) [
-      | inl less ↦ no_complete_front s (take found.end (old ++ take h.count piece)) (drop found.end old) (in_old s old piece h.count found.end pending (omega arith))
+      | inl less ↦ no_complete_prefix s (take found.end (old ++ take h.count piece)) (drop found.end old) (in_old s old piece h.count found.end pending (omega arith))
           (spelled_complete s found.entry _ h.finds.1)
       | inr more ↦ more
     ] in

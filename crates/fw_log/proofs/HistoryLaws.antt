@@ -11,7 +11,7 @@ use Rattle.fw_log.specs.Reading.{EpochFits, header_at}
 use Rattle.fw_log.specs.Reader.{FeedsTo, after, with_bytes, finish_of, finish_by}
 use Rattle.fw_log.specs.History.{bytes_of, version_after, last_cycle, ended_by, stand_after, IsLog, HasRead, BeginsNoLog, ReadsTo, ReadsOn, IsNext, GivesNext, Finishes}
 use Rattle.fw_log.specs.declared.LogWhy.TheVariants.{Cut, NoEnd}
-use Rattle.fw_log.proofs.StayLaws.{no_complete_front, need_least, head_stays}
+use Rattle.fw_log.proofs.StayLaws.{no_complete_prefix, need_least, head_stays}
 use Rattle.fw_log.proofs.SameLaws.{same_timed, length-entry, length_back, spelled_complete, header_alone, version_back}
 use Rattle.fw_log.proofs.ExactLaws.{never_complete, entry_faulty}
 
@@ -96,7 +96,7 @@ one_log v w ts us bytes f g =
     (is, sym (k.all ∙ ap (λ x. ts ++ x) (no_entries v (latest_epoch 0 ts) k.rest k.same) ∙ append-nil ts))
 
 -- what a log has after the entries that were read
-pub record Behind (v : Version) (entries all : List Timed) (unit : List ℕ) : Type 0 where
+pub record Subsequent (v : Version) (entries all : List Timed) (unit : List ℕ) : Type 0 where
   pub rest : List Timed
   pub all_is : all ≡ entries ++ rest
   pub same : header_at v (length (bytes_of v entries)) ++ entries_bytes v (latest_epoch 0 entries) rest ≡ unit
@@ -112,9 +112,9 @@ no_header v n some = by n (header_bytes v) some
 some_bytes : (v : Version) (t : Timed) (ts : List Timed) → 0 < length (bytes_of v (t ∷ ts))
 some_bytes v t ts = omega (arith, length-append (header_bytes v) (entries_bytes v 0 (t ∷ ts)))
 
-pub behind : (v : Version) (entries all : List Timed) (unit bytes : List ℕ) → InOrder 0 entries → bytes_of v entries ++ unit ≡ bytes → LogOpens all v bytes → Behind v entries all unit
-behind v [] all unit bytes h e o = record { rest = all; all_is = refl; same = o.same ∙ sym e; order = o.order; ends = λ t. cc t }
-behind v (t ∷ ts) all unit bytes h e o =
+pub following : (v : Version) (entries all : List Timed) (unit bytes : List ℕ) → InOrder 0 entries → bytes_of v entries ++ unit ≡ bytes → LogOpens all v bytes → Subsequent v entries all unit
+following v [] all unit bytes h e o = record { rest = all; all_is = refl; same = o.same ∙ sym e; order = o.order; ends = λ t. cc t }
+following v (t ∷ ts) all unit bytes h e o =
     let same : entries_bytes v 0 all ≡ entries_bytes v 0 (t ∷ ts) ++ unit =
     append_cancel_left (header_bytes v) (entries_bytes v 0 all) (entries_bytes v 0 (t ∷ ts) ++ unit) (o.same ∙ sym e ∙ append_assoc (header_bytes v) (entries_bytes v 0 (t ∷ ts)) unit) in
     let g = goes_on v 0 0 false (t ∷ ts) all unit h o.order (λ b. cc b) same in
@@ -192,9 +192,9 @@ next_spells v entries rest t before order ends = record {
 }
 
 -- no log goes on from a fault
-dead_front : {A : Type 0} (s : Position) (line : List ℕ) (n m : ℕ) (f : LogFault) (t : Timed) → IsPending s (take n line) → Faulty s (take (n + 1) line) f → m ≤ length line → Spells s t (take m line)
+dead_prefix : {A : Type 0} (s : Position) (line : List ℕ) (n m : ℕ) (f : LogFault) (t : Timed) → IsPending s (take n line) → Faulty s (take (n + 1) line) f → m ≤ length line → Spells s t (take m line)
     → A
-dead_front s line n m f t pending shown within h =
+dead_prefix s line n m f t pending shown within h =
     elim (cases_lt n m) [
       | inl less ↦ entry_faulty s [] line (n + 1) m f t (omega arith) within shown h
       | inr more ↦ never_complete s [] line m n more (spelled_complete s t (take m line) h) pending
@@ -250,7 +250,7 @@ dead_by v entries (t ∷ rest) unit more n f before cut pending shown order ends
     let w : take (length first) (unit ++ more) ≡ first = ap (take (length first)) (sym line) ∙ take_at first (entries_bytes v epoch rest) _ refl in
     let P : List ℕ → Type 0 = Spells (stand_after v entries) t in
     let F : List ℕ → Type 0 = λ x. Faulty (stand_after v entries) x f in
-    dead_front (stand_after v entries) (unit ++ more) n (length first) f t pending (subst F cut shown)
+    dead_prefix (stand_after v entries) (unit ++ more) n (length first) f t pending (subst F cut shown)
     (omega (arith, ap length line, length-append first (entries_bytes v epoch rest))) (subst P (sym w) s)
 
 taken_at : (old piece more : List ℕ) (k : ℕ) → k ≤ length piece → take (length old + k) ((old ++ piece) ++ more) ≡ old ++ take k piece
@@ -271,7 +271,7 @@ dead entries bytes piece r k f h shows all v more o =
     let F : Position → Type 0 = λ s. Faulty s (r.taken ++ take (k + 1) piece) f in
     let before = subst I stand shows.before in
     let shown = subst F stand shows.shown in
-    let b = behind v entries all (unit ++ more) ((bytes ++ take (k + 1) piece) ++ more) h.order alike.same o in
+    let b = following v entries all (unit ++ more) ((bytes ++ take (k + 1) piece) ++ more) h.order alike.same o in
     let some : k + 1 ≤ length piece = omega (arith, shows.within) in
     let size : length (take (k + 1) piece) ≡ k + 1 = length-take-le (k + 1) piece some in
     let complete : r.taken ++ take (k + 1) piece ≡ take (length r.taken + k + 1) ((r.taken ++ take (k + 1) piece) ++ more) =
@@ -379,11 +379,11 @@ reads_on entries bytes piece r new (Ok fed) h f = reads_to entries bytes piece r
 reads_on entries bytes piece r new (Err g) h f = (f.0.0, f.0.1.within, dead entries bytes piece r f.0.0 g h f.0.1)
 
 -- in a log each entry is the next
-pub log_begins : (entries all : List Timed) (v : Version) (bytes more : List ℕ) (r : State) → HasRead entries bytes r → LogOpens all v (bytes ++ more) → Behind v entries all (r.taken ++ more)
+pub log_begins : (entries all : List Timed) (v : Version) (bytes more : List ℕ) (r : State) → HasRead entries bytes r → LogOpens all v (bytes ++ more) → Subsequent v entries all (r.taken ++ more)
 log_begins entries all v bytes more r h o =
     let first = sym (append_assoc (bytes_of h.version entries) r.taken more) ∙ ap (λ t. t ++ more) h.same in
     let alike = read_as h.version v entries all (r.taken ++ more) (bytes ++ more) first o in
-    behind v entries all (r.taken ++ more) (bytes ++ more) h.order alike.same o
+    following v entries all (r.taken ++ more) (bytes ++ more) h.order alike.same o
 
 split_at : (bytes piece more : List ℕ) (k : ℕ) → bytes ++ (piece ++ more) ≡ (bytes ++ take k piece) ++ (drop k piece ++ more)
 split_at bytes piece more k =
@@ -452,7 +452,7 @@ only_by v entries (t ∷ rest) taken before pending order ends same =
     let first : List ℕ = header_at v (length (bytes_of v entries)) ++ entry_bytes v epoch t in
     let line : taken ≡ first ++ entries_bytes v epoch rest = sym same ∙ sym (append_assoc (header_at v (length (bytes_of v entries))) (entry_bytes v epoch t) (entries_bytes v epoch rest)) in
     let P : List ℕ → Type 0 = IsPending (stand_after v entries) in
-    no_complete_front (stand_after v entries) first (entries_bytes v epoch rest) (subst P line pending) (spelled_complete (stand_after v entries) t _ s)
+    no_complete_prefix (stand_after v entries) first (entries_bytes v epoch rest) (subst P line pending) (spelled_complete (stand_after v entries) t _ s)
 
 only_log : (entries all : List Timed) (v : Version) (bytes : List ℕ) (r : State) → HasRead entries bytes r → LogOpens all v bytes → all ≡ entries
 only_log entries all v bytes r h o =

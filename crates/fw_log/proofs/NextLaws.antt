@@ -3,7 +3,7 @@ use Rattle.fw_log.proofs.Common.{◌≡◌, ℕ, ◌+◌, ◌-◌, List, [], len
 use Rattle.fw_log.specs.Next.{IsNext}
 use Rattle.fw_log.specs.Passing.{BodyFirst}
 use Rattle.fw_log.specs.declared.first.PlainEntry.{PlainEntry}
-use Rattle.fw_log.proofs.PassLaws.{EndsPassed, ends_passed, behind_passed, fed}
+use Rattle.fw_log.proofs.PassLaws.{EndsPassed, ends_passed, after_passed, fed}
 
 -- of a reader without a fault, in the bytes at hand
 pub is_next : (r : State) (stand : Position) (taken kept piece bytes : List ℕ) (fault : Option LogFault) (o : Option PlainEntry)
@@ -31,4 +31,4 @@ pub next_feeds : (r : State) (piece : List ℕ) (p : PlainEntry) (x : IsNext r p
     → stand ≡ record { start = start + p.passed.end; last = p.passed.cycle; ended = false; version = p.passed.version; epoch = p.passed.epoch } → taken ≡ [] → fault ≡ None
     → Feeds r.stand r.taken piece (fed (p.passed.end - n) x.next.entry) (record { stand = stand; taken = taken; fault = fault })
 next_feeds r piece p x n start stand taken fault holds size from stands none clear =
-    behind_passed r piece p.passed x.next.entry (next_ends r piece p x holds) n start stand taken fault size from stands none clear
+    after_passed r piece p.passed x.next.entry (next_ends r piece p x holds) n start stand taken fault size from stands none clear

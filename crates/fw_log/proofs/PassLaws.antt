@@ -53,14 +53,14 @@ plain_shown k bytes (Some o) e h some = record { entry = Shown o; is = record { 
 
 -- the epoch after an entry that is passed over, which its head has
 record PlainEpoch (v : Version) (epoch : ℕ) (e : List ℕ) (what : Entry) (n : ℕ) : Type 0 where
-  pub behind : n ≡ epoch_after epoch what
+  pub following : n ≡ epoch_after epoch what
   pub own : HasEpoch v (epoch_after epoch what) e
 
 -- of an entry that is no reset
 other : (v : Version) (epoch last n : ℕ) (e more : List ℕ) (what : Entry) → HeadFits v epoch last e → IsBody (get_or e 0 0) more what → IsPlainEpoch v epoch e more n
     → (kind_of what ≡ 1 → ⊥) → is_own_epoch v what e ≡ true → epoch_after epoch what ≡ epoch → PlainEpoch v epoch e what n
 other v epoch last n e more what h b (inl p) apart own same = absurd (apart (b.kind ∙ p.0))
-other v epoch last n e more what h b (inr p) apart own same = record { behind = p.1 ∙ sym same; own = own_epoch v epoch e what h.latest b.kind own }
+other v epoch last n e more what h b (inr p) apart own same = record { following = p.1 ∙ sym same; own = own_epoch v epoch e what h.latest b.kind own }
 
 plain_epoch : (v : Version) (epoch last n : ℕ) (e more : List ℕ) (what : Entry) → HeadFits v epoch last e → IsBody (get_or e 0 0) more what → IsPlainEpoch v epoch e more n
     → PlainEpoch v epoch e what n
@@ -68,7 +68,7 @@ plain_epoch v epoch last n e more (Reset r) h b (inl p) =
     let first : quadlet_at more 0 ≡ r.epoch = ap (λ x. quadlet_at x 0) (sym b.same) ∙ back r.epoch [] b.fits.epoch in
     let is : n ≡ r.epoch = sym p.1 ∙ first in
     let P : ℕ → Type 0 = λ k. HasEpoch v k e in
-    record { behind = is; own = subst P is p.2 }
+    record { following = is; own = subst P is p.2 }
 plain_epoch v epoch last n e more (Reset r) h b (inr p) = absurd (p.0 (sym b.kind))
 plain_epoch v epoch last n e more (Async x) h b p = other v epoch last n e more (Async x) h b p (λ k. cc k) refl refl
 plain_epoch v epoch last n e more (Iso x) h b p = other v epoch last n e more (Iso x) h b p (λ k. cc k) refl refl
@@ -123,7 +123,7 @@ is_first v s bytes e more n cycle epoch what fit ends is after w c latest own go
       goes_on = goes_on;
       cycle = refl;
       version = sym w.here;
-      epoch = b.behind;
+      epoch = b.following;
       within = ends.2;
       spells = complete_ok v s (take n bytes) e more (record { cycle = cycle; what = what }) (are_bytes_part bytes n 0 fit) is after w c b.own own;
     }
@@ -208,11 +208,11 @@ abbrev pub fed : ℕ → Timed → Result LogFed LogFault
 fed used t = Ok (record { used = used; entry = Some t; body = body t.what })
 
 -- the reader stands after it
-pub behind_passed : (r : State) (piece : List ℕ) (p : Passed) (entry : Timed) (e : EndsPassed r.stand r.taken piece p entry) (n start : ℕ) (stand : Position) (taken : List ℕ)
+pub after_passed : (r : State) (piece : List ℕ) (p : Passed) (entry : Timed) (e : EndsPassed r.stand r.taken piece p entry) (n start : ℕ) (stand : Position) (taken : List ℕ)
     (fault : Option LogFault) → n ≡ length r.taken → start ≡ r.stand.start
     → stand ≡ record { start = start + p.end; last = p.cycle; ended = false; version = p.version; epoch = p.epoch } → taken ≡ [] → fault ≡ None
     → Feeds r.stand r.taken piece (fed (p.end - n) entry) (record { stand = stand; taken = taken; fault = fault })
-behind_passed r piece p entry e n start stand taken fault same from stands none clear =
+after_passed r piece p entry e n start stand taken fault same from stands none clear =
     let P : ℕ → Type 0 = λ m. EndsEntry r.stand r.taken piece (p.end - m) entry in
     let cut : length (r.taken ++ take (p.end - n) piece) ≡ p.end = ap (λ (m : ℕ). length (r.taken ++ take (p.end - m) piece)) same ∙ e.size in
     let last : record { start = start + p.end; last = p.cycle; ended = false; version = p.version; epoch = p.epoch } ≡ (after r.stand (r.taken ++ take (p.end - n) piece) entry).stand =

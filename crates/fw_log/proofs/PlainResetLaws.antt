@@ -14,7 +14,7 @@ use Rattle.fw_log.specs.Bodies.{count_of, has_nodes}
 use Rattle.fw_log.specs.Plain.{next_by, GoesOnBy, AreIdsOf, are_of_nodes, IsReset}
 use Rattle.fw_log.specs.declared.plain_reset.Turn.{Turn}
 use Rattle.fw_log.proofs.ByteLaws.{are_bytes_part}
-use Rattle.fw_async.proofs.WholeLaws.{below}
+use Rattle.fw_async_fields.proofs.SoundLaws.{below}
 use Rattle.fw_log.proofs.TestLaws.{equal, equals, less, both}
 use Rattle.fw_log.proofs.ResetLaws.{second_back, body_back}
 

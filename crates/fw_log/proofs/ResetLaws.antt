@@ -99,8 +99,8 @@ four_fields : (a b c d a' b' c' d' : ℕ) → a < 256 → b < 256 → c < 256 �
     → packed ((8, a) ∷ (8, b) ∷ (8, c) ∷ (8, d) ∷ []) 0 ≡ packed ((8, a') ∷ (8, b') ∷ (8, c') ∷ (8, d') ∷ []) 0 → (a ≡ a') × (b ≡ b') × (c ≡ c') × (d ≡ d')
 four_fields a b c d a' b' c' d' p q r s p' q' r' s' e = (omega arith, omega arith, omega arith, omega arith)
 
-behind : (r : ResetEntry) → List ℕ
-behind r = quads (map node_quad r.nodes) ++ flat_map spelling r.ids
+following : (r : ResetEntry) → List ℕ
+following r = quads (map node_quad r.nodes) ++ flat_map spelling r.ids
 
 pub same_reset : (r s : ResetEntry) → ResetShape r → ResetShape s → body (Reset r) ≡ body (Reset s) → r ≡ s
 same_reset r s f g e =

@@ -35,13 +35,13 @@ halves a b c d p q e = (omega arith, omega arith)
 first_two : (a b c d : ℕ) → a < 256 → b < 256 → c < 256 → d < 256 → packed ((8, a) ∷ (8, b) ∷ (16, 0) ∷ []) 0 ≡ packed ((8, c) ∷ (8, d) ∷ (16, 0) ∷ []) 0 → (a ≡ c) × (b ≡ d)
 first_two a b c d p q r s e = (omega arith, omega arith)
 
-front : (q r : ℕ) (xs ys : List ℕ) → q < 2 ^ 32 → r < 2 ^ 32 → to_be_bytes w32 q ++ xs ≡ to_be_bytes w32 r ++ ys → q ≡ r
-front q r xs ys a b e = sym (back q xs a) ∙ ap (λ t. quadlet_at t 0) e ∙ back r ys b
+prefix : (q r : ℕ) (xs ys : List ℕ) → q < 2 ^ 32 → r < 2 ^ 32 → to_be_bytes w32 q ++ xs ≡ to_be_bytes w32 r ++ ys → q ≡ r
+prefix q r xs ys a b e = sym (back q xs a) ∙ ap (λ t. quadlet_at t 0) e ∙ back r ys b
 
 -- the tape and the system, which are 0 if they do not stand
 tape_of : (x y : Bool) (a b c d : ℕ) → x ≡ y → a < 2 ^ 16 → b < 2 ^ 16 → c < 2 ^ 16 → d < 2 ^ 16 → (x ≡ false → (a ≡ 0) × (b ≡ 0)) → (y ≡ false → (c ≡ 0) × (d ≡ 0))
     → quads (if x then packed ((16, a) ∷ (16, b) ∷ []) 0 ∷ [] else []) ≡ quads (if y then packed ((16, c) ∷ (16, d) ∷ []) 0 ∷ [] else []) → (a ≡ c) × (b ≡ d)
-tape_of true true a b c d e p q r s none never h = halves a b c d q s (front (packed ((16, a) ∷ (16, b) ∷ []) 0) (packed ((16, c) ∷ (16, d) ∷ []) 0) [] [] (omega arith) (omega arith) h)
+tape_of true true a b c d e p q r s none never h = halves a b c d q s (prefix (packed ((16, a) ∷ (16, b) ∷ []) 0) (packed ((16, c) ∷ (16, d) ∷ []) 0) [] [] (omega arith) (omega arith) h)
 tape_of true false a b c d e p q r s none never h = cc e
 tape_of false true a b c d e p q r s none never h = cc e
 tape_of false false a b c d e p q r s none never h = let m = none refl in let n = never refl in (m.0 ∙ sym n.0, m.1 ∙ sym n.1)
@@ -51,7 +51,7 @@ same_event e g f h same =
     let a = event_code e.code e.device e.tape e.system f.shape in
     let b = event_code g.code g.device g.tape g.system h.shape in
     let first : packed ((8, e.code) ∷ (8, e.device) ∷ (16, 0) ∷ []) 0 ≡ packed ((8, g.code) ∷ (8, g.device) ∷ (16, 0) ∷ []) 0 =
-    front _ _ _ _ (omega (arith, a, f.device)) (omega (arith, b, h.device)) same in
+    prefix _ _ _ _ (omega (arith, a, f.device)) (omega (arith, b, h.device)) same in
     let two = first_two e.code e.device g.code g.device a f.device b h.device first in
     let code : e.code ≡ g.code = two.0 in
     let device : e.device ≡ g.device = two.1 in
@@ -79,13 +79,13 @@ same_outcome : (o p : OutcomeEntry) → OutcomeFits o → OutcomeFits p → quad
 same_outcome o p f g same =
     let a = outcome_code o.code o.value f.shape in
     let b = outcome_code p.code p.value g.shape in
-    let first = front (packed ((8, o.code) ∷ (8, o.device) ∷ (8, o.slot) ∷ (8, 0) ∷ []) 0) (packed ((8, p.code) ∷ (8, p.device) ∷ (8, p.slot) ∷ (8, 0) ∷ []) 0) (quads (o.value ∷ []))
+    let first = prefix (packed ((8, o.code) ∷ (8, o.device) ∷ (8, o.slot) ∷ (8, 0) ∷ []) 0) (packed ((8, p.code) ∷ (8, p.device) ∷ (8, p.slot) ∷ (8, 0) ∷ []) 0) (quads (o.value ∷ []))
     (quads (p.value ∷ [])) (omega (arith, a, f.device, f.slot)) (omega (arith, b, g.device, g.slot)) same in
     let h = three_fields o.code o.device o.slot p.code p.device p.slot a f.device f.slot b g.device g.slot first in
     let code : o.code ≡ p.code = h.0 in
     let device : o.device ≡ p.device = h.1 in
     let slot : o.slot ≡ p.slot = h.2 in
-    let value : o.value ≡ p.value = front o.value p.value [] [] f.value g.value (ap (drop 4) same) in
+    let value : o.value ≡ p.value = prefix o.value p.value [] [] f.value g.value (ap (drop 4) same) in
     cc (outcome_is o, outcome_is p)
 
 shown : ℕ → ℕ → ℕ → ShownEntry
@@ -100,12 +100,12 @@ shown_fields a b c d p q r s e = (omega arith, omega arith)
 
 same_shown : (s t : ShownEntry) → ShownFits s → ShownFits t → quads (shown_quads s) ≡ quads (shown_quads t) → s ≡ t
 same_shown s t f g same =
-    let first = front (packed ((8, s.device) ∷ (8, 0) ∷ (16, s.offset) ∷ []) 0) (packed ((8, t.device) ∷ (8, 0) ∷ (16, t.offset) ∷ []) 0) (quads (s.word ∷ [])) (quads (t.word ∷ []))
+    let first = prefix (packed ((8, s.device) ∷ (8, 0) ∷ (16, s.offset) ∷ []) 0) (packed ((8, t.device) ∷ (8, 0) ∷ (16, t.offset) ∷ []) 0) (quads (s.word ∷ [])) (quads (t.word ∷ []))
     (omega (arith, f.device, f.offset)) (omega (arith, g.device, g.offset)) same in
     let h = shown_fields s.device s.offset t.device t.offset f.device (omega (arith, f.offset)) g.device (omega (arith, g.offset)) first in
     let device : s.device ≡ t.device = h.0 in
     let offset : s.offset ≡ t.offset = h.1 in
-    let word : s.word ≡ t.word = front s.word t.word [] [] f.word g.word (ap (drop 4) same) in
+    let word : s.word ≡ t.word = prefix s.word t.word [] [] f.word g.word (ap (drop 4) same) in
     cc (shown_is s, shown_is t)
 
 pub same_body : (e g : Entry) → Fits e → Fits g → kind_of e ≡ kind_of g → body e ≡ body g → e ≡ g
@@ -266,10 +266,10 @@ clear_by : (first : Bool) (v w : Version) (epoch start last : ℕ) (bytes : List
     → (if first then header_fault bytes (entry_fault (version_in bytes) epoch 16 last (drop 16 bytes)) else entry_fault w epoch start last bytes) ≡ None
 clear_by true v w epoch start last bytes t f later fits here e =
     let entry : List ℕ = entry_bytes v (epoch_after epoch t.what) t in
-    let behind : drop 16 bytes ≡ entry = ap (drop 16) (sym e) in
+    let following : drop 16 bytes ≡ entry = ap (drop 16) (sym e) in
     ap (λ b. header_fault b (entry_fault (version_in bytes) epoch 16 last (drop 16 bytes))) (sym e)
     ∙ header_clear v entry (entry_fault (version_in bytes) epoch 16 last (drop 16 bytes))
-    (ap (λ u. entry_fault u epoch 16 last (drop 16 bytes)) here ∙ ap (entry_fault v epoch 16 last) behind ∙ entry_clear v epoch 16 last t f later fits)
+    (ap (λ u. entry_fault u epoch 16 last (drop 16 bytes)) here ∙ ap (entry_fault v epoch 16 last) following ∙ entry_clear v epoch 16 last t f later fits)
 clear_by false v w epoch start last bytes t f later fits here e =
     ap (λ u. entry_fault u epoch start last bytes) here ∙ ap (entry_fault v epoch start last) (sym e) ∙ entry_clear v epoch start last t f later fits
 

@@ -5,9 +5,10 @@ use Rattle.std.proofs.Common.{replicate}
 use Rattle.std.proofs.Common.{IsTrue}
 use Rattle.std.proofs.lemmas.List.{length-map, length-replicate}
 use Rattle.fw_phy.specs.Phy.{spelling as phy_spelling}
-use Rattle.fw_async.specs.Async.{Parts, bytes_of, padded, padding, spelling, parts}
+use Rattle.fw_async.specs.Async.{Parts, bytes_of, padded, spelling, parts}
+use Rattle.fw_async_fields.specs.Data.{padding}
 use Rattle.fw_async.specs.Async as Async
-use Rattle.fw_async.proofs.NeedLaws.{need_least, need_most}
+use Rattle.fw_async_fields.proofs.NeedLaws.{need_least, need_most}
 use Rattle.fw_async.proofs.SpelledLaws.{spelled_none, spelled_need}
 use Rattle.fw_async.specs.declared.packet.Packet.{Packet}
 use Rattle.fw_cip.specs.Iso.{block_bytes, IsBlock}

@@ -132,22 +132,22 @@ need_head s bytes =
 pub need_least : (s : Position) (bytes : List ℕ) → skip s.start + 12 ≤ need s bytes
 need_least s bytes = let low = need_head s bytes in omega (arith, low)
 
-pub need_done : (s : Position) (front more : List ℕ) → length front ≡ need s front → need s (front ++ more) ≡ length front
-need_done s front more complete =
-    let v : Version = version_at s front in
-    let low = need_least s front in
-    let within : skip s.start ≤ length front = omega (arith, low, complete) in
-    let size : length (drop (skip s.start) front) ≡ entry_need v (drop (skip s.start) front) = omega (arith, complete, length-drop (skip s.start) front) in
-    let cut : drop (skip s.start) (front ++ more) ≡ drop (skip s.start) front ++ more = drop-append-le (skip s.start) front more within in
-    let le : length (drop (skip s.start) front) ≤ length (drop (skip s.start) front ++ more) = omega (arith, length-append (drop (skip s.start) front) more) in
-    let done : entry_need v (drop (skip s.start) front ++ more) ≡ length (drop (skip s.start) front) =
-    done_by (head_size v) (length (drop (skip s.start) front)) (length (drop (skip s.start) front ++ more)) (length_of (drop (skip s.start) front)) (length_of (drop (skip s.start) front ++ more))
-    (omega arith) size le (length_of-append (drop (skip s.start) front) more) in
-    ap (λ w. skip s.start + entry_need w (drop (skip s.start) (front ++ more))) (version_same s front more within)
-    ∙ ap (λ e. skip s.start + entry_need v e) cut ∙ omega (arith, done, within, length-drop (skip s.start) front)
+pub need_done : (s : Position) (prefix more : List ℕ) → length prefix ≡ need s prefix → need s (prefix ++ more) ≡ length prefix
+need_done s prefix more complete =
+    let v : Version = version_at s prefix in
+    let low = need_least s prefix in
+    let within : skip s.start ≤ length prefix = omega (arith, low, complete) in
+    let size : length (drop (skip s.start) prefix) ≡ entry_need v (drop (skip s.start) prefix) = omega (arith, complete, length-drop (skip s.start) prefix) in
+    let cut : drop (skip s.start) (prefix ++ more) ≡ drop (skip s.start) prefix ++ more = drop-append-le (skip s.start) prefix more within in
+    let le : length (drop (skip s.start) prefix) ≤ length (drop (skip s.start) prefix ++ more) = omega (arith, length-append (drop (skip s.start) prefix) more) in
+    let done : entry_need v (drop (skip s.start) prefix ++ more) ≡ length (drop (skip s.start) prefix) =
+    done_by (head_size v) (length (drop (skip s.start) prefix)) (length (drop (skip s.start) prefix ++ more)) (length_of (drop (skip s.start) prefix)) (length_of (drop (skip s.start) prefix ++ more))
+    (omega arith) size le (length_of-append (drop (skip s.start) prefix) more) in
+    ap (λ w. skip s.start + entry_need w (drop (skip s.start) (prefix ++ more))) (version_same s prefix more within)
+    ∙ ap (λ e. skip s.start + entry_need v e) cut ∙ omega (arith, done, within, length-drop (skip s.start) prefix)
 
 -- bytes that are pending have no prefix that is whole
-pub no_complete_front : {A : Type 0} (s : Position) (front more : List ℕ) → IsPending s (front ++ more) → length front ≡ need s front → A
-no_complete_front s front more pending complete =
-    let done = need_done s front more complete in
-    absurd (omega (arith, pending.not_complete, done, length-append front more))
+pub no_complete_prefix : {A : Type 0} (s : Position) (prefix more : List ℕ) → IsPending s (prefix ++ more) → length prefix ≡ need s prefix → A
+no_complete_prefix s prefix more pending complete =
+    let done = need_done s prefix more complete in
+    absurd (omega (arith, pending.not_complete, done, length-append prefix more))

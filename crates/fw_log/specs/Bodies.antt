@@ -7,7 +7,7 @@ use Rattle.fw_phy.specs.declared.packet.PhyPacket.{PhyPacket}
 use Rattle.fw_phy.specs.declared.PhyFault.{PhyFault}
 use Rattle.fw_async.specs.Reader as Packets
 use Rattle.fw_cip.specs.Iso.{iso_fault}
-use Rattle.fw_async.specs.declared.PacketFault.{PacketFault}
+use Rattle.fw_async_fields.specs.declared.PacketFault.{PacketFault}
 use Rattle.fw_async.specs.declared.packet.Packet.{Packet as AsyncPacket}
 use Rattle.fw_log_entry.specs.Log.{Fits, ResetFits, kind_of, body}
 use Rattle.fw_log_entry.specs.declared.codes.kind.TheConstants as Kinds

@@ -7,11 +7,15 @@ ghost use Rattle.fw_log.specs.Reader.{total, Remembers, Feeds, Counts, body_give
 ghost use Rattle.fw_log.specs.History.{HasRead, ReadsOn, Names};
 
 use crate::first::{at_hand, first_entry};
-use crate::{LogFault, LogFed, LogReader, Room};
+use crate::{LogFault, LogFed, LogReader, ReadBuffers};
 
 impl LogReader {
     // As `feed_fresh`, if no packet of a usual form is looked for.
-    fn feed_any<'a>(&mut self, piece: &'a [u8], room: &'a mut Room) -> Result<LogFed<'a>, LogFault>
+    fn feed_any<'a>(
+        &mut self,
+        piece: &'a [u8],
+        room: &'a mut ReadBuffers,
+    ) -> Result<LogFed<'a>, LogFault>
         requires fresh { self.old.fault ≡ None }
         requires pending { IsPending self.old.stand self.old.taken }
         requires room { self.old.stand.start + length self.old.taken + length piece.now < 2 ^ 64 }
@@ -23,13 +27,13 @@ impl LogReader {
         self.keep(found, piece)
     }
 
-    /// Takes bytes as `feed` does, in more instructions if a packet comes, and in fewer if another entry does or where the
+    /// Takes bytes as `feed` does, in more instructions if a packet comes, and in fewer if another entry does or if the
     /// piece has only a part of one: for those that take packets by `pass_body`. It is no part of the caller's loop.
     #[inline(never)]
     pub fn feed_apart<'a>(
         &mut self,
         piece: &'a [u8],
-        room: &'a mut Room,
+        room: &'a mut ReadBuffers,
     ) -> Result<LogFed<'a>, LogFault>
         requires { self.old.fault ≡ None → total self.old + length piece.now < 2 ^ 64 }
         ensures kept { IfSome self.old.fault (λ f. (result ≡ Err f) × (self.new ≡ self.old)) }

@@ -7,11 +7,13 @@ ghost use Rattle.fw_log_entry.specs.Log.{head_size};
 ghost use Rattle.fw_log.specs.Reader.{EntryJudges, Ends, Finds, Joins};
 ghost use Rattle.fw_log.specs.Passing.{BodyFirst, HeadFirst, IsPlainEpoch, PassesFirst};
 
-use crate::held::{Held, ROOM};
+use crate::held::{ROOM, SplitEntry};
+use crate::log_position::{
+    EPOCH_AT, LENGTH_END, LogPosition, cycle_of, need, rest, skip, version_at,
+};
 use crate::plain::{PlainBody, is_plain_body, plain_body};
 use crate::read_body::entry_of;
 use crate::read_head::{head_fault, whole_end};
-use crate::stand::{EPOCH_AT, LENGTH_END, Stand, cycle_of, need, rest, skip, version_at};
 use crate::{BodyFault, Entry, LogFault, LogWhy, ResetEntry, Timed, Version};
 use fw_async::{is_plain_packet, whole_packet};
 use fw_log_entry::codes::kind;
@@ -27,7 +29,7 @@ pub struct Found<'a> {
 }
 
 // Where the entry ends that the bytes begin with, none if they are a part of it, or a fault before its body.
-fn end_of(stand: Stand, bytes: &[u8]) -> Result<Option<usize>, LogFault>
+fn end_of(stand: LogPosition, bytes: &[u8]) -> Result<Option<usize>, LogFault>
     requires { (position stand).start + length bytes.now < 2 ^ 64 }
     ensures { Ends (position stand) bytes.now result }
 {
@@ -67,7 +69,7 @@ fn bad_body(place: u64, why: BodyFault) -> LogFault
 
 // The entry that the bytes are, or why its body is none.
 fn complete_entry<'a>(
-    stand: Stand,
+    stand: LogPosition,
     version: Version,
     bytes: &'a [u8],
     room: &'a mut ResetEntry,
@@ -95,7 +97,7 @@ fn complete_entry<'a>(
 
 /// The entry that the bytes begin with, none if they are a part of it, or the first fault.
 pub(crate) fn first_entry<'a>(
-    stand: Stand,
+    stand: LogPosition,
     bytes: &'a [u8],
     room: &'a mut ResetEntry,
 ) -> Result<Option<Found<'a>>, LogFault>
@@ -157,7 +159,7 @@ pub struct PlainHead<'a> {
 
 // The head of the entry that the bytes begin with, if the entry is whole and its head right at the first look.
 #[inline(always)]
-fn plain_head<'a>(stand: Stand, bytes: &'a [u8]) -> Option<PlainHead<'a>>
+fn plain_head<'a>(stand: LogPosition, bytes: &'a [u8]) -> Option<PlainHead<'a>>
     ensures { IfSome result (HeadFirst (position stand) bytes.now) }
 {
     let end = whole_end(stand, bytes)?;
@@ -180,7 +182,7 @@ fn plain_head<'a>(stand: Stand, bytes: &'a [u8]) -> Option<PlainHead<'a>>
 
 /// The packet that the bytes begin with, if it is whole and right at the first look, as nearly all are.
 #[inline(always)]
-pub(crate) fn plain_found<'a>(stand: Stand, bytes: &'a [u8]) -> Option<Found<'a>>
+pub(crate) fn plain_found<'a>(stand: LogPosition, bytes: &'a [u8]) -> Option<Found<'a>>
     ensures { IfSome result (λ found. Finds (position stand) bytes.now (Ok (Some found))) }
 {
     let PlainHead {
@@ -216,7 +218,7 @@ pub struct PlainEntry<'a> {
 
 /// The body of the entry that the bytes begin with, if that is a packet's or a bus reset's, whole and right at the first look.
 #[inline(always)]
-pub(crate) fn plain_bodied<'a>(stand: Stand, bytes: &'a [u8]) -> Option<PlainEntry<'a>>
+pub(crate) fn plain_bodied<'a>(stand: LogPosition, bytes: &'a [u8]) -> Option<PlainEntry<'a>>
     ensures { IfSome result (BodyFirst (position stand) bytes.now) }
 {
     let head = plain_head(stand, bytes)?;
@@ -228,7 +230,7 @@ pub(crate) fn plain_bodied<'a>(stand: Stand, bytes: &'a [u8]) -> Option<PlainEnt
 }
 
 /// The entry that the bytes begin with, if it is whole and right at the first look, and may be passed over.
-pub(crate) fn plain_entry(stand: Stand, bytes: &[u8]) -> Option<Passed>
+pub(crate) fn plain_entry(stand: LogPosition, bytes: &[u8]) -> Option<Passed>
     ensures { IfSome result (PassesFirst (position stand) bytes.now) }
 {
     let head = plain_head(stand, bytes)?;
@@ -239,10 +241,10 @@ pub(crate) fn plain_entry(stand: Stand, bytes: &[u8]) -> Option<Passed>
 }
 
 // How many bytes the entry takes, if its length was kept, or else how many there is room for.
-fn whole_size(stand: Stand, taken: &[u8]) -> usize
+fn whole_size(stand: LogPosition, taken: &[u8]) -> usize
     requires few { length taken.now ≤ 2308 }
     requires pending { IsPending (position stand) taken.now }
-    ensures front { length taken.now ≤ result }
+    ensures prefix { length taken.now ≤ result }
     ensures room { result ≤ 2308 }
     ensures known { (result ≡ 2308) ⊎ ((skip (position stand).start + 4 ≤ length taken.now) × (result ≡ need (position stand) taken.now)) }
 {
@@ -255,10 +257,10 @@ fn whole_size(stand: Stand, taken: &[u8]) -> usize
 /// The piece, if nothing was kept, or else what was kept and as much of the piece as the entry takes; as there is room for, if
 /// its length is not known yet.
 pub(crate) fn at_hand<'a>(
-    stand: Stand,
+    stand: LogPosition,
     taken: &[u8],
     piece: &'a [u8],
-    room: &'a mut Held,
+    room: &'a mut SplitEntry,
 ) -> &'a [u8]
     requires few { length taken.now ≤ 2308 }
     requires pending { IsPending (position stand) taken.now }

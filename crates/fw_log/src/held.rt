@@ -9,13 +9,13 @@ pub(crate) const ROOM: usize = 2308;
 
 /// At most as many bytes as a header and an entry have. To drop them touches none of them.
 #[derive(Drop)]
-pub struct Held {
+pub struct SplitEntry {
     bytes: [u8; ROOM],
     /// How many bytes are held.
     length: usize,
 }
 
-impl Model for Held {
+impl Model for SplitEntry {
     ghost use Rattle.std.specs.Prelude.{List, ℕ, ◌≤◌, take};
 
     ghost Value = { List ℕ };
@@ -25,12 +25,12 @@ impl Model for Held {
     ghost invariant = { λ h. h.length ≤ 2308 };
 }
 
-impl Held {
+impl SplitEntry {
     /// No bytes.
-    pub(crate) fn new() -> Held
+    pub(crate) fn new() -> SplitEntry
         ensures { result ≡ [] }
     {
-        Held {
+        SplitEntry {
             bytes: [0; ROOM],
             length: 0,
         }
@@ -54,14 +54,14 @@ impl Held {
     }
 
     /// Puts the bytes of two slices in place of what was there, at most so many.
-    pub(crate) fn join(&mut self, front: &[u8], back: &[u8], most: usize)
-        requires front { length front.now ≤ most }
+    pub(crate) fn join(&mut self, prefix: &[u8], back: &[u8], most: usize)
+        requires prefix { length prefix.now ≤ most }
         requires room { most ≤ 2308 }
-        ensures { self.new ≡ front.now ++ take (most - length front.now) back.now }
+        ensures { self.new ≡ prefix.now ++ take (most - length prefix.now) back.now }
     {
         self.clear();
-        self.append(front);
-        let room = most - front.len();
+        self.append(prefix);
+        let room = most - prefix.len();
         self.append(if back.len() < room {
             back
         } else {

@@ -6,6 +6,7 @@ mod apart;
 mod first;
 mod held;
 pub mod laws;
+mod log_position;
 mod passing;
 mod plain;
 mod plain_reset;
@@ -14,7 +15,6 @@ mod read_body;
 mod read_head;
 mod read_reset;
 mod room;
-mod stand;
 mod version;
 
 pub use first::{Passed, PlainEntry};
@@ -29,7 +29,7 @@ pub use passing::PassedBody;
 pub use plain::PlainBody;
 pub use read::{LogFed, LogReader};
 pub use read_reset::{count_of, read_fields};
-pub use room::Room;
+pub use room::ReadBuffers;
 
 /// Why the bytes of a body are no body of an entry of the kind that is in its head.
 #[derive(Clone, Copy, PartialEq, Eq)]

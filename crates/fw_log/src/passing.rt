@@ -11,10 +11,10 @@ ghost use Rattle.fw_log.specs.Passing.{CountsUp, HasBody, PassesBody, PassesOn};
 ghost use Rattle.fw_log.specs.declared.plain.PlainBody.{PlainBody};
 
 use crate::first::{Passed, PlainEntry, at_hand, plain_bodied, plain_entry};
+use crate::log_position::LogPosition;
 use crate::plain::PlainBody;
 use crate::read::LogReader;
-use crate::stand::Stand;
-use crate::{Room, Version};
+use crate::{ReadBuffers, Version};
 use fw_log_entry::codes::kind;
 use std::num::NonZero;
 
@@ -30,14 +30,14 @@ pub struct PassedBody<'a> {
 }
 
 // Where a reader stands after an entry that ends at this place and is not the end.
-fn going_on(place: u64, last: u64, version: Version, epoch: u32) -> Stand
+fn going_on(place: u64, last: u64, version: Version, epoch: u32) -> LogPosition
     requires { 0 < place }
     ensures { position result ≡ record { start = place; last = last; ended = false; version = version; epoch = epoch } }
 {
     let Some(past) = NonZero::<u64>::new(place) else {
         unreachable!()
     };
-    Stand::Entries {
+    LogPosition::Entries {
         past,
         last,
         version,
@@ -59,7 +59,7 @@ impl LogReader {
     /// Takes bytes up to the end of one entry, as `feed` does, and answers how many, if the entry is right at the first look
     /// and is neither an isochronous packet nor the end. It is judged and not given: a report of the streams has no use for it.
     /// If it takes none, `feed` says what comes.
-    pub fn pass(&mut self, piece: &[u8], room: &mut Room) -> Option<usize>
+    pub fn take_raw(&mut self, piece: &[u8], room: &mut ReadBuffers) -> Option<usize>
         requires { self.old.fault ≡ None → total self.old + length piece.now < 2 ^ 64 }
         ensures kept { IfNone result (self.new ≡ self.old) }
         ensures fresh { IfSome result (λ n. self.new.fault ≡ None) }
@@ -86,7 +86,11 @@ impl LogReader {
     /// The entry that comes next, if it is a packet or a bus reset of a usual form, whole in the piece, or in what was kept and the
     /// piece. It is not taken: `go_past` takes it.
     #[inline(always)]
-    pub fn next_body<'a>(&self, piece: &'a [u8], room: &'a mut Room) -> Option<PlainEntry<'a>>
+    pub fn next_body<'a>(
+        &self,
+        piece: &'a [u8],
+        room: &'a mut ReadBuffers,
+    ) -> Option<PlainEntry<'a>>
         ensures { IfSome result (IsNext self.now piece.now) }
     {
         if self.fault.is_some() {
@@ -116,7 +120,11 @@ impl LogReader {
 
     /// As `pass`, of packets and bus resets: the body is given, and no entry is made of it.
     #[inline(always)]
-    pub fn pass_body<'a>(&mut self, piece: &'a [u8], room: &'a mut Room) -> Option<PassedBody<'a>>
+    pub fn pass_body<'a>(
+        &mut self,
+        piece: &'a [u8],
+        room: &'a mut ReadBuffers,
+    ) -> Option<PassedBody<'a>>
         requires { self.old.fault ≡ None → total self.old + length piece.now < 2 ^ 64 }
         ensures kept { IfNone result (self.new ≡ self.old) }
         ensures fresh { IfSome result (λ p. self.new.fault ≡ None) }

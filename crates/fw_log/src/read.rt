@@ -15,10 +15,10 @@ ghost use Rattle.fw_log.specs.declared.LogFault.{LogFault};
 ghost use Rattle.fw_log_entry.specs.declared.entry.Timed.{Timed};
 
 use crate::first::{Found, at_hand, first_entry, plain_found};
-use crate::held::Held;
-use crate::stand::{Stand, skip};
+use crate::held::SplitEntry;
+use crate::log_position::{LogPosition, skip};
 use crate::version::{remember, version_read};
-use crate::{Entry, LogFault, LogWhy, ResetEntry, Room, Timed, Version};
+use crate::{Entry, LogFault, LogWhy, ReadBuffers, ResetEntry, Timed, Version};
 use fw_log_entry::epoch_after;
 use fw_words::Data;
 use std::alloc::{AllocError, Global};
@@ -37,7 +37,7 @@ pub struct LogFed<'a> {
 }
 
 // Where a reader stands after an entry that ends at this place, if this is the epoch of the latest bus reset before it.
-fn behind(place: u64, version: Version, epoch: u32, entry: &Timed) -> Stand
+fn position_after(place: u64, version: Version, epoch: u32, entry: &Timed) -> LogPosition
     requires { 0 < place }
     ensures { position result ≡ record { start = place; last = entry.now.cycle; ended = is_end entry.now.what; version = version; epoch = epoch_after epoch entry.now.what } }
 {
@@ -46,13 +46,13 @@ fn behind(place: u64, version: Version, epoch: u32, entry: &Timed) -> Stand
     };
     let last = entry.cycle;
     match entry.what {
-        Entry::End => Stand::Ended {
+        Entry::End => LogPosition::Ended {
             past,
             last,
             version,
             epoch,
         },
-        _ => Stand::Entries {
+        _ => LogPosition::Entries {
             past,
             last,
             version,
@@ -64,8 +64,8 @@ fn behind(place: u64, version: Version, epoch: u32, entry: &Timed) -> Stand
 /// Reads the entries of a log from bytes that come in any pieces.
 #[derive(Drop)]
 pub struct LogReader {
-    pub(crate) taken: Box<Held>,
-    pub(crate) stand: Stand,
+    pub(crate) taken: Box<SplitEntry>,
+    pub(crate) stand: LogPosition,
     pub(crate) fault: Option<LogFault>,
 }
 
@@ -87,8 +87,8 @@ impl LogReader {
         ensures begins { IfOk result (HasRead [] []) }
     {
         Ok(LogReader {
-            taken: Box::new(alloc, Held::new())?,
-            stand: Stand::Header,
+            taken: Box::new(alloc, SplitEntry::new())?,
+            stand: LogPosition::Header,
             fault: None,
         })
     }
@@ -130,7 +130,7 @@ impl LogReader {
                 } = found;
                 let used = end - self.taken.as_slice().len();
                 let place = self.stand.start() + end as u64;
-                self.stand = behind(place, version, self.stand.epoch(), &entry);
+                self.stand = position_after(place, version, self.stand.epoch(), &entry);
                 self.taken.clear();
                 Ok(LogFed {
                     used,
@@ -166,7 +166,7 @@ impl LogReader {
     fn feed_fresh<'a>(
         &mut self,
         piece: &'a [u8],
-        room: &'a mut Room,
+        room: &'a mut ReadBuffers,
     ) -> Result<LogFed<'a>, LogFault>
         requires fresh { self.old.fault ≡ None }
         requires pending { IsPending self.old.stand self.old.taken }
@@ -187,7 +187,11 @@ impl LogReader {
     /// no log begins with the bytes up to there. After a fault each call answers that fault. The entry refers to the
     /// piece and to the room.
     #[inline(always)]
-    pub fn feed<'a>(&mut self, piece: &'a [u8], room: &'a mut Room) -> Result<LogFed<'a>, LogFault>
+    pub fn feed<'a>(
+        &mut self,
+        piece: &'a [u8],
+        room: &'a mut ReadBuffers,
+    ) -> Result<LogFed<'a>, LogFault>
         requires { self.old.fault ≡ None → total self.old + length piece.now < 2 ^ 64 }
         ensures kept { IfSome self.old.fault (λ f. (result ≡ Err f) × (self.new ≡ self.old)) }
         ensures fresh { IfNone self.old.fault (Feeds self.old.stand self.old.taken piece.now result self.new) }
@@ -220,8 +224,10 @@ impl LogReader {
         ensures { result ≡ known self.now }
     {
         match self.stand {
-            Stand::Header => version_read(self.taken.as_slice()),
-            Stand::Entries { version, .. } | Stand::Ended { version, .. } => Some(version),
+            LogPosition::Header => version_read(self.taken.as_slice()),
+            LogPosition::Entries { version, .. } | LogPosition::Ended { version, .. } => Some(
+                version,
+            ),
         }
     }
 
@@ -238,7 +244,7 @@ impl LogReader {
         requires { self.now.fault ≡ None → total self.now < 2 ^ 64 }
         ensures { result ≡ finish_of self.now }
     {
-        if self.fault.is_some() || matches!(self.stand, Stand::Ended { .. }) {
+        if self.fault.is_some() || matches!(self.stand, LogPosition::Ended { .. }) {
             return self.fault;
         }
         let why = if self.taken.as_slice().len() == skip(self.stand) {

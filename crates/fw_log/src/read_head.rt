@@ -8,9 +8,9 @@ ghost use Rattle.fw_log_entry.specs.Log.{head_size};
 ghost use Rattle.fw_log_entry.specs.declared.version.Version.TheVariants.{Two};
 ghost use Rattle.fw_log.specs.Reader.{Ends};
 
-use crate::stand::{
-    CYCLE, EPOCH_AT, EPOCH_END, HEADER_SIZE, LENGTH_AT, LENGTH_END, Stand, cycle_of, length_of,
-    rest, version_at,
+use crate::log_position::{
+    CYCLE, EPOCH_AT, EPOCH_END, HEADER_SIZE, LENGTH_AT, LENGTH_END, LogPosition, cycle_of,
+    length_of, rest, version_at,
 };
 use crate::{LogFault, LogWhy, Version};
 use fw_log_entry::codes;
@@ -189,10 +189,10 @@ fn after_end(place: u64, bytes: &[u8]) -> Option<LogFault>
 /// Where the entry ends that the bytes begin with, after others, if all of it is there and the parts before its body are
 /// right.
 #[inline(always)]
-pub(crate) fn whole_end(stand: Stand, bytes: &[u8]) -> Option<usize>
+pub(crate) fn whole_end(stand: LogPosition, bytes: &[u8]) -> Option<usize>
     ensures { IfSome result (λ n. Ends (position stand) bytes.now (Ok (Some n))) }
 {
-    let Stand::Entries {
+    let LogPosition::Entries {
         last,
         version,
         epoch,
@@ -217,12 +217,12 @@ pub(crate) fn whole_end(stand: Stand, bytes: &[u8]) -> Option<usize>
 }
 
 // The first fault that the parts before the body show.
-pub(crate) fn head_fault(stand: Stand, bytes: &[u8]) -> Option<LogFault>
+pub(crate) fn head_fault(stand: LogPosition, bytes: &[u8]) -> Option<LogFault>
     requires { (position stand).start + length bytes.now < 2 ^ 64 }
     ensures { result ≡ head_fault (position stand) bytes.now }
 {
     match stand {
-        Stand::Header => match header_fault(bytes) {
+        LogPosition::Header => match header_fault(bytes) {
             Some(fault) => Some(fault),
             None => entry_fault(
                 version_at(stand, bytes),
@@ -232,12 +232,12 @@ pub(crate) fn head_fault(stand: Stand, bytes: &[u8]) -> Option<LogFault>
                 rest(bytes, HEADER_SIZE),
             ),
         },
-        Stand::Entries {
+        LogPosition::Entries {
             past,
             last,
             version,
             epoch,
         } => { entry_fault(version, epoch, past.get(), last, bytes) }
-        Stand::Ended { past, .. } => after_end(past.get(), bytes),
+        LogPosition::Ended { past, .. } => after_end(past.get(), bytes),
     }
 }

@@ -1,20 +1,20 @@
-use crate::held::Held;
+use crate::held::SplitEntry;
 use crate::{NodeList, ResetEntry};
 use fw_phy::SelfIds;
 use std::alloc::{AllocError, Global};
 
 /// Memory for what an entry refers to that a reader gives: a reset, and the bytes of an entry that came in pieces.
 #[derive(Drop)]
-pub struct Room {
-    pub(crate) bytes: Box<Held>,
+pub struct ReadBuffers {
+    pub(crate) bytes: Box<SplitEntry>,
     pub(crate) reset: Box<ResetEntry>,
 }
 
-impl Room {
+impl ReadBuffers {
     /// Room for one entry.
-    pub fn new(alloc: Global) -> Result<Room, AllocError> {
-        Ok(Room {
-            bytes: Box::new(alloc, Held::new())?,
+    pub fn new(alloc: Global) -> Result<ReadBuffers, AllocError> {
+        Ok(ReadBuffers {
+            bytes: Box::new(alloc, SplitEntry::new())?,
             reset: Box::new(alloc, no_reset())?,
         })
     }

@@ -5,8 +5,8 @@ ghost use Rattle.fw_log.specs.Stands.{position};
 ghost use Rattle.fw_log.specs.Reader.{version_read, Keeps};
 
 use crate::Version;
-use crate::held::Held;
-use crate::stand::Stand;
+use crate::held::SplitEntry;
+use crate::log_position::LogPosition;
 use fw_log_entry::codes::LOG_MAGIC;
 use fw_words::quadlet_at;
 
@@ -25,11 +25,11 @@ pub(crate) fn version_read(bytes: &[u8]) -> Option<Version>
 }
 
 /// Takes as many bytes of a header as name its version, as far as they are there.
-pub(crate) fn remember(taken: &mut Held, stand: Stand, piece: &[u8])
+pub(crate) fn remember(taken: &mut SplitEntry, stand: LogPosition, piece: &[u8])
     ensures { Keeps (position stand).start taken.old piece.now taken.new }
 {
     let count = taken.as_slice().len();
-    if matches!(stand, Stand::Header) && count < VERSION_END {
+    if matches!(stand, LogPosition::Header) && count < VERSION_END {
         let more = (VERSION_END - count).min(piece.len());
         taken.append(&piece[..more]);
     }

@@ -13,11 +13,11 @@ use Rattle.fw_log_entry.proofs.RowLaws.{all_below, rest_below}
 other_code : (n m code : ℕ) (b : Bool) → (nat_lt n m && b) ≡ true → m ≤ code → (n == code) ≡ false
 other_code n m code b e h = grind (arith, nat_tests)
 
-none_behind : {F : Type 0} (m : ℕ) (rows : List (ℕ × F)) (code : ℕ) → all_below m rows ≡ true → m ≤ code → find (λ (r : ℕ × F). r.0 == code) rows ≡ None
-none_behind m [] code e h = refl
-none_behind {F} m (r ∷ rows) code e h =
+none_following : {F : Type 0} (m : ℕ) (rows : List (ℕ × F)) (code : ℕ) → all_below m rows ≡ true → m ≤ code → find (λ (r : ℕ × F). r.0 == code) rows ≡ None
+none_following m [] code e h = refl
+none_following {F} m (r ∷ rows) code e h =
     let Found : Bool → Type 0 = λ b. (if b then Some r else find (λ (x : ℕ × F). x.0 == code) rows) ≡ None in
-    subst Found (sym (other_code r.0 m code (all_below m rows) e h)) (none_behind m rows code (rest_below (nat_lt r.0 m) (all_below m rows) e) h)
+    subst Found (sym (other_code r.0 m code (all_below m rows) e h)) (none_following m rows code (rest_below (nat_lt r.0 m) (all_below m rows) e) h)
 
 -- a code above the highest is not listed
 unlisted : (low high code : ℕ) (a b : Bool) → high < code → (nat_le low code && nat_le code high && a && b) ≡ false
@@ -30,10 +30,10 @@ other_than : (n code : ℕ) → n < code → (code == n) ≡ false
 other_than n code h = grind (arith, nat_tests)
 
 no_event : (n : ℕ) → find (λ (r : ℕ × EventForm). r.0 == (suc (suc (suc (suc (suc (suc (suc (suc (suc (suc (suc (suc n))))))))))))) EVENTS ≡ None
-no_event n = none_behind 12 EVENTS (suc (suc (suc (suc (suc (suc (suc (suc (suc (suc (suc (suc n)))))))))))) refl (omega arith)
+no_event n = none_following 12 EVENTS (suc (suc (suc (suc (suc (suc (suc (suc (suc (suc (suc (suc n)))))))))))) refl (omega arith)
 
 no_outcome : (n : ℕ) → find (λ (r : ℕ × OutcomeForm). r.0 == (suc (suc (suc (suc (suc (suc (suc (suc (suc (suc (suc (suc (suc n)))))))))))))) OUTCOMES ≡ None
-no_outcome n = none_behind 13 OUTCOMES (suc (suc (suc (suc (suc (suc (suc (suc (suc (suc (suc (suc (suc n))))))))))))) refl (omega arith)
+no_outcome n = none_following 13 OUTCOMES (suc (suc (suc (suc (suc (suc (suc (suc (suc (suc (suc (suc (suc n))))))))))))) refl (omega arith)
 
 pub events_are_listed : EventsAreListed
 events_are_listed zero device tape system = refl

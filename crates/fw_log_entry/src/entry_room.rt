@@ -87,7 +87,7 @@ impl EntryBytes {
         ensures same { OnOk result (K.faults sink.new ≡ K.faults sink.old) }
     {
         if self.length <= ROW {
-            return sink.write_front(row_of(&self.bytes), self.length);
+            return sink.write_prefix(row_of(&self.bytes), self.length);
         }
         sink.write(self.as_slice())
     }

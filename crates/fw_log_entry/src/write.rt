@@ -162,9 +162,9 @@ pub fn write_async<K: Sink>(
     let count = packet.as_slice().len();
     let head = long_head(kind::ASYNC, (count / 4) as u16, epoch, cycle);
     if count <= SHORT {
-        return sink.write_front(packet.row_behind(head), HEAD + count);
+        return sink.write_prefix(packet.row_following(head), HEAD + count);
     }
-    sink.write(packet.behind(head))
+    sink.write(packet.following_bytes(head))
 }
 
 /// The bytes of the body of an entry, in the room.

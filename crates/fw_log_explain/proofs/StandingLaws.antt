@@ -1,4 +1,4 @@
--- The requests that stand, and the lines, after one entry more.
+-- The outstanding requests, and the lines, after one entry more.
 use Rattle.std.proofs.Common.{◌≡◌, refl, ap, sym, ◌∙◌, ℕ, List, [], ◌∷◌, ◌++◌, append_assoc}
 use Rattle.fw_log_entry.specs.declared.entry.Timed.{Timed}
 use Rattle.fw_log_requests.specs.declared.asked.Asked.{Asked}
@@ -15,11 +15,11 @@ standing_more before t = from_more [] before t
 
 -- the lines of entries are those of the first ones, and of the others after these
 pub explained_more : (before more rest : List Timed) → explained before (more ++ rest) ≡ explained before more ++ explained (before ++ more) rest
-explained_more before [] rest = ap (λ (b : List Timed). explained b rest) (sym (nothing_behind before))
+explained_more before [] rest = ap (λ (b : List Timed). explained b rest) (sym (nothing_after before))
   where
-    nothing_behind : (xs : List Timed) → xs ++ [] ≡ xs
-    nothing_behind [] = refl
-    nothing_behind (x ∷ xs) = ap (λ ys. x ∷ ys) (nothing_behind xs)
+    nothing_after : (xs : List Timed) → xs ++ [] ≡ xs
+    nothing_after [] = refl
+    nothing_after (x ∷ xs) = ap (λ ys. x ∷ ys) (nothing_after xs)
 explained_more before (t ∷ more) rest =
     let first : List ℕ = line (standing before) t in
     ap (λ (x : List ℕ). first ++ x) (explained_more (before ++ t ∷ []) more rest

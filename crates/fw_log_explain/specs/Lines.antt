@@ -1,4 +1,4 @@
--- The line of an entry in words (own): its cycle, and what it records, by the requests that stand before it.
+-- The line of an entry in words (own): its cycle, and what it records, by the outstanding requests before it.
 use Rattle.std.specs.Prelude.{ℕ, ◌+◌, ◌%◌, ◌^◌, ◌==◌, ◌&&◌, ◌||◌, Bool, true, false, List, [], ◌∷◌, ◌++◌, length, codes, decimal, Option, Some, None, if◌then◌else◌}
 use Rattle.std.specs.Option.{is_some}
 use Rattle.std.specs.Int.{to_be_bytes, w32}
@@ -24,10 +24,10 @@ use Rattle.fw_log_entry.specs.Rows.{event_form, has_tape}
 use Rattle.fw_log_entry.specs.declared.codes.TheConstants.{NO_DEVICE}
 use Rattle.fw_log_entry.specs.declared.codes.outcome.TheConstants as Outcomes
 use Rattle.fw_log_names.specs.Names.{tcode_name, rcode_name, function_name, system_name, format_name, event_name, event_saying, outcome_name, node_text}
-use Rattle.fw_log_registers.specs.declared.register.Register.TheVariants.{FcpCommand, FcpResponse}
-use Rattle.fw_log_registers.specs.declared.place.Place.{Place}
-use Rattle.fw_log_registers.specs.declared.place.Place.TheVariants.{Named}
-use Rattle.fw_log_registers.specs.declared.told.Told.TheVariants.{Word as TheWord, Swap as TheSwap}
+use Rattle.fw_log_registers.specs.declared.register.NamedRegister.TheVariants.{FcpCommand, FcpResponse}
+use Rattle.fw_log_registers.specs.declared.place.RegisterPlace.{RegisterPlace}
+use Rattle.fw_log_registers.specs.declared.place.RegisterPlace.TheVariants.{Named}
+use Rattle.fw_log_registers.specs.declared.told.RegisterValue.TheVariants.{Word as TheWord, Swap as TheSwap}
 use Rattle.fw_log_registers.specs.Places.{place_of}
 use Rattle.fw_log_registers.specs.Words.{place_text, told_text, word_text}
 use Rattle.fw_log_frames.specs.Frames.{frame_text}
@@ -37,7 +37,7 @@ use Rattle.fw_log_requests.specs.Requests.{answered}
 use Rattle.fw_log_explain.specs.Resets.{reset_text}
 
 -- frames are written there
-unfoldable pub takes_frames : Place → Bool
+unfoldable pub takes_frames : RegisterPlace → Bool
 takes_frames (Named FcpCommand index) = true
 takes_frames (Named FcpResponse index) = true
 takes_frames _ = false
@@ -47,15 +47,15 @@ unfoldable pub block_text : List ℕ → List ℕ
 block_text bytes = codes " data_length " ++ decimal (length bytes) ++ blank_hex bytes
 
 -- the quadlet that a quadlet write carries to a place
-unfoldable pub written_quadlet : Place → ℕ → List ℕ
+unfoldable pub written_quadlet : RegisterPlace → ℕ → List ℕ
 written_quadlet place value = if takes_frames place then frame_text (to_be_bytes w32 value) else word_text place value
 
 -- the bytes that a block write carries to a place
-unfoldable pub written_block : Place → List ℕ → List ℕ
+unfoldable pub written_block : RegisterPlace → List ℕ → List ℕ
 written_block place bytes = if takes_frames place then frame_text bytes else block_text bytes
 
 -- where a request is
-unfoldable pub at_text : Place → List ℕ
+unfoldable pub at_text : RegisterPlace → List ℕ
 at_text place = codes " " ++ place_text place
 
 -- a lock's function
@@ -63,11 +63,11 @@ unfoldable pub function_text : ℕ → List ℕ
 function_text function = codes " " ++ named (function_name function) (codes "extended_tcode") function
 
 -- the two words of a swap, and what it changes
-unfoldable pub swap_text : Place → Swap → List ℕ
+unfoldable pub swap_text : RegisterPlace → Swap → List ℕ
 swap_text place s = quadlet_text s.argument ++ codes " to" ++ quadlet_text s.new ++ told_text (TheSwap s.argument s.new) place
 
 -- a lock request: of a quadlet compare_swap its two words and what it changes, of another its quadlets
-unfoldable pub lock_text : Place → ℕ → List ℕ → Option Swap → List ℕ
+unfoldable pub lock_text : RegisterPlace → ℕ → List ℕ → Option Swap → List ℕ
 lock_text place function bytes None = function_text function ++ at_text place ++ quadlets_text bytes
 lock_text place function bytes (Some s) = function_text function ++ at_text place ++ swap_text place s
 
@@ -80,7 +80,7 @@ unfoldable pub asked_text : Option Asked → List ℕ
 asked_text None = []
 asked_text (Some q) = at_text (place_of q.offset)
 
--- no request that stands is answered
+-- no outstanding request is answered
 unfoldable pub unasked_text : Option Asked → List ℕ
 unasked_text None = codes ", no request stands"
 unasked_text (Some q) = []
@@ -99,16 +99,16 @@ read_text None value = quadlet_text value
 read_text (Some q) value = word_text (place_of q.offset) value
 
 -- what a quadlet compare_swap did that found this word: it was made if the word is its argument
-unfoldable pub made_text : Place → Swap → ℕ → List ℕ
+unfoldable pub made_text : RegisterPlace → Swap → ℕ → List ℕ
 made_text place s old =
     if old == s.argument then codes ", swap made" ++ told_text (TheSwap s.argument s.new) place else codes ", no swap" ++ told_text (TheWord old) place
 
 -- the word that a swap found, and what it did
-unfoldable pub swapped_text : Place → Swap → ℕ → List ℕ
+unfoldable pub swapped_text : RegisterPlace → Swap → ℕ → List ℕ
 swapped_text place s old = quadlet_text old ++ made_text place s old
 
 -- what a lock brings of a quadlet compare_swap, or of another lock: the old value
-unfoldable pub found_text : Place → Option Swap → ℕ → List ℕ → List ℕ
+unfoldable pub found_text : RegisterPlace → Option Swap → ℕ → List ℕ → List ℕ
 found_text place None function bytes = quadlets_text bytes
 found_text place (Some s) function bytes =
     if (function == COMPARE_SWAP) && (length bytes == 4) then swapped_text place s (quadlet_at bytes 0) else quadlets_text bytes
@@ -123,7 +123,7 @@ unfoldable pub locked_text : Option Asked → ℕ → ℕ → List ℕ → List 
 locked_text q rcode function bytes =
     rcode_text rcode ++ function_text function ++ asked_text q ++ complete_text rcode (old_text q function bytes) ++ unasked_text q
 
--- what stands after the name of a response, by the requests that stand before it
+-- what stands after the name of a response, by the outstanding requests before it
 unfoldable pub response_details : List Asked → Packet → List ℕ
 response_details list (WriteReply h rcode) = response_text (answered WriteResponse h list) rcode []
 response_details list (ReadQuadletReply h rcode value) = response_text (answered ReadQuadletResponse h list) rcode (read_text (answered ReadQuadletResponse h list) value)
@@ -131,7 +131,7 @@ response_details list (ReadBlockReply h rcode bytes) = response_text (answered R
 response_details list (LockReply h rcode function bytes) = locked_text (answered LockResponse h list) rcode function bytes
 response_details list _ = []
 
--- what stands after the name of a packet, by the requests that stand before it
+-- what stands after the name of a packet, by the outstanding requests before it
 unfoldable pub details : List Asked → Packet → List ℕ
 details list (WriteQuadlet h offset value) = at_text (place_of offset) ++ written_quadlet (place_of offset) value
 details list (WriteBlock h offset bytes) = at_text (place_of offset) ++ written_block (place_of offset) bytes
@@ -209,7 +209,7 @@ unfoldable pub outcome_text : OutcomeEntry → List ℕ
 outcome_text o = ended_text o.code ++ slot_text o.device o.slot ++ value_text o.code o.value
 
 -- where a shown word stands, by its offset from FFFF F000 0000 on
-abbrev pub shown_place : ShownEntry → Place
+abbrev pub shown_place : ShownEntry → RegisterPlace
 shown_place s = place_of (REGISTER_SPACE + s.offset)
 
 -- the device that shows a word

@@ -3,7 +3,7 @@ use Rattle.std.specs.Prelude.{ℕ, List, ◌++◌, codes}
 use Rattle.std.specs.Int.{to_be_bytes, w32}
 use Rattle.fw_words.specs.declared.swap.Swap.{Swap as ASwap}
 use Rattle.fw_words.specs.declared.swap.TheConstants.{COMPARE_SWAP}
-use Rattle.fw_log_registers.specs.declared.place.Place.{Place}
+use Rattle.fw_log_registers.specs.declared.place.RegisterPlace.{RegisterPlace}
 use Rattle.fw_log_registers.specs.Places.{place_of}
 use Rattle.fw_log_registers.specs.Words.{word_text}
 use Rattle.fw_log_explain.specs.Lines.{at_text, function_text, rcode_text, swap_text, swapped_text, written_quadlet, written_block}
@@ -12,35 +12,35 @@ use Rattle.fw_log_explain.specs.declared.tail.TailWords.{TailWords}
 use Rattle.fw_log_explain.specs.declared.tail.TailWords.TheVariants.{Read, Value, NoValue, Swap, Old, Write, WritePair, Written}
 
 -- a read
-unfoldable pub reading_text : Place → List ℕ
+unfoldable pub reading_text : RegisterPlace → List ℕ
 reading_text place = codes " read_quadlet_request" ++ at_text place
 
 -- what a read brings
-unfoldable pub brought_text : Place → ℕ → List ℕ
+unfoldable pub brought_text : RegisterPlace → ℕ → List ℕ
 brought_text place value = codes " read_quadlet_response" ++ rcode_text 0 ++ at_text place ++ word_text place value
 
 -- a compare_swap
-unfoldable pub change_text : Place → ASwap → List ℕ
+unfoldable pub change_text : RegisterPlace → ASwap → List ℕ
 change_text place s = codes " lock_request" ++ function_text COMPARE_SWAP ++ at_text place ++ swap_text place s
 
 -- what a compare_swap found, and did
-unfoldable pub changed_text : Place → ASwap → ℕ → List ℕ
+unfoldable pub changed_text : RegisterPlace → ASwap → ℕ → List ℕ
 changed_text place s old = codes " lock_response" ++ rcode_text 0 ++ function_text COMPARE_SWAP ++ at_text place ++ swapped_text place s old
 
 -- that a read brings nothing
-unfoldable pub failed_text : Place → ℕ → List ℕ
+unfoldable pub failed_text : RegisterPlace → ℕ → List ℕ
 failed_text place rcode = codes " read_quadlet_response" ++ rcode_text rcode ++ at_text place
 
 -- a write of a quadlet
-unfoldable pub write_text : Place → ℕ → List ℕ
+unfoldable pub write_text : RegisterPlace → ℕ → List ℕ
 write_text place value = codes " write_quadlet_request" ++ (at_text place ++ written_quadlet place value)
 
 -- a write of a block of two quadlets
-unfoldable pub pair_text : Place → ℕ → ℕ → List ℕ
+unfoldable pub pair_text : RegisterPlace → ℕ → ℕ → List ℕ
 pair_text place first second = codes " write_block_request" ++ (at_text place ++ written_block place (to_be_bytes w32 first ++ to_be_bytes w32 second))
 
 -- the response to a write
-unfoldable pub written_text : Place → ℕ → List ℕ
+unfoldable pub written_text : RegisterPlace → ℕ → List ℕ
 written_text place rcode = codes " write_response" ++ rcode_text rcode ++ at_text place
 
 -- by the offset of the request

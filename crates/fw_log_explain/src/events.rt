@@ -15,7 +15,7 @@ use fw_log_names::{
     Pairs, event_name, event_saying, format_name, outcome_name, put_hex4, put_hex6, put_word,
     system_name,
 };
-use fw_log_registers::{Place, put_register_word};
+use fw_log_registers::{RegisterPlace, put_register_word};
 use std::alloc::AllocError;
 
 // Appends the format of an isochronous packet with its time stamp, or FMT and FDF.
@@ -203,10 +203,10 @@ fn put_shown_device(text: &mut Vec<u8>, device: u8) -> Result<(), AllocError>
 }
 
 // What stands where a word is shown.
-fn shown_place(s: &ShownEntry) -> Place
+fn shown_place(s: &ShownEntry) -> RegisterPlace
     ensures { result ≡ shown_place s.now }
 {
-    Place::of(REGISTER_SPACE + u64::from(s.offset))
+    RegisterPlace::of(REGISTER_SPACE + u64::from(s.offset))
 }
 
 /// Appends a shown word as a line tells it after its cycle.

@@ -1,5 +1,5 @@
 //! The entries of a log in words, a line each: the cycle, and then what happened. A response is told by the request that it
-//! answers, so each line is a function of the requests that stand before its entry.
+//! answers, so each line is a function of the outstanding requests before its entry.
 #![tactic(auto)]
 
 mod events;

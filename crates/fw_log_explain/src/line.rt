@@ -11,7 +11,7 @@ use fw_log_names::{Pairs, put_word};
 use fw_log_requests::Requests;
 use std::alloc::AllocError;
 
-/// Appends what an entry records, by the requests that stand before it: its line between the cycle and the line feed. An error says
+/// Appends what an entry records, by the outstanding requests before it: its line between the cycle and the line feed. An error says
 /// that memory ran out, and comes for nothing else.
 #[tactic(auto, unfolding(crate::specs::Lines::what_text))]
 pub fn put_what(

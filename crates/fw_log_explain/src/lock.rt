@@ -9,14 +9,18 @@ ghost use Rattle.fw_log_explain.specs.Lines.{at_text, function_text, swap_text, 
 
 use crate::parts::put_named_part;
 use fw_log_names::{Pairs, function_name, put_quadlet, put_quadlets, put_word};
-use fw_log_registers::{Place, Told, put_place, put_told};
+use fw_log_registers::{RegisterPlace, RegisterValue, put_place, put_told};
 use fw_log_requests::Asked;
 use fw_words::{COMPARE_SWAP, Swap, quadlet_at};
 use std::alloc::AllocError;
 
 // Appends where a request is.
 #[tactic(auto, unfolding(crate::specs::Lines::at_text))]
-pub(crate) fn put_at(text: &mut Vec<u8>, pairs: &Pairs, place: Place) -> Result<(), AllocError>
+pub(crate) fn put_at(
+    text: &mut Vec<u8>,
+    pairs: &Pairs,
+    place: RegisterPlace,
+) -> Result<(), AllocError>
     ensures { OnOk result (text.new.items ≡ text.old.items ++ at_text place) }
 {
     put_word(text, " ")?;
@@ -38,10 +42,10 @@ pub(crate) fn put_function(text: &mut Vec<u8>, function: u8) -> Result<(), Alloc
 }
 
 // What a swap is told as.
-fn told(s: Swap) -> Told
-    ensures { result ≡ Told.Swap s.argument s.new }
+fn told(s: Swap) -> RegisterValue
+    ensures { result ≡ RegisterValue.Swap s.argument s.new }
 {
-    Told::Swap {
+    RegisterValue::Swap {
         old: s.argument,
         new: s.new,
     }
@@ -52,7 +56,7 @@ fn told(s: Swap) -> Told
 pub(crate) fn put_swap(
     text: &mut Vec<u8>,
     pairs: &Pairs,
-    place: Place,
+    place: RegisterPlace,
     s: Swap,
 ) -> Result<(), AllocError>
     ensures { OnOk result (text.new.items ≡ text.old.items ++ swap_text place s) }
@@ -68,7 +72,7 @@ pub(crate) fn put_swap(
 pub(crate) fn put_lock(
     text: &mut Vec<u8>,
     pairs: &Pairs,
-    place: Place,
+    place: RegisterPlace,
     function: u8,
     bytes: &[u8],
 ) -> Result<(), AllocError>
@@ -87,8 +91,8 @@ fn put_verdict(
     text: &mut Vec<u8>,
     pairs: &Pairs,
     words: &str,
-    place: Place,
-    told: Told,
+    place: RegisterPlace,
+    told: RegisterValue,
 ) -> Result<(), AllocError>
     ensures { OnOk result (text.new.items ≡ text.old.items ++ (words.now ++ told_text told place)) }
 {
@@ -101,7 +105,7 @@ fn put_verdict(
 fn put_made(
     text: &mut Vec<u8>,
     pairs: &Pairs,
-    place: Place,
+    place: RegisterPlace,
     s: Swap,
     old: u32,
 ) -> Result<(), AllocError>
@@ -110,7 +114,7 @@ fn put_made(
     if old == s.argument {
         put_verdict(text, pairs, ", swap made", place, told(s))
     } else {
-        put_verdict(text, pairs, ", no swap", place, Told::Word(old))
+        put_verdict(text, pairs, ", no swap", place, RegisterValue::Word(old))
     }
 }
 
@@ -119,7 +123,7 @@ fn put_made(
 pub(crate) fn put_swapped(
     text: &mut Vec<u8>,
     pairs: &Pairs,
-    place: Place,
+    place: RegisterPlace,
     s: Swap,
     old: u32,
 ) -> Result<(), AllocError>
@@ -142,7 +146,13 @@ fn put_found(
 {
     match q.swap {
         Some(s) if function == COMPARE_SWAP && bytes.len() == 4 => {
-            put_swapped(text, pairs, Place::of(q.offset), s, quadlet_at(bytes, 0).0)
+            put_swapped(
+                text,
+                pairs,
+                RegisterPlace::of(q.offset),
+                s,
+                quadlet_at(bytes, 0).0,
+            )
         }
         _ => put_quadlets(text, pairs, bytes),
     }

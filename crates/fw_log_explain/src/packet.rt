@@ -10,18 +10,18 @@ use crate::response::put_response;
 use fw_async::{Head, Packet};
 use fw_log_frames::put_frame;
 use fw_log_names::{Pairs, put_node, put_number, put_word, tcode_name};
-use fw_log_registers::{Place, Register, put_register_word};
+use fw_log_registers::{NamedRegister, RegisterPlace, put_register_word};
 use fw_log_requests::Requests;
 use std::alloc::AllocError;
 
 // Frames are written there.
 #[tactic(auto, unfolding(crate::specs::Lines::takes_frames))]
-fn takes_frames(place: Place) -> bool
+fn takes_frames(place: RegisterPlace) -> bool
     ensures { result ≡ takes_frames place }
 {
     matches!(
         place,
-        Place::Named(Register::FcpCommand | Register::FcpResponse, _)
+        RegisterPlace::Named(NamedRegister::FcpCommand | NamedRegister::FcpResponse, _)
     )
 }
 
@@ -30,7 +30,7 @@ fn takes_frames(place: Place) -> bool
 pub(crate) fn put_written_quadlet(
     text: &mut Vec<u8>,
     pairs: &Pairs,
-    place: Place,
+    place: RegisterPlace,
     value: u32,
 ) -> Result<(), AllocError>
     ensures { OnOk result (text.new.items ≡ text.old.items ++ (at_text place ++ written_quadlet place value)) }
@@ -48,7 +48,7 @@ pub(crate) fn put_written_quadlet(
 pub(crate) fn put_written_block(
     text: &mut Vec<u8>,
     pairs: &Pairs,
-    place: Place,
+    place: RegisterPlace,
     bytes: &[u8],
 ) -> Result<(), AllocError>
     ensures { OnOk result (text.new.items ≡ text.old.items ++ (at_text place ++ written_block place bytes.now)) }
@@ -73,27 +73,33 @@ fn put_details(
 {
     match p {
         Packet::WriteQuadlet { offset, value, .. } => {
-            put_written_quadlet(text, pairs, Place::of(*offset), *value)
+            put_written_quadlet(text, pairs, RegisterPlace::of(*offset), *value)
         }
         Packet::WriteBlock { offset, bytes, .. } => {
-            put_written_block(text, pairs, Place::of(*offset), bytes.as_slice())
+            put_written_block(text, pairs, RegisterPlace::of(*offset), bytes.as_slice())
         }
-        Packet::ReadQuadlet { offset, .. } => put_at(text, pairs, Place::of(*offset)),
+        Packet::ReadQuadlet { offset, .. } => put_at(text, pairs, RegisterPlace::of(*offset)),
         Packet::ReadBlock { offset, length, .. } => {
-            put_at(text, pairs, Place::of(*offset))?;
+            put_at(text, pairs, RegisterPlace::of(*offset))?;
             put_word(text, " data_length ")?;
             put_number(text, u64::from(*length))
         }
         Packet::CycleStart { offset, time, .. } => {
-            put_at(text, pairs, Place::of(*offset))?;
-            put_register_word(text, pairs, Place::of(*offset), *time)
+            put_at(text, pairs, RegisterPlace::of(*offset))?;
+            put_register_word(text, pairs, RegisterPlace::of(*offset), *time)
         }
         Packet::Lock {
             offset,
             function,
             bytes,
             ..
-        } => put_lock(text, pairs, Place::of(*offset), *function, bytes.as_slice()),
+        } => put_lock(
+            text,
+            pairs,
+            RegisterPlace::of(*offset),
+            *function,
+            bytes.as_slice(),
+        ),
         response => put_response(text, pairs, requests, response),
     }
 }
@@ -127,7 +133,7 @@ pub fn put_head(text: &mut Vec<u8>, pairs: &Pairs, head: &Head) -> Result<(), Al
     put_part(text, " label ", u64::from(head.tl))
 }
 
-// Appends a packet, by the requests that stand before it.
+// Appends a packet, by the outstanding requests before it.
 #[tactic(auto, unfolding(crate::specs::Lines::packet_text))]
 pub(crate) fn put_packet(
     text: &mut Vec<u8>,

@@ -8,7 +8,7 @@ use crate::lock::{put_at, put_function, put_old};
 use crate::parts::{put_block, put_named_part};
 use fw_async::Packet;
 use fw_log_names::{Pairs, put_quadlet, put_word, rcode_name};
-use fw_log_registers::{Place, put_register_word};
+use fw_log_registers::{RegisterPlace, put_register_word};
 use fw_log_requests::{Answer, Asked, Requests};
 use std::alloc::AllocError;
 
@@ -29,12 +29,12 @@ fn put_asked(text: &mut Vec<u8>, pairs: &Pairs, q: Option<&Asked>) -> Result<(),
     ensures { OnOk result (text.new.items ≡ text.old.items ++ asked_text (option_copied q.entry)) }
 {
     match q {
-        Some(q) => put_at(text, pairs, Place::of(q.offset)),
+        Some(q) => put_at(text, pairs, RegisterPlace::of(q.offset)),
         None => Ok(()),
     }
 }
 
-// Appends that no request that stands is answered, if none is.
+// Appends that no outstanding request is answered, if none is.
 #[tactic(auto, unfolding(crate::specs::Lines::unasked_text))]
 fn put_unasked(text: &mut Vec<u8>, q: Option<&Asked>) -> Result<(), AllocError>
     ensures { OnOk result (text.new.items ≡ text.old.items ++ unasked_text (option_copied q.entry)) }
@@ -71,7 +71,7 @@ fn put_read(
     ensures { OnOk result (text.new.items ≡ text.old.items ++ read_text (option_copied q.entry) value) }
 {
     match q {
-        Some(q) => put_register_word(text, pairs, Place::of(q.offset), value),
+        Some(q) => put_register_word(text, pairs, RegisterPlace::of(q.offset), value),
         None => put_quadlet(text, pairs, value),
     }
 }

@@ -8,7 +8,7 @@ use crate::lock::{put_at, put_function, put_swap, put_swapped};
 use crate::packet::{put_written_block, put_written_quadlet};
 use crate::response::{COMPLETE, put_rcode};
 use fw_log_names::{Pairs, put_word};
-use fw_log_registers::{Place, put_register_word};
+use fw_log_registers::{RegisterPlace, put_register_word};
 use fw_words::{COMPARE_SWAP, Swap};
 use std::alloc::AllocError;
 
@@ -44,7 +44,7 @@ pub enum TailWords {
 
 // Appends a read.
 #[tactic(auto, unfolding(crate::specs::Tails::reading_text))]
-fn put_asked(text: &mut Vec<u8>, pairs: &Pairs, place: Place) -> Result<(), AllocError>
+fn put_asked(text: &mut Vec<u8>, pairs: &Pairs, place: RegisterPlace) -> Result<(), AllocError>
     ensures { OnOk result (text.new.items ≡ text.old.items ++ reading_text place) }
 {
     put_word(text, " read_quadlet_request")?;
@@ -56,7 +56,7 @@ fn put_asked(text: &mut Vec<u8>, pairs: &Pairs, place: Place) -> Result<(), Allo
 fn put_brought(
     text: &mut Vec<u8>,
     pairs: &Pairs,
-    place: Place,
+    place: RegisterPlace,
     value: u32,
 ) -> Result<(), AllocError>
     ensures { OnOk result (text.new.items ≡ text.old.items ++ brought_text place value) }
@@ -69,7 +69,12 @@ fn put_brought(
 
 // Appends a compare_swap.
 #[tactic(auto, unfolding(crate::specs::Tails::change_text))]
-fn put_change(text: &mut Vec<u8>, pairs: &Pairs, place: Place, s: Swap) -> Result<(), AllocError>
+fn put_change(
+    text: &mut Vec<u8>,
+    pairs: &Pairs,
+    place: RegisterPlace,
+    s: Swap,
+) -> Result<(), AllocError>
     ensures { OnOk result (text.new.items ≡ text.old.items ++ change_text place s) }
 {
     put_word(text, " lock_request")?;
@@ -83,7 +88,7 @@ fn put_change(text: &mut Vec<u8>, pairs: &Pairs, place: Place, s: Swap) -> Resul
 fn put_changed(
     text: &mut Vec<u8>,
     pairs: &Pairs,
-    place: Place,
+    place: RegisterPlace,
     s: Swap,
     old: u32,
 ) -> Result<(), AllocError>
@@ -98,7 +103,12 @@ fn put_changed(
 
 // Appends that a read brings nothing.
 #[tactic(auto, unfolding(crate::specs::Tails::failed_text))]
-fn put_failed(text: &mut Vec<u8>, pairs: &Pairs, place: Place, rcode: u8) -> Result<(), AllocError>
+fn put_failed(
+    text: &mut Vec<u8>,
+    pairs: &Pairs,
+    place: RegisterPlace,
+    rcode: u8,
+) -> Result<(), AllocError>
     ensures { OnOk result (text.new.items ≡ text.old.items ++ failed_text place rcode) }
 {
     put_word(text, " read_quadlet_response")?;
@@ -108,7 +118,12 @@ fn put_failed(text: &mut Vec<u8>, pairs: &Pairs, place: Place, rcode: u8) -> Res
 
 // Appends a write of a quadlet.
 #[tactic(auto, unfolding(crate::specs::Tails::write_text))]
-fn put_write(text: &mut Vec<u8>, pairs: &Pairs, place: Place, value: u32) -> Result<(), AllocError>
+fn put_write(
+    text: &mut Vec<u8>,
+    pairs: &Pairs,
+    place: RegisterPlace,
+    value: u32,
+) -> Result<(), AllocError>
     ensures { OnOk result (text.new.items ≡ text.old.items ++ write_text place value) }
 {
     put_word(text, " write_quadlet_request")?;
@@ -129,7 +144,7 @@ fn pair_bytes(first: u32, second: u32) -> [u8; 8]
 fn put_pair(
     text: &mut Vec<u8>,
     pairs: &Pairs,
-    place: Place,
+    place: RegisterPlace,
     first: u32,
     second: u32,
 ) -> Result<(), AllocError>
@@ -141,7 +156,12 @@ fn put_pair(
 
 // Appends the response to a write.
 #[tactic(auto, unfolding(crate::specs::Tails::written_text))]
-fn put_written(text: &mut Vec<u8>, pairs: &Pairs, place: Place, rcode: u8) -> Result<(), AllocError>
+fn put_written(
+    text: &mut Vec<u8>,
+    pairs: &Pairs,
+    place: RegisterPlace,
+    rcode: u8,
+) -> Result<(), AllocError>
     ensures { OnOk result (text.new.items ≡ text.old.items ++ written_text place rcode) }
 {
     put_word(text, " write_response")?;
@@ -154,7 +174,7 @@ fn put_written(text: &mut Vec<u8>, pairs: &Pairs, place: Place, rcode: u8) -> Re
 pub fn put_tail(text: &mut Vec<u8>, pairs: &Pairs, tail: &Tail) -> Result<(), AllocError>
     ensures { OnOk result (text.new.items ≡ text.old.items ++ tail_text tail.now) }
 {
-    let place = Place::of(tail.offset);
+    let place = RegisterPlace::of(tail.offset);
     match tail.words {
         TailWords::Read => put_asked(text, pairs, place),
         TailWords::Value(value) => put_brought(text, pairs, place, value),

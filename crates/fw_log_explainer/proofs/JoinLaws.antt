@@ -13,9 +13,9 @@ one_more r x y t u e f = f ∙ ap (λ (l : List ℕ). l ++ y) e ∙ append_assoc
 pub two_more : (r x a b t u : List ℕ) → t ≡ r ++ x → u ≡ t ++ (a ++ b) → u ≡ r ++ (x ++ a ++ b)
 two_more r x a b t u e f = one_more r x (a ++ b) t u e f ∙ ap (λ (l : List ℕ). r ++ l) (sym (append_assoc x a b))
 
--- behind a row that was copied
-pub behind_row : (r x s t : List ℕ) → s ≡ r → t ≡ s ++ x → t ≡ r ++ x
-behind_row r x s t e f = f ∙ ap (λ (l : List ℕ). l ++ x) e
+-- after a row that was copied
+pub after_row : (r x s t : List ℕ) → s ≡ r → t ≡ s ++ x → t ≡ r ++ x
+after_row r x s t e f = f ∙ ap (λ (l : List ℕ). l ++ x) e
 
 -- the head of a packet between two nodes of the local bus
 pub nodes_told : (h : Head) (source destination : ℕ) → node_text h.source ≡ codes "node " ++ decimal source → node_text h.destination ≡ codes "node " ++ decimal destination

@@ -18,10 +18,10 @@ use Rattle.fw_log_registers.specs.Places.{place_of}
 use Rattle.fw_csr.specs.declared.offset.TheConstants.{CYCLE_TIME}
 use Rattle.fw_log_names.specs.Texts.{hex}
 use Rattle.fw_log_registers.specs.Words.{place_text, told_field, told_text, word_text}
-use Rattle.fw_log_registers.specs.declared.place.Place.{Place}
+use Rattle.fw_log_registers.specs.declared.place.RegisterPlace.{RegisterPlace}
 use Rattle.fw_log_requests.specs.declared.asked.Answer.TheVariants.{Write as WriteResponse, ReadQuadlet as ReadQuadletResponse, Lock as LockResponse}
 use Rattle.fw_log_requests.specs.declared.asked.Asked.{Asked}
-use Rattle.fw_log_requests.specs.Requests.{answered, asked, asked_by, standing_behind, with_request, without_answered}
+use Rattle.fw_log_requests.specs.Requests.{answered, asked, asked_by, standing_following, with_request, without_answered}
 use Rattle.fw_log_explain.specs.Lines.{at_text, rcode_text, function_text, swap_text, swapped_text, response_text, read_text, asked_text, unasked_text, complete_text}
 use Rattle.fw_log_explain.specs.Lines.{lock_text, locked_text, old_text, found_text, details, response_details, head_text, packet_text, what_text, line}
 use Rattle.fw_log_explain.specs.Tails.{brought_text, change_text, changed_text, failed_text, pair_text, reading_text, tail_text, words_text, write_text, written_text}
@@ -82,7 +82,7 @@ swap_told : (o : Option ASwap) (s : ASwap) (function offset : ℕ) (bytes : List
     → change_text (place_of offset) s ≡ codes " lock_request" ++ lock_text (place_of offset) function bytes o
 unfolding change_text lock_text
 swap_told o s function offset bytes e f =
-    let place : Place = place_of offset in
+    let place : RegisterPlace = place_of offset in
     rw (e, f) (before_three (codes " lock_request") (function_text COMPARE_SWAP) (at_text place) (swap_text place s))
 
 pub swap_tail : (list : List Asked) (h : Head) (offset : ℕ) (s : ASwap) → s.argument < 2 ^ 32 → s.new < 2 ^ 32
@@ -95,7 +95,7 @@ value_told : (o : Option Asked) (q : Asked) (rcode value : ℕ) → o ≡ Some q
 unfolding brought_text response_text read_text asked_text unasked_text
 value_told o q rcode value e f =
     let word : List ℕ = codes " read_quadlet_response" in
-    let place : Place = place_of q.offset in
+    let place : RegisterPlace = place_of q.offset in
     let whole : List ℕ = rcode_text 0 ++ at_text place ++ word_text place value in
     rw (e, f) (before_three word (rcode_text 0) (at_text place) (word_text place value) ∙ and_nothing word whole)
 
@@ -138,7 +138,7 @@ old_told : (o : Option Asked) (q : Asked) (s : ASwap) (rcode old : ℕ) → o �
 unfolding changed_text locked_text asked_text unasked_text old_text found_text
 old_told o q s rcode old e g f small =
     let word : List ℕ = codes " lock_response" in
-    let place : Place = place_of q.offset in
+    let place : RegisterPlace = place_of q.offset in
     let back : quadlet_at (to_be_bytes w32 old) 0 ≡ old = from_be_bytes-to_be_bytes_4 old small in
     let swapped : List ℕ = swapped_text place s old in
     let whole : List ℕ = rcode_text 0 ++ function_text COMPARE_SWAP ++ at_text place ++ swapped in
@@ -149,11 +149,11 @@ pub old_tail : (list : List Asked) (h : Head) (q : Asked) (s : ASwap) (rcode old
 unfolding details response_details words_text
 old_tail list h q s rcode old e g f small = old_told (answered LockResponse h list) q s rcode old e g f small
 
--- a response that was told, and its request stands no longer
+-- a response that was told, and its request is outstanding no longer
 pub read_reply_told : (before after : List ℕ) (list rest : List Asked) (cycle : ℕ) (h : Head) (q : Asked) (rcode value : ℕ) → answered ReadQuadletResponse h list ≡ Some q
     → after ≡ before ++ usual_line cycle h (record { offset = q.offset; words = value_words rcode value }) → rest ≡ without_answered ReadQuadletResponse h list
     → IsTold before after list rest cycle (ReadQuadletReply h rcode value)
-unfolding standing_behind
+unfolding standing_following
 read_reply_told before after list rest cycle h q rcode value e text requests = record {
   text = text ∙ ap (λ (x : List ℕ). before ++ x) (line_is list cycle (ReadQuadletReply h rcode value) (record { offset = q.offset; words = value_words rcode value })
       (value_tail list h q rcode value e));
@@ -163,7 +163,7 @@ read_reply_told before after list rest cycle h q rcode value e text requests = r
 pub write_reply_told : (before after : List ℕ) (list rest : List Asked) (cycle : ℕ) (h : Head) (q : Asked) (rcode : ℕ) → answered WriteResponse h list ≡ Some q
     → after ≡ before ++ usual_line cycle h (record { offset = q.offset; words = Words.Written rcode }) → rest ≡ without_answered WriteResponse h list
     → IsTold before after list rest cycle (WriteReply h rcode)
-unfolding standing_behind
+unfolding standing_following
 write_reply_told before after list rest cycle h q rcode e text requests = record {
   text = text ∙ ap (λ (x : List ℕ). before ++ x) (line_is list cycle (WriteReply h rcode) (record { offset = q.offset; words = Words.Written rcode }) (written_tail list h q rcode e));
   requests = requests;
@@ -173,7 +173,7 @@ pub swap_reply_told : (before after : List ℕ) (list rest : List Asked) (cycle 
     → rcode ≡ 0 → old < 2 ^ 32
     → after ≡ before ++ usual_line cycle h (record { offset = q.offset; words = Words.Old s old }) → rest ≡ without_answered LockResponse h list
     → IsTold before after list rest cycle (LockReply h rcode COMPARE_SWAP (to_be_bytes w32 old))
-unfolding standing_behind
+unfolding standing_following
 swap_reply_told before after list rest cycle h q s rcode old e g f small text requests = record {
   text = text ∙ ap (λ (x : List ℕ). before ++ x) (line_is list cycle (LockReply h rcode COMPARE_SWAP (to_be_bytes w32 old)) (record { offset = q.offset; words = Words.Old s old })
       (old_tail list h q s rcode old e g f small));
@@ -182,7 +182,7 @@ swap_reply_told before after list rest cycle h q s rcode old e g f small text re
 
 -- a request that was told, and stands
 pub request_told : (before after : List ℕ) (list rest : List Asked) (cycle : ℕ) (p r : Packet) (words : TailWords) (q a : Asked) → p ≡ r → q ≡ a
-    → tail_text (record { offset = a.offset; words = words }) ≡ after_head list r → standing_behind r list ≡ with_request a list
+    → tail_text (record { offset = a.offset; words = words }) ≡ after_head list r → standing_following r list ≡ with_request a list
     → (after ≡ before ++ usual_line cycle (head_of r) (record { offset = q.offset; words = words })) × (rest ≡ with_request q list) → IsTold before after list rest cycle p
 request_told before after list rest cycle p r words q a is e tail stands told =
     let P : Packet → Type 0 = IsTold before after list rest cycle in
@@ -193,21 +193,21 @@ request_told before after list rest cycle p r words q a is e tail stands told =
       requests = told.1 ∙ ap (λ (x : Asked). with_request x list) e ∙ sym stands;
     })
 
-pub read_stands : (list : List Asked) (h : Head) (offset : ℕ) → standing_behind (ReadQuadlet h offset) list ≡ with_request (asked h ReadQuadletResponse offset None) list
-unfolding standing_behind asked_by
+pub read_stands : (list : List Asked) (h : Head) (offset : ℕ) → standing_following (ReadQuadlet h offset) list ≡ with_request (asked h ReadQuadletResponse offset None) list
+unfolding standing_following asked_by
 read_stands list h offset = refl
 
-pub write_stands : (list : List Asked) (h : Head) (offset value : ℕ) → standing_behind (WriteQuadlet h offset value) list ≡ with_request (asked h WriteResponse offset None) list
-unfolding standing_behind asked_by
+pub write_stands : (list : List Asked) (h : Head) (offset value : ℕ) → standing_following (WriteQuadlet h offset value) list ≡ with_request (asked h WriteResponse offset None) list
+unfolding standing_following asked_by
 write_stands list h offset value = refl
 
-pub pair_stands : (list : List Asked) (h : Head) (offset : ℕ) (bytes : List ℕ) → standing_behind (WriteBlock h offset bytes) list ≡ with_request (asked h WriteResponse offset None) list
-unfolding standing_behind asked_by
+pub pair_stands : (list : List Asked) (h : Head) (offset : ℕ) (bytes : List ℕ) → standing_following (WriteBlock h offset bytes) list ≡ with_request (asked h WriteResponse offset None) list
+unfolding standing_following asked_by
 pair_stands list h offset bytes = refl
 
 pub swap_stands : (list : List Asked) (h : Head) (offset : ℕ) (s : ASwap) → s.argument < 2 ^ 32 → s.new < 2 ^ 32
-    → standing_behind (Lock h offset COMPARE_SWAP (swap_bytes s)) list ≡ with_request (asked h LockResponse offset (Some s)) list
-unfolding standing_behind asked_by
+    → standing_following (Lock h offset COMPARE_SWAP (swap_bytes s)) list ≡ with_request (asked h LockResponse offset (Some s)) list
+unfolding standing_following asked_by
 swap_stands list h offset s low small = ap (λ (o : Option ASwap). with_request (asked h LockResponse offset o) list) (swap_back s low small)
 
 -- the parts of a cycle start
@@ -231,7 +231,7 @@ start_tail list h time =
 -- a cycle start that was told
 pub start_told : (before after : List ℕ) (list : List Asked) (cycle : ℕ) (p : Packet) (h : Head) (offset time : ℕ) → p ≡ CycleStart h offset time → offset ≡ CYCLE_TIME
     → after ≡ before ++ (decimal cycle ++ codes " " ++ head_text h ++ (time_text time ++ codes "\n")) → IsTold before after list list cycle p
-unfolding what_text packet_text standing_behind asked_by
+unfolding what_text packet_text standing_following asked_by
 start_told before after list cycle p h offset time is e text =
     let P : Packet → Type 0 = IsTold before after list list cycle in
     let start : Packet = CycleStart h CYCLE_TIME time in

@@ -6,7 +6,7 @@ use Rattle.fw_async.specs.declared.packet.Head.{Head}
 use Rattle.fw_async.specs.declared.packet.Packet.{Packet}
 use Rattle.fw_log_entry.specs.declared.entry.Entry.TheVariants.{Async}
 use Rattle.fw_log_requests.specs.declared.asked.Asked.{Asked}
-use Rattle.fw_log_requests.specs.Requests.{standing_behind}
+use Rattle.fw_log_requests.specs.Requests.{standing_following}
 use Rattle.fw_log_explain.specs.Lines.{head_text, line}
 use Rattle.fw_log_explain.specs.Tails.{tail_text}
 use Rattle.fw_log_explain.specs.declared.tail.Tail.{Tail}
@@ -27,11 +27,11 @@ time_text time =
 abbrev pub start_line : ℕ → ℕ → ℕ → List ℕ
 start_line source label time = codes "node " ++ decimal source ++ (codes " to broadcast label " ++ decimal label) ++ time_text time ++ codes "\n"
 
--- what a response to a read brings: the value, where it is complete
+-- what a response to a read brings: the value, if it is complete
 abbrev pub value_words : ℕ → ℕ → TailWords
 value_words rcode value = if rcode == 0 then Value value else NoValue rcode
 
--- after a packet of this cycle, behind which these requests stood: its line was appended, and the requests that stand are those behind it
+-- after a packet of this cycle, after which these requests were outstanding: its line was appended, and those outstanding are those after it
 pub record IsTold (before after : List ℕ) (list rest : List Asked) (cycle : ℕ) (p : Packet) : Type 0 where
   pub text : after ≡ before ++ line list (record { cycle = cycle; what = Async p })
-  pub requests : rest ≡ standing_behind p list
+  pub requests : rest ≡ standing_following p list

@@ -7,7 +7,7 @@ ghost use Rattle.fw_log_entry.specs.Log.{ResetFits, body};
 ghost use Rattle.fw_log_entry.specs.declared.entry.Entry.TheVariants.{Async, Iso, Reset};
 ghost use Rattle.fw_log_entry.specs.declared.entry.ResetEntry.{ResetEntry as AReset};
 ghost use Rattle.fw_log_entry.specs.declared.entry.Timed.{Timed};
-ghost use Rattle.fw_log_requests.specs.Requests.{standing, standing_after, standing_behind};
+ghost use Rattle.fw_log_requests.specs.Requests.{standing, standing_after, standing_following};
 ghost use Rattle.fw_log_explain.specs.Lines.{line};
 ghost use Rattle.fw_log_explain.specs.Explained.{explained};
 
@@ -22,7 +22,7 @@ use fw_log_requests::Requests;
 use std::alloc::{AllocError, Global};
 use std::marker::Model;
 
-/// The lines that were appended, and the requests that stand after the entries that were taken. Its memory is made once and kept, so
+/// The lines that were appended, and the outstanding requests after the entries that were taken. Its memory is made once and kept, so
 /// that a line costs no memory of its own. Contracts see it as the bytes of its lines and the list of those requests.
 #[derive(Drop)]
 pub struct Explainer {
@@ -32,15 +32,15 @@ pub struct Explainer {
 }
 
 impl Model for Explainer {
-    ghost use Rattle.fw_log_explain.specs.Explained.{Room};
+    ghost use Rattle.fw_log_explain.specs.Explained.{ExplainerState};
 
-    ghost Value = { Room };
+    ghost Value = { ExplainerState };
 
     ghost view = { λ e. record { text = e.lines; requests = e.requests.value } };
 }
 
 impl Explainer {
-    /// Room for the lines of 4,096 bytes of a log; no request stands. An error says that memory ran out.
+    /// Room for the lines of 4,096 bytes of a log; no request is outstanding. An error says that memory ran out.
     pub fn new(alloc: Global) -> Result<Explainer, AllocError>
         ensures { IfOk result (λ e. e ≡ record { text = []; requests = [] }) }
     {
@@ -58,7 +58,7 @@ impl Explainer {
         self.lines.as_slice()
     }
 
-    /// Drops all lines, and keeps the memory and the requests that stand.
+    /// Drops all lines, and keeps the memory and the outstanding requests.
     pub fn clear(&mut self)
         ensures { self.new ≡ record self.old { text = [] } }
     {
@@ -66,14 +66,14 @@ impl Explainer {
     }
 
     /// Appends the line of the next entry of a log, with its line feed. After the entries that were taken before, the line is what
-    /// the definition gives for them and the entry, and the requests that stand are then those after the entry too. An error says that
-    /// memory ran out, and comes for nothing else; there are no lines then, and the requests that stand are those before.
+    /// the definition gives for them and the entry, and the outstanding requests are then those after the entry too. An error says that
+    /// memory ran out, and comes for nothing else; there are no lines then, and the outstanding requests are those before.
     #[tactic(auto, using(fw_log_explain::proofs::StandingLaws::standing_more))]
     pub fn put(&mut self, t: &Timed) -> Result<(), AllocError>
         ensures line { OnOk result (self.new.text ≡ self.old.text ++ line self.old.requests t.now) }
         ensures requests { OnOk result (self.new.requests ≡ standing_after t.now.what self.old.requests) }
         ensures explained { (before : List Timed) → self.old.requests ≡ standing before → OnOk result (self.new.text ≡ self.old.text ++ explained before (t.now ∷ [])) }
-        ensures behind { (before : List Timed) → self.old.requests ≡ standing before → OnOk result (self.new.requests ≡ standing (before ++ t.now ∷ [])) }
+        ensures following { (before : List Timed) → self.old.requests ≡ standing before → OnOk result (self.new.requests ≡ standing (before ++ t.now ∷ [])) }
         ensures emptied { OnErr result (self.new ≡ record self.old { text = [] }) }
     {
         match self.lines.put(&self.requests, t) {
@@ -93,7 +93,7 @@ impl Explainer {
     fn put_bytes(&mut self, cycle: u64, bytes: &[u8]) -> Result<(), AllocError>
         requires { IsPacket bytes.now }
         ensures line { (p : Packet) → Spells p bytes.now → OnOk result (self.new.text ≡ self.old.text ++ line self.old.requests (record { cycle = cycle; what = Async p })) }
-        ensures requests { (p : Packet) → Spells p bytes.now → OnOk result (self.new.requests ≡ standing_behind p self.old.requests) }
+        ensures requests { (p : Packet) → Spells p bytes.now → OnOk result (self.new.requests ≡ standing_following p self.old.requests) }
         ensures kept { OnErr result (self.new.requests ≡ self.old.requests) }
     {
         let glance = glance_at(bytes);
@@ -111,7 +111,7 @@ impl Explainer {
     pub fn put_packet_from(&mut self, cycle: u64, bytes: &[u8]) -> Result<(), AllocError>
         requires { IsPacket bytes.now }
         ensures line { (p : Packet) → Spells p bytes.now → OnOk result (self.new.text ≡ self.old.text ++ line self.old.requests (record { cycle = cycle; what = Async p })) }
-        ensures requests { (p : Packet) → Spells p bytes.now → OnOk result (self.new.requests ≡ standing_behind p self.old.requests) }
+        ensures requests { (p : Packet) → Spells p bytes.now → OnOk result (self.new.requests ≡ standing_following p self.old.requests) }
         ensures emptied { OnErr result (self.new ≡ record self.old { text = [] }) }
     {
         match self.put_bytes(cycle, bytes) {
@@ -177,7 +177,7 @@ impl Explainer {
     }
 
     /// Appends the line of a bus reset of this cycle, as `put` does, if the bytes of its body after its epoch are those of the bus
-    /// reset that `put_reset_from` told last, and answers whether it did. No request stands then.
+    /// reset that `put_reset_from` told last, and answers whether it did. No request is outstanding then.
     pub fn put_reset_again(
         &mut self,
         cycle: u64,

@@ -6,10 +6,10 @@ ghost use Rattle.fw_log_explain.specs.Resets.{epoch_text};
 ghost use Rattle.fw_log_explainer.specs.Lines.{time_text, usual_line};
 
 use crate::cycle_start::write_start;
-use crate::front::{FRONT, caller_of, nodes_of, write_front};
 use crate::iso::{LINE, write_iso};
 use crate::latest::LatestReset;
 use crate::memo::Memo;
+use crate::prefix::{PREFIX, caller_of, nodes_of, write_prefix};
 use fw_async::Head;
 use fw_cip::IsoPacket;
 use fw_log_entry::Timed;
@@ -31,7 +31,7 @@ pub(crate) struct Lines {
     pairs: Pairs,
     memo: Memo,
     // What is written of a line before it is appended.
-    front: [u8; FRONT],
+    prefix: [u8; PREFIX],
     line: [u8; LINE],
 }
 
@@ -52,7 +52,7 @@ impl Lines {
             cycle: CycleRow::of(0),
             pairs: Pairs::new(),
             memo: Memo::new(alloc)?,
-            front: [0; FRONT],
+            prefix: [0; PREFIX],
             line: [0; LINE],
         })
     }
@@ -77,7 +77,7 @@ impl Lines {
         self.text.extend_from_slice(self.cycle.as_slice())
     }
 
-    // Appends the line of an entry, by the requests that stand before it.
+    // Appends the line of an entry, by the outstanding requests before it.
     pub(crate) fn put(&mut self, requests: &Requests, t: &Timed) -> Result<(), AllocError>
         ensures { OnOk result (self.new ≡ self.old ++ line requests.now t.now) }
     {
@@ -88,7 +88,7 @@ impl Lines {
 
     // Appends the cycle and the head of a packet.
     #[inline(always)]
-    fn put_front(&mut self, cycle: u64, head: &Head) -> Result<(), AllocError>
+    fn put_prefix(&mut self, cycle: u64, head: &Head) -> Result<(), AllocError>
         ensures { OnOk result (self.new ≡ self.old ++ (decimal cycle ++ codes " " ++ head_text head.now)) }
     {
         let Some(nodes) = nodes_of(head) else {
@@ -97,8 +97,8 @@ impl Lines {
         };
         self.cycle.set(cycle);
         let (row, size) = self.cycle.row();
-        let end = write_front(&mut self.front, row, size, nodes, head.tl);
-        self.text.extend_from_slice(&self.front[..end])
+        let end = write_prefix(&mut self.prefix, row, size, nodes, head.tl);
+        self.text.extend_from_slice(&self.prefix[..end])
     }
 
     // Appends the line of a usual packet.
@@ -111,7 +111,7 @@ impl Lines {
     ) -> Result<(), AllocError>
         ensures { OnOk result (self.new ≡ self.old ++ usual_line cycle head.now tail.now) }
     {
-        self.put_front(cycle, head)?;
+        self.put_prefix(cycle, head)?;
         self.memo.put(&mut self.text, &self.pairs, tail)
     }
 

@@ -1,4 +1,4 @@
-//! Usual packets: the line of each, and the request that stands from then on or no longer.
+//! Usual packets: the line of each, and the request that is outstanding from then on, or no longer.
 
 ghost use Rattle.std.specs.Prelude.{◌≡◌, ◌++◌, false, IfOk, IsTrue, OnOk, OnErr, Some};
 ghost use Rattle.fw_async.specs.declared.packet.Packet.{Packet as APacket};
@@ -44,7 +44,7 @@ fn put_request(
     Ok(true)
 }
 
-// Appends the line of a response of this kind, whose request stands no longer.
+// Appends the line of a response of this kind, whose request is outstanding no longer.
 #[inline(always)]
 fn put_response(
     lines: &mut Lines,
@@ -95,7 +95,7 @@ fn value_words(rcode: u8, value: u32) -> TailWords
     }
 }
 
-// Appends the line of the response to a read, if its request stands.
+// Appends the line of the response to a read, if its request is outstanding.
 #[inline(always)]
 fn put_read_reply(
     lines: &mut Lines,
@@ -119,7 +119,7 @@ fn put_read_reply(
     put_response(lines, requests, cycle, head, &tail, Answer::ReadQuadlet)
 }
 
-// Appends the line of the response to a compare_swap of a quadlet, if its request stands and it is complete.
+// Appends the line of the response to a compare_swap of a quadlet, if its request is outstanding and it is complete.
 #[inline(always)]
 fn put_swap_reply(
     lines: &mut Lines,
@@ -148,7 +148,7 @@ fn put_swap_reply(
     }
 }
 
-// Appends the line of the response to a write, if its request stands.
+// Appends the line of the response to a write, if its request is outstanding.
 #[inline(always)]
 fn put_write_reply(
     lines: &mut Lines,

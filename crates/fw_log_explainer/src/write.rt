@@ -44,7 +44,7 @@ pub(crate) fn write_part<const N: usize>(out: &mut [u8], at: usize, word: [u8; N
     write_number(out, at, n)
 }
 
-/// Writes the front of a line, its cycle and a space, over the first bytes, and answers where it ends: to copy all bytes of the row takes
+/// Writes the prefix of a line, its cycle and a space, over the first bytes, and answers where it ends: to copy all bytes of the row takes
 /// less than to copy so many.
 #[inline(always)]
 pub(crate) fn write_cycle(out: &mut [u8], row: &[u8; 24], size: usize) -> usize

@@ -4,8 +4,8 @@ use Rattle.fw_log_names.specs.Texts.{blank_hex}
 use Rattle.fw_log_frames.specs.Frames.{operand, operands_as, time_code}
 
 -- two texts after one are one text after it
-pub behind : (s t u x y : List ℕ) → t ≡ s ++ x → u ≡ t ++ y → u ≡ s ++ (x ++ y)
-behind s t u x y e f = f ∙ ap (λ z. z ++ y) e ∙ append_assoc s x y
+pub following : (s t u x y : List ℕ) → t ≡ s ++ x → u ≡ t ++ y → u ≡ s ++ (x ++ y)
+following s t u x y e f = f ∙ ap (λ z. z ++ y) e ∙ append_assoc s x y
 
 -- four pieces, a colon between any two, and a rest
 between : (a b c d rest : List ℕ) → (((a ++ (codes ":" ++ b)) ++ (codes ":" ++ c)) ++ (codes ":" ++ d)) ++ rest ≡ ((((((a ++ codes ":") ++ b) ++ codes ":") ++ c) ++ codes ":") ++ d) ++ rest
@@ -17,9 +17,10 @@ pub time_code_put : (text hours minutes seconds frames last operands : List ℕ)
     → last ≡ text ++ operands_as (time_code operands) 5 operands
 unfolding operands_as
 time_code_put text hours minutes seconds frames last operands h m s f e =
-    let front : List ℕ = codes " " ++ operand operands 4 in
-    let two = behind text hours minutes front (codes ":" ++ operand operands 3) h m in
-    let three = behind text minutes seconds (front ++ (codes ":" ++ operand operands 3)) (codes ":" ++ operand operands 2) two s in
-    let four = behind text seconds frames ((front ++ (codes ":" ++ operand operands 3)) ++ (codes ":" ++ operand operands 2)) (codes ":" ++ operand operands 1) three f in
-    let all = behind text frames last (((front ++ (codes ":" ++ operand operands 3)) ++ (codes ":" ++ operand operands 2)) ++ (codes ":" ++ operand operands 1)) (blank_hex (drop 5 operands)) four e in
-    all ∙ ap (λ (t : List ℕ). text ++ t) (between front (operand operands 3) (operand operands 2) (operand operands 1) (blank_hex (drop 5 operands)))
+    let prefix : List ℕ = codes " " ++ operand operands 4 in
+    let two = following text hours minutes prefix (codes ":" ++ operand operands 3) h m in
+    let three = following text minutes seconds (prefix ++ (codes ":" ++ operand operands 3)) (codes ":" ++ operand operands 2) two s in
+    let four = following text seconds frames ((prefix ++ (codes ":" ++ operand operands 3)) ++ (codes ":" ++ operand operands 2)) (codes ":" ++ operand operands 1) three f in
+    let all = following text frames last (((prefix ++ (codes ":" ++ operand operands 3)) ++ (codes ":" ++ operand operands 2)) ++ (codes ":" ++ operand operands 1))
+    (blank_hex (drop 5 operands)) four e in
+    all ∙ ap (λ (t : List ℕ). text ++ t) (between prefix (operand operands 3) (operand operands 2) (operand operands 1) (blank_hex (drop 5 operands)))

@@ -4,7 +4,7 @@ pub use Rattle.fw_log_entry.specs.declared.entry.Entry.TheVariants.{Reset}
 pub use Rattle.fw_log_entry.specs.declared.nodes.NodeRow.{NodeRow}
 pub use Rattle.fw_log_json.specs.Ids.{id_object, node_objects}
 pub use Rattle.fw_log_json.specs.Objects.{object}
-unfoldable pub use Rattle.fw_log_json.specs.Objects.{front_fields}
+unfoldable pub use Rattle.fw_log_json.specs.Objects.{prefix_fields}
 pub use Rattle.fw_log_json_packets.proofs.Joins.{coded, counted, moved, one_text, then}
 pub use Rattle.fw_log_json_packets.specs.Values.{name_value, number_value}
 unfoldable pub use Rattle.fw_log_json_packets.specs.Values.{array, code, field, quoted}

@@ -1,5 +1,5 @@
 -- The fields of a bus reset after its epoch.
-use Rattle.fw_log_json.proofs.Common.{◌≡◌, ap, sym, ◌∙◌, ℕ, List, ◌++◌, append_assoc, Reset, field, number_value, front_fields, object}
+use Rattle.fw_log_json.proofs.Common.{◌≡◌, ap, sym, ◌∙◌, ℕ, List, ◌++◌, append_assoc, Reset, field, number_value, prefix_fields, object}
 use Rattle.std.specs.Prelude.{codes, decimal}
 use Rattle.fw_log_entry.specs.declared.codes.kind.TheConstants.{RESET}
 use Rattle.fw_log_entry.specs.declared.entry.ResetEntry.{ResetEntry}
@@ -16,8 +16,8 @@ whole_fields r =
 
 -- the object of a bus reset that tells this after its epoch
 pub told : (before after later : List ℕ) (cycle : ℕ) (r : ResetEntry) → later ≡ later_fields r
-    → after ≡ before ++ (front_fields cycle RESET ++ (field (codes ",\"epoch\":") (decimal r.epoch) ++ later) ++ codes "}\n")
+    → after ≡ before ++ (prefix_fields cycle RESET ++ (field (codes ",\"epoch\":") (decimal r.epoch) ++ later) ++ codes "}\n")
     → after ≡ before ++ object (record { cycle = cycle; what = Reset r })
 told before after later cycle r is e =
-    e ∙ ap (λ (t : List ℕ). before ++ (front_fields cycle RESET ++ (field (codes ",\"epoch\":") (decimal r.epoch) ++ t) ++ codes "}\n")) is
-    ∙ ap (λ (t : List ℕ). before ++ (front_fields cycle RESET ++ t ++ codes "}\n")) (whole_fields r)
+    e ∙ ap (λ (t : List ℕ). before ++ (prefix_fields cycle RESET ++ (field (codes ",\"epoch\":") (decimal r.epoch) ++ t) ++ codes "}\n")) is
+    ∙ ap (λ (t : List ℕ). before ++ (prefix_fields cycle RESET ++ t ++ codes "}\n")) (whole_fields r)

@@ -1,6 +1,6 @@
 -- The object of an entry is one line of plain bytes.
 use Rattle.fw_log_json.proofs.Common.{ℕ, ◌+◌, ◌^◌, ◌<◌, ◌≤◌, Bool, true, false, if◌then◌else◌, List, [], ◌∷◌, ◌++◌, length, map, codes, Some, refl, sym, append_assoc, arith, Packet, Reset, tcode_name}
-use Rattle.fw_log_json.proofs.Common.{rcode_name, function_name, format_name, id_object, node_objects, front_fields, object}
+use Rattle.fw_log_json.proofs.Common.{rcode_name, function_name, format_name, id_object, node_objects, prefix_fields, object}
 use Rattle.fw_async.specs.Async.{HeadFits, Fits as PacketFits}
 use Rattle.fw_async.specs.Heads.{head_of}
 use Rattle.fw_async.specs.declared.packet.Head.{Head}
@@ -137,12 +137,12 @@ what (Outcome o) a = outcome o a
 what (Shown s) a = shown s a
 what End a = nothing
 
-front : (c k : ℕ) → c < 2 ^ 64 → k < 2 ^ 64 → Plain (front_fields c k)
-unfolding front_fields
-front c k h g = two (keyed (codes "{\"cycle\":") refl (cycle c h)) (coded (codes ",\"kind\":") k (codes ",\"kind_name\":") (kind_name k) refl refl g (kinds k))
+prefix : (c k : ℕ) → c < 2 ^ 64 → k < 2 ^ 64 → Plain (prefix_fields c k)
+unfolding prefix_fields
+prefix c k h g = two (keyed (codes "{\"cycle\":") refl (cycle c h)) (coded (codes ",\"kind\":") k (codes ",\"kind_name\":") (kind_name k) refl refl g (kinds k))
 
 pub object_is_line : (t : Timed) → TimedFits t → IsLine (object t)
 object_is_line t a =
-    let fields : List ℕ = front_fields t.cycle (kind_of t.what) ++ what_fields t.what in
-    let all : Plain (fields ++ codes "}") = two (two (front t.cycle (kind_of t.what) a.cycle (small_kind t.what)) (what t.what a.entry)) (word (codes "}") refl) in
+    let fields : List ℕ = prefix_fields t.cycle (kind_of t.what) ++ what_fields t.what in
+    let all : Plain (fields ++ codes "}") = two (two (prefix t.cycle (kind_of t.what) a.cycle (small_kind t.what)) (what t.what a.entry)) (word (codes "}") refl) in
     record { text = fields ++ codes "}"; plain = each (fields ++ codes "}") all.is; same = sym (append_assoc fields (codes "}") (10 ∷ [])) }

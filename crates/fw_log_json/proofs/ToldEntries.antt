@@ -1,5 +1,5 @@
 -- The object of an entry tells the entry.
-use Rattle.fw_log_json.proofs.Common.{◌≡◌, ℕ, ◌^◌, ◌<◌, ◌≤◌, List, ◌++◌, length, codes, Option, Some, None, IfSome, refl, ap, sym, ◌∙◌, append_assoc, arith, Reset, field, code, front_fields, object}
+use Rattle.fw_log_json.proofs.Common.{◌≡◌, ℕ, ◌^◌, ◌<◌, ◌≤◌, List, ◌++◌, length, codes, Option, Some, None, IfSome, refl, ap, sym, ◌∙◌, append_assoc, arith, Reset, field, code, prefix_fields, object}
 use Rattle.fw_log_entry.specs.Log.{kind_of, Fits, ResetFits, TimedFits}
 use Rattle.fw_log_entry.specs.declared.entry.ResetEntry.{ResetEntry}
 use Rattle.fw_log_entry.specs.declared.entry.Entry.{Entry}
@@ -60,15 +60,15 @@ small_kind (Outcome o) = omega arith
 small_kind (Shown s) = omega arith
 small_kind End = omega arith
 
-fronts : (c d k l : ℕ) → c < 2 ^ 64 → d < 2 ^ 64 → k < 2 ^ 64 → l < 2 ^ 64 → Told (front_fields c k) (front_fields d l) ((c ≡ d) × (k ≡ l))
-unfolding front_fields
+fronts : (c d k l : ℕ) → c < 2 ^ 64 → d < 2 ^ 64 → k < 2 ^ 64 → l < 2 ^ 64 → Told (prefix_fields c k) (prefix_fields d l) ((c ≡ d) × (k ≡ l))
+unfolding prefix_fields
 fronts c d k l a b e f = next (brace (codes "\"cycle\":") (cycle c d a b)) (coded (codes "\"kind\":") (codes "\"kind_name\":") kind_name k l e f)
 
 pub object_tells : (t u : Timed) → TimedFits t → TimedFits u → object t ≡ object u → t ≡ u
 object_tells t u a b e =
     let end : List ℕ = codes "}\n" in
-    let front = fronts t.cycle u.cycle (kind_of t.what) (kind_of u.what) a.cycle b.cycle (small_kind t.what) (small_kind u.what) in
-    let f = front.value.by (what_fields t.what ++ end) (what_fields u.what ++ end) ((what_stops t.what).by end refl) ((what_stops u.what).by end refl)
-    (sym (append_assoc (front_fields t.cycle (kind_of t.what)) (what_fields t.what) end) ∙ e ∙ append_assoc (front_fields u.cycle (kind_of u.what)) (what_fields u.what) end) in
+    let prefix = fronts t.cycle u.cycle (kind_of t.what) (kind_of u.what) a.cycle b.cycle (small_kind t.what) (small_kind u.what) in
+    let f = prefix.value.by (what_fields t.what ++ end) (what_fields u.what ++ end) ((what_stops t.what).by end refl) ((what_stops u.what).by end refl)
+    (sym (append_assoc (prefix_fields t.cycle (kind_of t.what)) (what_fields t.what) end) ∙ e ∙ append_assoc (prefix_fields u.cycle (kind_of u.what)) (what_fields u.what) end) in
     let g = (whats t.what u.what a.entry b.entry f.0.1).by end end refl refl f.1 in
     λ i. record { cycle = f.0.0 i; what = g.0 i }

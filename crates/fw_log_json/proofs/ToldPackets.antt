@@ -1,6 +1,7 @@
 -- The fields of an asynchronous packet tell the packet.
 use Rattle.fw_log_json.proofs.Common.{◌≡◌, ℕ, ◌^◌, ◌<◌, ◌≤◌, List, length, codes, Some, arith, Packet, tcode_name, rcode_name, function_name, retry_name, code}
-use Rattle.fw_async.specs.Async.{HeadFits, AreBytes, Fits}
+use Rattle.fw_async.specs.Async.{HeadFits, Fits}
+use Rattle.fw_async_fields.specs.Data.{AreBytes}
 use Rattle.fw_async.specs.Heads.{head_of}
 use Rattle.fw_async.specs.declared.packet.Head.{Head}
 use Rattle.fw_async.specs.declared.packet.Packet.TheVariants.{WriteQuadlet, WriteBlock, WriteReply, ReadQuadlet, ReadBlock, ReadQuadletReply, ReadBlockReply, CycleStart, Lock, LockReply}

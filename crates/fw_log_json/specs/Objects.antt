@@ -76,10 +76,10 @@ what_fields (Shown s) = shown_fields s
 what_fields End = []
 
 -- what an object begins with: its cycle and its kind
-unfoldable pub front_fields : ℕ → ℕ → List ℕ
-front_fields cycle kind =
+unfoldable pub prefix_fields : ℕ → ℕ → List ℕ
+prefix_fields cycle kind =
     field (codes "{\"cycle\":") (cycle_value cycle) ++ code (codes ",\"kind\":") kind (codes ",\"kind_name\":") (kind_name kind)
 
 -- the line of an entry
 abbrev pub object : Timed → List ℕ
-object t = front_fields t.cycle (kind_of t.what) ++ what_fields t.what ++ codes "}\n"
+object t = prefix_fields t.cycle (kind_of t.what) ++ what_fields t.what ++ codes "}\n"

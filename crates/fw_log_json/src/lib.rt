@@ -8,8 +8,6 @@
 
 mod digits;
 mod entry;
-mod front;
-mod front_row;
 mod head;
 mod ids;
 mod iso;
@@ -17,6 +15,8 @@ mod latest;
 mod laws;
 mod lines;
 mod packet;
+mod prefix;
+mod prefix_row;
 mod reset;
 mod room;
 mod values;

@@ -7,12 +7,12 @@ ghost use Rattle.fw_log_entry.specs.declared.codes.kind.TheConstants.{RESET};
 ghost use Rattle.fw_log_entry.specs.declared.entry.Entry.TheVariants.{Async, Iso};
 ghost use Rattle.fw_log_json_packets.specs.Values.{field};
 ghost use Rattle.fw_log_json_packets.specs.Packets.{iso_fields};
-ghost use Rattle.fw_log_json.specs.Objects.{front_fields, what_fields, object};
+ghost use Rattle.fw_log_json.specs.Objects.{prefix_fields, what_fields, object};
 
 use crate::entry::put_what;
-use crate::front_row::FrontRow;
 use crate::iso::put_iso;
 use crate::latest::LatestReset;
+use crate::prefix_row::PrefixRow;
 use crate::values::{put_count, put_text};
 use fw_async::whole_packet;
 use fw_cip::IsoPacket;
@@ -29,7 +29,7 @@ pub(crate) struct Lines {
     text: TextRoom,
     // The object that is being made, if it is not written in place.
     object: Vec<u8>,
-    front: FrontRow,
+    prefix: PrefixRow,
     pairs: Pairs,
 }
 
@@ -48,7 +48,7 @@ impl Lines {
         Ok(Lines {
             text: TextRoom::new(alloc)?,
             object: Vec::new(alloc),
-            front: FrontRow::new(alloc)?,
+            prefix: PrefixRow::new(alloc)?,
             pairs: Pairs::new(),
         })
     }
@@ -69,19 +69,19 @@ impl Lines {
     pub(crate) fn put(&mut self, t: &Timed) -> Result<(), AllocError>
         ensures { OnOk result (self.new ≡ self.old ++ object t.now) }
     {
-        self.front.set(t.cycle, kind_number(&t.what))?;
-        make_object(&mut self.object, &self.front, &self.pairs, &t.what)?;
+        self.prefix.set(t.cycle, kind_number(&t.what))?;
+        make_object(&mut self.object, &self.prefix, &self.pairs, &t.what)?;
         self.text.put(&self.object)
     }
 
-    // Appends the object of a packet of a usual kind, from the packet's bytes, if its front is short, and answers whether it did.
+    // Appends the object of a packet of a usual kind, from the packet's bytes, if its prefix is short, and answers whether it did.
     #[inline(always)]
     fn put_usual(&mut self, cycle: u64, bytes: &[u8]) -> Result<bool, AllocError>
         ensures object { (p : APacket) → Spells p bytes.now → IfOk result (λ put. IsTrue put → self.new ≡ self.old ++ object (record { cycle = cycle; what = Async p })) }
         ensures other { IfOk result (λ put. put ≡ false → self.new ≡ self.old) }
     {
-        self.front.set(cycle, kind::ASYNC)?;
-        match self.front.row() {
+        self.prefix.set(cycle, kind::ASYNC)?;
+        match self.prefix.row() {
             Some((row, size)) => self.text.put_packet(row, size, &self.pairs, bytes),
             None => Ok(false),
         }
@@ -117,11 +117,11 @@ impl Lines {
     pub(crate) fn put_iso(&mut self, cycle: u64, p: &IsoPacket) -> Result<(), AllocError>
         ensures { OnOk result (self.new ≡ self.old ++ object (record { cycle = cycle; what = Iso p.now })) }
     {
-        self.front.set(cycle, kind::ISO)?;
-        match self.front.row() {
+        self.prefix.set(cycle, kind::ISO)?;
+        match self.prefix.row() {
             Some((row, size)) if is_usual_iso(p) => self.text.put_iso(row, size, p),
             _ => {
-                make_iso(&mut self.object, &self.front, &self.pairs, p)?;
+                make_iso(&mut self.object, &self.prefix, &self.pairs, p)?;
                 self.text.put(&self.object)
             }
         }
@@ -134,10 +134,10 @@ impl Lines {
         epoch: u32,
         latest: &LatestReset,
     ) -> Result<(), AllocError>
-        ensures { OnOk result (self.new ≡ self.old ++ (front_fields cycle RESET ++ (field (codes ",\"epoch\":") (decimal epoch) ++ latest.now) ++ codes "}\n")) }
+        ensures { OnOk result (self.new ≡ self.old ++ (prefix_fields cycle RESET ++ (field (codes ",\"epoch\":") (decimal epoch) ++ latest.now) ++ codes "}\n")) }
     {
-        self.front.set(cycle, kind::RESET)?;
-        make_epoch(&mut self.object, &self.front, epoch)?;
+        self.prefix.set(cycle, kind::RESET)?;
+        make_epoch(&mut self.object, &self.prefix, epoch)?;
         self.text.put(&self.object)?;
         self.text.put(latest.as_slice())?;
         self.text.put(b"}\n")
@@ -147,14 +147,14 @@ impl Lines {
 // Makes an object, from its beginning on.
 fn make_object(
     object: &mut Vec<u8>,
-    front: &FrontRow,
+    prefix: &PrefixRow,
     pairs: &Pairs,
     what: &Entry,
 ) -> Result<(), AllocError>
-    ensures { OnOk result (object.new.items ≡ front.now ++ what_fields what.now ++ codes "}\n") }
+    ensures { OnOk result (object.new.items ≡ prefix.now ++ what_fields what.now ++ codes "}\n") }
 {
     object.clear();
-    put_text(object, front.as_slice())?;
+    put_text(object, prefix.as_slice())?;
     put_what(object, pairs, what)?;
     put_word(object, "}\n")
 }
@@ -162,23 +162,23 @@ fn make_object(
 // Makes that of an isochronous packet.
 fn make_iso(
     object: &mut Vec<u8>,
-    front: &FrontRow,
+    prefix: &PrefixRow,
     pairs: &Pairs,
     p: &IsoPacket,
 ) -> Result<(), AllocError>
-    ensures { OnOk result (object.new.items ≡ front.now ++ iso_fields p.now ++ codes "}\n") }
+    ensures { OnOk result (object.new.items ≡ prefix.now ++ iso_fields p.now ++ codes "}\n") }
 {
     object.clear();
-    put_text(object, front.as_slice())?;
+    put_text(object, prefix.as_slice())?;
     put_iso(object, pairs, p)?;
     put_word(object, "}\n")
 }
 
 // Makes what the object of a bus reset begins with, up to its epoch.
-fn make_epoch(object: &mut Vec<u8>, front: &FrontRow, epoch: u32) -> Result<(), AllocError>
-    ensures { OnOk result (object.new.items ≡ front.now ++ field (codes ",\"epoch\":") (decimal epoch)) }
+fn make_epoch(object: &mut Vec<u8>, prefix: &PrefixRow, epoch: u32) -> Result<(), AllocError>
+    ensures { OnOk result (object.new.items ≡ prefix.now ++ field (codes ",\"epoch\":") (decimal epoch)) }
 {
     object.clear();
-    put_text(object, front.as_slice())?;
+    put_text(object, prefix.as_slice())?;
     put_count(object, r#","epoch":"#, u64::from(epoch))
 }

@@ -21,19 +21,19 @@ sizes_are h is =
     ∙ ap (λ (n : ℕ). sizes_of h.dbs h.fraction n false) (sym is.padding) ∙ ap (λ (b : Bool). sizes_of h.dbs h.fraction h.qpc b) (sym is.header)
 
 -- four pieces after what follows a text
-four_after : (before text front a b c d : List ℕ) → text ≡ before ++ front → text ++ (a ++ b ++ c ++ d) ≡ before ++ (front ++ a ++ b ++ c ++ d)
-four_after before text front a b c d e =
-    let t1 : text ++ a ≡ before ++ (front ++ a) = then before text (text ++ a) front a e refl in
-    let t2 : text ++ a ++ b ≡ before ++ (front ++ a ++ b) = then before (text ++ a) (text ++ a ++ b) (front ++ a) b t1 refl in
-    let t3 : text ++ a ++ b ++ c ≡ before ++ (front ++ a ++ b ++ c) = then before (text ++ a ++ b) (text ++ a ++ b ++ c) (front ++ a ++ b) c t2 refl in
-    four text a b c d ∙ then before (text ++ a ++ b ++ c) (text ++ a ++ b ++ c ++ d) (front ++ a ++ b ++ c) d t3 refl
+four_after : (before text prefix a b c d : List ℕ) → text ≡ before ++ prefix → text ++ (a ++ b ++ c ++ d) ≡ before ++ (prefix ++ a ++ b ++ c ++ d)
+four_after before text prefix a b c d e =
+    let t1 : text ++ a ≡ before ++ (prefix ++ a) = then before text (text ++ a) prefix a e refl in
+    let t2 : text ++ a ++ b ≡ before ++ (prefix ++ a ++ b) = then before (text ++ a) (text ++ a ++ b) (prefix ++ a) b t1 refl in
+    let t3 : text ++ a ++ b ++ c ≡ before ++ (prefix ++ a ++ b ++ c) = then before (text ++ a ++ b) (text ++ a ++ b ++ c) (prefix ++ a ++ b) c t2 refl in
+    four text a b c d ∙ then before (text ++ a ++ b ++ c) (text ++ a ++ b ++ c ++ d) (prefix ++ a ++ b ++ c) d t3 refl
 
 -- three
-three_after : (before text front a b c : List ℕ) → text ≡ before ++ front → text ++ (a ++ b ++ c) ≡ before ++ (front ++ a ++ b ++ c)
-three_after before text front a b c e =
-    let t1 : text ++ a ≡ before ++ (front ++ a) = then before text (text ++ a) front a e refl in
-    let t2 : text ++ a ++ b ≡ before ++ (front ++ a ++ b) = then before (text ++ a) (text ++ a ++ b) (front ++ a) b t1 refl in
-    three text a b c ∙ then before (text ++ a ++ b) (text ++ a ++ b ++ c) (front ++ a ++ b) c t2 refl
+three_after : (before text prefix a b c : List ℕ) → text ≡ before ++ prefix → text ++ (a ++ b ++ c) ≡ before ++ (prefix ++ a ++ b ++ c)
+three_after before text prefix a b c e =
+    let t1 : text ++ a ≡ before ++ (prefix ++ a) = then before text (text ++ a) prefix a e refl in
+    let t2 : text ++ a ++ b ≡ before ++ (prefix ++ a ++ b) = then before (text ++ a) (text ++ a ++ b) (prefix ++ a) b t1 refl in
+    three text a b c ∙ then before (text ++ a ++ b) (text ++ a ++ b ++ c) (prefix ++ a ++ b) c t2 refl
 
 -- the header of a usual packet
 pub cip_written : (before first second third last : List ℕ) (h : CipHeader) → IsUsualCip h → first ≡ before ++ field (codes ",\"sid\":") (decimal h.sid)

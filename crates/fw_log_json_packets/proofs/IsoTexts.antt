@@ -11,9 +11,9 @@ use Rattle.fw_log_json_packets.proofs.Joins.{longer_text}
 -- the digits of a number of three
 pub three_digits : (n : ℕ) → 100 ≤ n → n < 1000 → decimal n ≡ (48 + n / 100) ∷ (48 + n / 10 % 10) ∷ (48 + n % 10) ∷ []
 three_digits n more less =
-    let front : decimal (n / 10) ≡ (48 + n / 100) ∷ (48 + n / 10 % 10) ∷ [] =
+    let prefix : decimal (n / 10) ≡ (48 + n / 100) ∷ (48 + n / 10 % 10) ∷ [] =
     two_digits (n / 10) (omega arith) (omega arith) ∙ ap (λ (d : ℕ). (48 + d) ∷ (48 + n / 10 % 10) ∷ []) (let e : n / 10 / 10 ≡ n / 100 = omega arith in e) in
-    decimal_step n (omega arith) (omega arith) ∙ ap (λ (d : List ℕ). d ++ (48 + n % 10) ∷ []) front
+    decimal_step n (omega arith) (omega arith) ∙ ap (λ (d : List ℕ). d ++ (48 + n % 10) ∷ []) prefix
 
 dbs_digits : decimal 120 ≡ 49 ∷ 50 ∷ 48 ∷ []
 dbs_digits = decimal_step 120 (omega arith) (omega arith) ∙ ap (λ (d : List ℕ). d ++ 48 ∷ []) (two_digits 12 (omega arith) (omega arith))

@@ -1,7 +1,7 @@
 -- The packets of the usual kinds, by the fields that stand in their bytes.
 use Rattle.std.proofs.Common.{◌≡◌, ℕ, List, take, drop, arith, ap, sym, ◌∙◌}
 use Rattle.fw_words.specs.Quadlet.{field, quadlet_at}
-use Rattle.fw_async.specs.Reading.{tcode_of}
+use Rattle.fw_async_fields.specs.Reading.{tcode_of}
 use Rattle.fw_async.specs.Reader.{Spells}
 use Rattle.fw_async.specs.declared.packet.Head.{Head}
 use Rattle.fw_async.specs.declared.packet.Packet.{Packet}

@@ -4,8 +4,9 @@ use Rattle.std.proofs.Math.Seq.{take-append_seam}
 use Rattle.std.specs.Int.{to_be_bytes, w32}
 use Rattle.fw_words.specs.Quadlet.{field, quadlet_at}
 use Rattle.fw_words.specs.Layout.{packed}
-use Rattle.fw_async.specs.Async.{HeadFits, Fits, spelling, head_fields, size, padding, padded}
-use Rattle.fw_async.specs.Reading.{tcode_of}
+use Rattle.fw_async.specs.Async.{HeadFits, Fits, spelling, head_fields, size, padded}
+use Rattle.fw_async_fields.specs.Data.{padding}
+use Rattle.fw_async_fields.specs.Reading.{tcode_of}
 use Rattle.fw_async.specs.declared.packet.Head.{Head}
 use Rattle.fw_async.specs.declared.packet.Packet.{Packet}
 use Rattle.fw_async.specs.declared.packet.Packet.TheVariants.{WriteQuadlet, WriteBlock, WriteReply, ReadQuadlet, ReadBlock, ReadQuadletReply, ReadBlockReply, CycleStart, Lock, LockReply}

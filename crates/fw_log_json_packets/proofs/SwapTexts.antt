@@ -36,11 +36,11 @@ unfolding field quoted
 lock_written before first second last bytes n count e f g =
     let key : List ℕ = codes ",\"data\":\"" in
     let size : List ℕ = codes ",\"data_length\":" in
-    let front : List ℕ = (size ++ decimal n) ++ function in
+    let prefix : List ℕ = (size ++ decimal n) ++ function in
     let digits : List ℕ = hex_bytes bytes in
-    let all : last ≡ before ++ (((front ++ key) ++ digits) ++ codes "\"") =
-    then before second last ((front ++ key) ++ digits) (codes "\"") (then before first second (front ++ key) digits e f) g in
-    all ∙ ap (λ (t : List ℕ). before ++ t) (append_assoc (front ++ key) digits (codes "\"") ∙ append_assoc front key (digits ++ codes "\""))
+    let all : last ≡ before ++ (((prefix ++ key) ++ digits) ++ codes "\"") =
+    then before second last ((prefix ++ key) ++ digits) (codes "\"") (then before first second (prefix ++ key) digits e f) g in
+    all ∙ ap (λ (t : List ℕ). before ++ t) (append_assoc (prefix ++ key) digits (codes "\"") ∙ append_assoc prefix key (digits ++ codes "\""))
     ∙ ap (λ (k : ℕ). before ++ (((size ++ decimal k) ++ function) ++ (key ++ (digits ++ codes "\"")))) (sym count)
 
 -- the key of the data and a quotation mark, the digits, and a quotation mark

@@ -7,7 +7,7 @@ ghost use Rattle.fw_log_json_packets.specs.Standing.{head_standing};
 ghost use Rattle.fw_log_json_packets.specs.Usual.{IsUsualCode, IsUsualHead};
 
 use crate::parts::{addressee, place, quadlet, usual_sender};
-use crate::rows::{FRONT, write_front, write_row};
+use crate::rows::{PREFIX, write_prefix, write_row};
 use crate::standing::head_in;
 use fw_async::Head;
 use fw_log_names::Pairs;
@@ -63,26 +63,26 @@ pub(crate) fn write_head(out: &mut [u8], at: usize, pairs: &Pairs, h: &Head) -> 
     write_row(out, at, usual_sender(pairs, h.source))
 }
 
-// Writes a front, a transaction code with its name, and the head that stands in the bytes of a packet.
+// Writes a prefix, a transaction code with its name, and the head that stands in the bytes of a packet.
 #[inline(always)]
 pub(crate) fn write_opening<const N: usize>(
     out: &mut [u8],
     at: usize,
-    front: &[u8; FRONT],
+    prefix: &[u8; PREFIX],
     size: usize,
     code: [u8; N],
     pairs: &Pairs,
     bytes: &[u8],
 ) -> usize
-    requires front { size ≤ 64 }
+    requires prefix { size ≤ 64 }
     requires head { 8 ≤ length bytes.now }
     requires usual { IsUsualHead (head_standing bytes.now) }
     requires room { at + N + 155 ≤ length out.old }
     ensures size { length out.new ≡ length out.old }
     ensures end { result ≤ at + N + 155 }
-    ensures text { take result out.new ≡ take at out.old ++ (take size front.now ++ (code.entry ++ head_fields (head_standing bytes.now))) }
+    ensures text { take result out.new ≡ take at out.old ++ (take size prefix.now ++ (code.entry ++ head_fields (head_standing bytes.now))) }
 {
-    let at = write_front(out, at, front, size);
+    let at = write_prefix(out, at, prefix, size);
     let at = write_row(out, at, code);
     write_head(out, at, pairs, &head_in(bytes))
 }

@@ -22,6 +22,6 @@ mod usual_iso;
 pub use cip::{block_bytes, has_usual_sizes, is_untimed_525, is_untimed_625};
 pub use digits::{LONGEST, digits_of, write_digits};
 pub use parts::{addressee, place, quadlet, usual_sender};
-pub use rows::FRONT;
+pub use rows::PREFIX;
 pub use text_room::TextRoom;
 pub use usual_iso::is_usual_iso;

@@ -3,7 +3,7 @@
 ghost use Rattle.std.specs.Prelude.{◌≡◌, ◌≤◌, ◌+◌, ◌++◌, length, take};
 ghost use Rattle.fw_words.specs.Quadlet.{quadlet_at};
 ghost use Rattle.fw_async.specs.Reader.{Spells};
-ghost use Rattle.fw_async.specs.Reading.{tcode_of};
+ghost use Rattle.fw_async_fields.specs.Reading.{tcode_of};
 ghost use Rattle.fw_async.specs.declared.packet.Packet.{Packet};
 ghost use Rattle.fw_log_json_packets.specs.Packets.{packet_fields};
 ghost use Rattle.fw_log_json_packets.specs.Standing.{block_standing, head_standing};
@@ -13,7 +13,7 @@ use crate::blocks::write_place_block;
 use crate::fields::{write_opening, write_place_quadlet};
 use crate::kinds;
 use crate::parts::place;
-use crate::rows::{FRONT, write_row};
+use crate::rows::{PREFIX, write_row};
 use crate::standing::offset_in;
 use crate::swaps::write_place_swap;
 use fw_log_names::Pairs;
@@ -24,21 +24,21 @@ use fw_words::quadlet_at;
 pub(crate) fn write_read(
     out: &mut [u8],
     at: usize,
-    front: &[u8; FRONT],
+    prefix: &[u8; PREFIX],
     size: usize,
     pairs: &Pairs,
     bytes: &[u8],
 ) -> usize
-    requires front { size ≤ 64 }
+    requires prefix { size ≤ 64 }
     requires three { length bytes.now ≡ 12 }
     requires usual { IsUsualHead (head_standing bytes.now) }
     requires code { tcode_of bytes.now ≡ 4 }
     requires room { at + 1400 ≤ length out.old }
     ensures size { length out.new ≡ length out.old }
     ensures end { result ≤ at + 1400 }
-    ensures text { (p : Packet) → Spells p bytes.now → take result out.new ≡ take at out.old ++ (take size front.now ++ packet_fields p) }
+    ensures text { (p : Packet) → Spells p bytes.now → take result out.new ≡ take at out.old ++ (take size prefix.now ++ packet_fields p) }
 {
-    let at = write_opening(out, at, front, size, kinds::read_quadlet(), pairs, bytes);
+    let at = write_opening(out, at, prefix, size, kinds::read_quadlet(), pairs, bytes);
     write_row(out, at, place(pairs, offset_in(bytes)))
 }
 
@@ -47,21 +47,21 @@ pub(crate) fn write_read(
 pub(crate) fn write_write(
     out: &mut [u8],
     at: usize,
-    front: &[u8; FRONT],
+    prefix: &[u8; PREFIX],
     size: usize,
     pairs: &Pairs,
     bytes: &[u8],
 ) -> usize
-    requires front { size ≤ 64 }
+    requires prefix { size ≤ 64 }
     requires four { length bytes.now ≡ 16 }
     requires usual { IsUsualHead (head_standing bytes.now) }
     requires code { tcode_of bytes.now ≡ 0 }
     requires room { at + 1400 ≤ length out.old }
     ensures size { length out.new ≡ length out.old }
     ensures end { result ≤ at + 1400 }
-    ensures text { (p : Packet) → Spells p bytes.now → take result out.new ≡ take at out.old ++ (take size front.now ++ packet_fields p) }
+    ensures text { (p : Packet) → Spells p bytes.now → take result out.new ≡ take at out.old ++ (take size prefix.now ++ packet_fields p) }
 {
-    let at = write_opening(out, at, front, size, kinds::write_quadlet(), pairs, bytes);
+    let at = write_opening(out, at, prefix, size, kinds::write_quadlet(), pairs, bytes);
     write_place_quadlet(out, at, pairs, offset_in(bytes), quadlet_at(bytes, 12).0)
 }
 
@@ -70,13 +70,13 @@ pub(crate) fn write_write(
 pub(crate) fn write_block_request(
     out: &mut [u8],
     at: usize,
-    front: &[u8; FRONT],
+    prefix: &[u8; PREFIX],
     size: usize,
     pairs: &Pairs,
     bytes: &[u8],
     block: &[u8],
 ) -> usize
-    requires front { size ≤ 64 }
+    requires prefix { size ≤ 64 }
     requires four { 16 ≤ length bytes.now }
     requires few { length block.now ≤ 512 }
     requires usual { IsUsualHead (head_standing bytes.now) }
@@ -85,9 +85,9 @@ pub(crate) fn write_block_request(
     requires room { at + 1400 ≤ length out.old }
     ensures size { length out.new ≡ length out.old }
     ensures end { result ≤ at + 1400 }
-    ensures text { (p : Packet) → Spells p bytes.now → take result out.new ≡ take at out.old ++ (take size front.now ++ packet_fields p) }
+    ensures text { (p : Packet) → Spells p bytes.now → take result out.new ≡ take at out.old ++ (take size prefix.now ++ packet_fields p) }
 {
-    let at = write_opening(out, at, front, size, kinds::write_block(), pairs, bytes);
+    let at = write_opening(out, at, prefix, size, kinds::write_block(), pairs, bytes);
     write_place_block(out, at, pairs, offset_in(bytes), block)
 }
 
@@ -96,12 +96,12 @@ pub(crate) fn write_block_request(
 pub(crate) fn write_swap_request(
     out: &mut [u8],
     at: usize,
-    front: &[u8; FRONT],
+    prefix: &[u8; PREFIX],
     size: usize,
     pairs: &Pairs,
     bytes: &[u8],
 ) -> usize
-    requires front { size ≤ 64 }
+    requires prefix { size ≤ 64 }
     requires six { length bytes.now ≡ 24 }
     requires usual { IsUsualHead (head_standing bytes.now) }
     requires code { tcode_of bytes.now ≡ 9 }
@@ -109,8 +109,8 @@ pub(crate) fn write_swap_request(
     requires room { at + 1400 ≤ length out.old }
     ensures size { length out.new ≡ length out.old }
     ensures end { result ≤ at + 1400 }
-    ensures text { (p : Packet) → Spells p bytes.now → take result out.new ≡ take at out.old ++ (take size front.now ++ packet_fields p) }
+    ensures text { (p : Packet) → Spells p bytes.now → take result out.new ≡ take at out.old ++ (take size prefix.now ++ packet_fields p) }
 {
-    let at = write_opening(out, at, front, size, kinds::lock(), pairs, bytes);
+    let at = write_opening(out, at, prefix, size, kinds::lock(), pairs, bytes);
     write_place_swap(out, at, pairs, offset_in(bytes), &bytes[16..24])
 }

@@ -1,7 +1,7 @@
 //! The fields of a packet, read from where they stand in its bytes.
 
 ghost use Rattle.std.specs.Prelude.{◌≡◌, ◌≤◌, IfSome, length};
-ghost use Rattle.fw_async.specs.Reading.{tcode_of};
+ghost use Rattle.fw_async_fields.specs.Reading.{tcode_of};
 ghost use Rattle.fw_log_json_packets.specs.Standing.{head_standing, offset_standing, rcode_standing, block_standing};
 ghost use Rattle.fw_log_json_packets.specs.Usual.{IsUsualCode, IsUsualHead};
 

@@ -15,7 +15,7 @@ use fw_log_names::Pairs;
 
 // The size and the function of the data of a compare_swap, the key of the data and a quotation mark.
 #[inline(always)]
-fn swap_front() -> [u8; 81]
+fn swap_prefix() -> [u8; 81]
     ensures { result ≡ field (codes ",\"data_length\":") (decimal 8) ++ code (codes ",\"extended_tcode\":") 2 (codes ",\"extended_tcode_name\":") (function_name 2) ++ codes ",\"data\":\"" }
 {
     *b",\"data_length\":8,\"extended_tcode\":2,\"extended_tcode_name\":\"compare_swap\",\"data\":\""
@@ -23,7 +23,7 @@ fn swap_front() -> [u8; 81]
 
 // Those of its old value.
 #[inline(always)]
-fn old_front() -> [u8; 81]
+fn old_prefix() -> [u8; 81]
     ensures { result ≡ field (codes ",\"data_length\":") (decimal 4) ++ code (codes ",\"extended_tcode\":") 2 (codes ",\"extended_tcode_name\":") (function_name 2) ++ codes ",\"data\":\"" }
 {
     *b",\"data_length\":4,\"extended_tcode\":2,\"extended_tcode_name\":\"compare_swap\",\"data\":\""
@@ -67,7 +67,7 @@ fn write_swap(out: &mut [u8], at: usize, pairs: &Pairs, bytes: &[u8]) -> usize
     ensures end { result ≡ at + 98 }
     ensures text { take result out.new ≡ take at out.old ++ lock_fields 2 bytes.now }
 {
-    let at = write_row(out, at, swap_front());
+    let at = write_row(out, at, swap_prefix());
     let at = write_eight(out, at, pairs, bytes);
     write_row(out, at, *b"\"")
 }
@@ -81,7 +81,7 @@ fn write_old(out: &mut [u8], at: usize, pairs: &Pairs, bytes: &[u8]) -> usize
     ensures end { result ≡ at + 90 }
     ensures text { take result out.new ≡ take at out.old ++ lock_fields 2 bytes.now }
 {
-    let at = write_row(out, at, old_front());
+    let at = write_row(out, at, old_prefix());
     let at = write_four(out, at, pairs, bytes);
     write_row(out, at, *b"\"")
 }

@@ -6,7 +6,7 @@ ghost use Rattle.fw_async.specs.declared.packet.Packet.{Packet};
 ghost use Rattle.fw_log_json_packets.specs.Packets.{iso_fields, packet_fields};
 ghost use Rattle.fw_log_json_packets.specs.Usual.{IsUsualIso};
 
-use crate::rows::FRONT;
+use crate::rows::PREFIX;
 use crate::usual::write_packet;
 use crate::usual_iso::write_iso;
 use fw_cip::IsoPacket;
@@ -107,17 +107,17 @@ impl TextRoom {
     #[inline(always)]
     pub fn put_packet(
         &mut self,
-        front: &[u8; FRONT],
+        prefix: &[u8; PREFIX],
         size: usize,
         pairs: &Pairs,
         bytes: &[u8],
     ) -> Result<bool, AllocError>
-        requires front { size ≤ 64 }
-        ensures object { (p : Packet) → Spells p bytes.now → IfOk result (λ put. IsTrue put → self.new ≡ self.old ++ (take size front.now ++ (packet_fields p ++ codes "}\n"))) }
+        requires prefix { size ≤ 64 }
+        ensures object { (p : Packet) → Spells p bytes.now → IfOk result (λ put. IsTrue put → self.new ≡ self.old ++ (take size prefix.now ++ (packet_fields p ++ codes "}\n"))) }
         ensures other { IfOk result (λ put. put ≡ false → self.new ≡ self.old) }
     {
         make_room(&mut self.bytes, self.filled, OBJECT)?;
-        match write_packet(&mut self.bytes, self.filled, front, size, pairs, bytes) {
+        match write_packet(&mut self.bytes, self.filled, prefix, size, pairs, bytes) {
             Some(end) => {
                 self.filled = end;
                 Ok(true)
@@ -130,16 +130,16 @@ impl TextRoom {
     #[inline(always)]
     pub fn put_iso(
         &mut self,
-        front: &[u8; FRONT],
+        prefix: &[u8; PREFIX],
         size: usize,
         p: &IsoPacket,
     ) -> Result<(), AllocError>
-        requires front { size ≤ 64 }
+        requires prefix { size ≤ 64 }
         requires usual { IsUsualIso p.now }
-        ensures { OnOk result (self.new ≡ self.old ++ (take size front.now ++ (iso_fields p.now ++ codes "}\n"))) }
+        ensures { OnOk result (self.new ≡ self.old ++ (take size prefix.now ++ (iso_fields p.now ++ codes "}\n"))) }
     {
         make_room(&mut self.bytes, self.filled, OBJECT)?;
-        self.filled = write_iso(&mut self.bytes, self.filled, front, size, p);
+        self.filled = write_iso(&mut self.bytes, self.filled, prefix, size, p);
         Ok(())
     }
 }

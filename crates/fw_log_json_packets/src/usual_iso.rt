@@ -12,7 +12,7 @@ use crate::blocks::write_data;
 use crate::cip::{LINES_525_UNTIMED, block_bytes, has_usual_sizes, is_untimed_525, is_untimed_625};
 use crate::digits::LONGEST;
 use crate::fields::write_count;
-use crate::rows::{FRONT, write_front, write_row};
+use crate::rows::{PREFIX, write_prefix, write_row};
 use fw_cip::{CipHeader, IsoPacket};
 
 // Whether the blocks are those of SD-DVCR, without a time stamp.
@@ -122,18 +122,18 @@ fn write_fields(out: &mut [u8], at: usize, p: &IsoPacket) -> usize
 pub(crate) fn write_iso(
     out: &mut [u8],
     at: usize,
-    front: &[u8; FRONT],
+    prefix: &[u8; PREFIX],
     size: usize,
     p: &IsoPacket,
 ) -> usize
-    requires front { size ≤ 64 }
+    requires prefix { size ≤ 64 }
     requires usual { IsUsualIso p.now }
     requires room { at + 1536 ≤ length out.old }
     ensures size { length out.new ≡ length out.old }
     ensures end { result ≤ at + 1536 }
-    ensures text { take result out.new ≡ take at out.old ++ (take size front.now ++ (iso_fields p.now ++ codes "}\n")) }
+    ensures text { take result out.new ≡ take at out.old ++ (take size prefix.now ++ (iso_fields p.now ++ codes "}\n")) }
 {
-    let at = write_front(out, at, front, size);
+    let at = write_prefix(out, at, prefix, size);
     let at = write_fields(out, at, p);
     write_row(out, at, *b"}\n")
 }

@@ -9,7 +9,7 @@ use Rattle.fw_log_entry.specs.declared.version.Version.{Version}
 use Rattle.fw_log.specs.History.{bytes_of, IsLog}
 use Rattle.fw_log.specs.Reading.{version_in}
 use Rattle.fw_log.specs.declared.LogFault.{LogFault}
-use Rattle.fw_log.proofs.HistoryLaws.{behind, one_log}
+use Rattle.fw_log.proofs.HistoryLaws.{following, one_log}
 use Rattle.fw_log.proofs.SameLaws.{version_back}
 use Rattle.fw_log_loop.specs.Readings.{Form, Rules, IsAccepted}
 use Rattle.fw_log_loop.specs.declared.ending.LogEnding.{LogEnding}
@@ -38,24 +38,24 @@ never_refused entries all bytes rest log f r is s =
     is ∙ sym (split_past (r.index + 1) (bytes_of r.begins.version entries) r.part rest bytes r.begins.same) in
     r.none all s.version (drop (r.index + 1) r.part ++ rest) (subst P line s.spells.opens)
 
-faulted_by : (entries all : List Timed) (log bytes behind : List ℕ) (before : ℕ) (left' : Option (List ℕ)) (f : LogFault) → Takes (Some log) left' (bytes ++ behind) → IsLog all log
-    → RefusesSoon entries bytes behind f before ⊎ ((behind ≡ []) × IsAtEnd left' × EndsEarly entries bytes f × (length bytes ≡ before)) → ⊥
-faulted_by entries all log bytes behind before left' f t s (inl r) =
-    let told = told_parts log (bytes ++ behind) left' t in
-    never_refused entries all bytes (behind ++ told.0) log f r.refuses (told.1 ∙ append_assoc bytes behind told.0) s
-faulted_by entries all log bytes behind before left' f t s (inr r) =
-    let same : bytes ≡ log = sym (append-nil bytes) ∙ ap (λ (x : List ℕ). bytes ++ x) (sym r.0) ∙ told_end log (bytes ++ behind) left' t r.1 in
+faulted_by : (entries all : List Timed) (log bytes following : List ℕ) (before : ℕ) (left' : Option (List ℕ)) (f : LogFault) → Takes (Some log) left' (bytes ++ following) → IsLog all log
+    → RefusesSoon entries bytes following f before ⊎ ((following ≡ []) × IsAtEnd left' × EndsEarly entries bytes f × (length bytes ≡ before)) → ⊥
+faulted_by entries all log bytes following before left' f t s (inl r) =
+    let told = told_parts log (bytes ++ following) left' t in
+    never_refused entries all bytes (following ++ told.0) log f r.refuses (told.1 ∙ append_assoc bytes following told.0) s
+faulted_by entries all log bytes following before left' f t s (inr r) =
+    let same : bytes ≡ log = sym (append-nil bytes) ∙ ap (λ (x : List ℕ). bytes ++ x) (sym r.0) ∙ told_end log (bytes ++ following) left' t r.1 in
     let P : List ℕ → Type 0 = IsLog all in
     r.2.none all (subst P (sym same) s)
 
 never_faulted : {form : Form} {accepts : List Timed → Type 0} (all : List Timed) (log : List ℕ) (left' held held' : Option (List ℕ)) (f : LogFault) → IsLog all log
     → Faulted form accepts (Some log) left' held held' f → ⊥
-never_faulted all log left' held held' f s d = faulted_by d.entries all log d.bytes d.behind d.before left' f d.taken s d.refused
+never_faulted all log left' held held' f s d = faulted_by d.entries all log d.bytes d.following d.before left' f d.taken s d.refused
 
 never_passed : {form : Form} {accepts : List Timed → Type 0} (log : List ℕ) (left' held held' : Option (List ℕ)) → length log ≤ limit → PassedLimit form accepts (Some log) left' held held' → ⊥
 never_passed log left' held held' short d =
-    let told = told_parts log (d.bytes ++ d.behind) left' d.taken in
-    omega (arith, short, d.full, d.more, ap length told.1, length-append (d.bytes ++ d.behind) told.0, length-append d.bytes d.behind)
+    let told = told_parts log (d.bytes ++ d.following) left' d.taken in
+    omega (arith, short, d.full, d.more, ap length told.1, length-append (d.bytes ++ d.following) told.0, length-append d.bytes d.following)
 
 -- ---- and the word does not refuse it
 
@@ -64,9 +64,9 @@ bytes_some v [] t = refl
 bytes_some v (x ∷ xs) t = refl
 
 -- the entries that were read are the first of the log
-front_read : (xs : List Timed) (t : Timed) (all : List Timed) (log bytes rest : List ℕ) → Begins (xs ++ t ∷ []) [] bytes → log ≡ bytes ++ rest → IsLog all log → (later : List Timed)
+prefix_read : (xs : List Timed) (t : Timed) (all : List Timed) (log bytes rest : List ℕ) → Begins (xs ++ t ∷ []) [] bytes → log ≡ bytes ++ rest → IsLog all log → (later : List Timed)
     × (all ≡ (xs ++ t ∷ []) ++ later)
-front_read xs t all log bytes rest b is s =
+prefix_read xs t all log bytes rest b is s =
     let v = b.version in
     let es : List Timed = xs ++ t ∷ [] in
     let line : bytes_of v es ++ rest ≡ log = ap (λ (x : List ℕ). x ++ rest) (sym (append-nil (bytes_of v es)) ∙ b.same) ∙ sym is in
@@ -74,15 +74,15 @@ front_read xs t all log bytes rest b is s =
     sym (append_assoc (header_bytes v) (entries_bytes v 0 es) rest) ∙ ap (λ (x : List ℕ). x ++ rest) (sym (bytes_some v xs t)) ∙ line in
     let same : v ≡ s.version = sym (version_back v (entries_bytes v 0 es ++ rest)) ∙ ap version_in (regroup ∙ sym s.spells.opens.same) ∙ version_back s.version (entries_bytes s.version 0 all) in
     let P : Version → Type 0 = λ w. LogOpens all w log in
-    let y = behind v es all rest log b.order line (subst P (sym same) s.spells.opens) in
+    let y = following v es all rest log b.order line (subst P (sym same) s.spells.opens) in
     (y.rest, y.all_is)
 
 never_rejected : {R : Type 0} {form : Form} (rules : Rules R) (all : List Timed) (log : List ℕ) (left' held held' : Option (List ℕ)) (refusal : R) → IsLog all log → IsAccepted rules all
     → Rejected form rules (Some log) left' held held' refusal → ⊥
 never_rejected rules all log left' held held' refusal s a d =
-    let told = told_parts log (d.bytes ++ d.behind) left' d.taken in
-    let front = front_read d.before d.last all log d.bytes (d.behind ++ told.0) d.begins (told.1 ∙ append_assoc d.bytes d.behind told.0) s in
-    a.entry (d.before ++ d.last ∷ []) front.0 refusal front.1 d.rejected
+    let told = told_parts log (d.bytes ++ d.following) left' d.taken in
+    let prefix = prefix_read d.before d.last all log d.bytes (d.following ++ told.0) d.begins (told.1 ∙ append_assoc d.bytes d.following told.0) s in
+    a.entry (d.before ++ d.last ∷ []) prefix.0 refusal prefix.1 d.rejected
 
 never_refused_whole : {R : Type 0} {form : Form} (rules : Rules R) (all : List Timed) (log : List ℕ) (left' held held' : Option (List ℕ)) (refusal : R) → IsLog all log → IsAccepted rules all
     → RefusedWhole form rules (Some log) left' held held' refusal → ⊥

@@ -5,7 +5,7 @@ use Rattle.std.proofs.lemmas.List.{append-nil, take-append-drop, take-take, leng
 use Rattle.fw_outside.specs.Outside.{Takes, Grows, IsAtEnd}
 use Rattle.fw_outside.specs.Stops.{ReadCount}
 use Rattle.fw_outside.specs.declared.stop.Stop.TheVariants.{ReadFault, WriteFault, TooLong, NoMemory}
-use Rattle.fw_outside.proofs.Parts.{Takes-Takes, Takes-nothing, Grows-Grows, then_front}
+use Rattle.fw_outside.proofs.Parts.{Takes-Takes, Takes-nothing, Grows-Grows, then_prefix}
 use Rattle.fw_log_entry.specs.Log.{header_bytes, entries_bytes}
 use Rattle.fw_log_entry.specs.declared.version.Version.TheVariants.{One}
 use Rattle.fw_log_entry.specs.declared.entry.Timed.{Timed}
@@ -20,8 +20,8 @@ use Rattle.fw_log_loop.specs.Endings.{opened, limit, piece_size, stop_of, IsRead
 use Rattle.fw_log_loop.specs.declared.ending.LogEnd.TheVariants.{Whole}
 use Rattle.fw_log_loop.specs.declared.ending.LogEnding.{LogEnding}
 use Rattle.fw_log_loop.specs.declared.ending.LogEnding.TheVariants.{Done, NoLog, Refused, Stopped}
-use Rattle.fw_log_loop.specs.Pieces.{PrintsMore, PrintsTo, PrintsLast, PrintsFront, StopsAt, DecodedTo, ClosesLog, ClosesPart, EndsLog, taking, ReadsTo}
-use Rattle.fw_log_loop.proofs.Texts.{nothing_grew, grows_due, front_due, front_later, opened_is, none_before, front_of_none, front_of_all}
+use Rattle.fw_log_loop.specs.Pieces.{PrintsMore, PrintsTo, PrintsLast, PrintsPrefix, StopsAt, DecodedTo, ClosesLog, ClosesPart, EndsLog, taking, ReadsTo}
+use Rattle.fw_log_loop.proofs.Texts.{nothing_grew, grows_due, prefix_due, prefix_later, opened_is, none_before, prefix_of_none, prefix_of_all}
 use Rattle.fw_log_loop.proofs.Printings.{begins_of}
 
 -- how many bytes a reader has taken
@@ -92,7 +92,7 @@ part_end {R} {form} rules {Took} {left} {left1} {held} {held1} left2 held2 d too
   accepted = took d.entries d.took;
   last = c.last;
   closed = c.closed;
-  grew = then_front held held1 held2 (written (bare form) d.entries) c.last (whole_head form held held1 d.entries d.bytes f.complete d.grew) c.grew;
+  grew = then_prefix held held1 held2 (written (bare form) d.entries) c.last (whole_head form held held1 d.entries d.bytes f.complete d.grew) c.grew;
 }
 
 -- or the log is refused
@@ -120,7 +120,7 @@ all_end {form} {Took} {left} {left1} {held} {held1} left2 d e =
       part = _;
       begins = begins_of d.read;
       end = Whole;
-      grew = front_of_all held held1 (opened form.head (length d.bytes) ++ form.text [] d.entries) d.grew;
+      grew = prefix_of_all held held1 (opened form.head (length d.bytes) ++ form.text [] d.entries) d.grew;
     }
 
 no_spelling : (entries : List Timed) (bytes : List ℕ) (f : LogFault) → Finishes entries bytes (Err f) → (all : List Timed) → IsLog all bytes → ⊥
@@ -139,7 +139,7 @@ faulted_end {form} {Took} accepts {left} {left1} {held} {held1} {r} {room} left2
     record {
       entries = d.entries;
       bytes = d.bytes;
-      behind = [];
+      following = [];
       taken = Takes-Takes left left1 left2 d.bytes [] d.taken e.0;
       within = omega (arith, d.count);
       before = length d.bytes;
@@ -206,7 +206,7 @@ part_nothing form left held = record {
   part = [];
   begins = record { version = One; order = tt; same = refl };
   end = Whole;
-  grew = front_of_none held (form.closed [] Whole (form.front ++ (opened form.head 0 ++ form.text [] [])));
+  grew = prefix_of_none held (form.closed [] Whole (form.prefix ++ (opened form.head 0 ++ form.text [] [])));
 }
 
 -- so a word that finds no memory before it reads promises no less
@@ -222,37 +222,37 @@ nothing_read {S} {K} {R} form rules source sink same kept = record {
 
 -- a piece of which not all was printed
 stopped_part : {form : Form} (each : IsEach form.text) {Took : List Timed → Type 0} {left left1 held held1 : Option (List ℕ)} {r : State} {room : ℕ} (left2 held2 : Option (List ℕ))
-    (piece behind : List ℕ) (d : DecodedTo form Took left left1 held held1 r room)
-    → Takes left1 left2 (piece ++ behind) → PrintsFront form held1 held2 d.entries (d.bytes ++ piece) (length d.bytes) → PartRead (bare form) left left2 held held2
-stopped_part {form} each {Took} {left} {left1} {held} {held1} {r} {room} left2 held2 piece behind d t p = record {
+    (piece following : List ℕ) (d : DecodedTo form Took left left1 held held1 r room)
+    → Takes left1 left2 (piece ++ following) → PrintsPrefix form held1 held2 d.entries (d.bytes ++ piece) (length d.bytes) → PartRead (bare form) left left2 held held2
+stopped_part {form} each {Took} {left} {left1} {held} {held1} {r} {room} left2 held2 piece following d t p = record {
   entries = d.entries ++ p.more;
-  bytes = d.bytes ++ (piece ++ behind);
-  taken = Takes-Takes left left1 left2 d.bytes (piece ++ behind) d.taken t;
-  part = p.part ++ behind;
+  bytes = d.bytes ++ (piece ++ following);
+  taken = Takes-Takes left left1 left2 d.bytes (piece ++ following) d.taken t;
+  part = p.part ++ following;
   begins = record {
     version = p.begins.version;
     order = p.begins.order;
-    same = sym (append_assoc (bytes_of p.begins.version (d.entries ++ p.more)) p.part behind) ∙ ap (λ (x : List ℕ). x ++ behind) p.begins.same ∙ append_assoc d.bytes piece behind;
+    same = sym (append_assoc (bytes_of p.begins.version (d.entries ++ p.more)) p.part following) ∙ ap (λ (x : List ℕ). x ++ following) p.begins.same ∙ append_assoc d.bytes piece following;
   };
   end = Whole;
-  grew = front_later each form.head (d.entries ++ p.more) (length (d.bytes ++ piece)) (length (d.bytes ++ (piece ++ behind))) held held2
-      (omega (arith, length-append d.bytes piece, length-append d.bytes (piece ++ behind), length-append piece behind))
+  grew = prefix_later each form.head (d.entries ++ p.more) (length (d.bytes ++ piece)) (length (d.bytes ++ (piece ++ following))) held held2
+      (omega (arith, length-append d.bytes piece, length-append d.bytes (piece ++ following), length-append piece following))
       (none_before p.begins.version (d.entries ++ p.more) p.part (d.bytes ++ piece) p.begins.same)
-      (front_due each form.head d.entries p.more (length d.bytes) (length (d.bytes ++ piece)) held held1 held2 (λ h. omega (arith, h, length-append d.bytes piece))
+      (prefix_due each form.head d.entries p.more (length d.bytes) (length (d.bytes ++ piece)) held held1 held2 (λ h. omega (arith, h, length-append d.bytes piece))
       (none_before d.read.version d.entries r.taken d.bytes d.read.same) d.grew p.grew);
 }
 
 stopped_fault : {form : Form} (each : IsEach form.text) (accepts : List Timed → Type 0) {Took : List Timed → Type 0} {left left1 held held1 : Option (List ℕ)} {r : State} {room : ℕ}
-    (left2 held2 : Option (List ℕ)) (piece behind : List ℕ) (f : LogFault) (d : DecodedTo form Took left left1 held held1 r room)
-    → Takes left1 left2 (piece ++ behind) → length piece ≤ room → length piece + length behind ≤ piece_size → PrintsTo form accepts held1 held2 d.entries d.bytes piece f
+    (left2 held2 : Option (List ℕ)) (piece following : List ℕ) (f : LogFault) (d : DecodedTo form Took left left1 held held1 r room)
+    → Takes left1 left2 (piece ++ following) → length piece ≤ room → length piece + length following ≤ piece_size → PrintsTo form accepts held1 held2 d.entries d.bytes piece f
     → Faulted (bare form) accepts left left2 held held2 f
-stopped_fault {form} each accepts {Took} {left} {left1} {held} {held1} {r} {room} left2 held2 piece behind f d t within few p =
+stopped_fault {form} each accepts {Took} {left} {left1} {held} {held1} {r} {room} left2 held2 piece following f d t within few p =
     let T : List ℕ → Type 0 = Takes left left2 in
     record {
       entries = d.entries ++ p.more;
       bytes = d.bytes ++ piece;
-      behind = behind;
-      taken = subst T (sym (append_assoc d.bytes piece behind)) (Takes-Takes left left1 left2 d.bytes (piece ++ behind) d.taken t);
+      following = following;
+      taken = subst T (sym (append_assoc d.bytes piece following)) (Takes-Takes left left1 left2 d.bytes (piece ++ following) d.taken t);
       within = omega (arith, d.count, length-append d.bytes piece);
       before = length (bytes_of p.refuses.begins.version (d.entries ++ p.more)) + p.refuses.index;
       refused = inl (record { refuses = p.refuses; place = refl; soon = omega (arith, p.soon, few) });
@@ -264,23 +264,23 @@ stopped_fault {form} each accepts {Took} {left} {left1} {held} {held1} {r} {room
 
 -- the log is refused at an entry
 stopped_last : {R : Type 0} {form : Form} (each : IsEach form.text) (rules : Rules R) {Took : List Timed → Type 0} {left left1 held held1 : Option (List ℕ)} {r : State} {room : ℕ}
-    (left2 held2 : Option (List ℕ)) (piece behind : List ℕ) (refusal : R) (d : DecodedTo form Took left left1 held held1 r room)
-    → Takes left1 left2 (piece ++ behind) → length piece ≤ room → length piece + length behind ≤ piece_size → PrintsLast form rules held1 held2 d.entries d.bytes piece refusal
+    (left2 held2 : Option (List ℕ)) (piece following : List ℕ) (refusal : R) (d : DecodedTo form Took left left1 held held1 r room)
+    → Takes left1 left2 (piece ++ following) → length piece ≤ room → length piece + length following ≤ piece_size → PrintsLast form rules held1 held2 d.entries d.bytes piece refusal
     → Rejected (bare form) rules left left2 held held2 refusal
-stopped_last {R} {form} each rules {Took} {left} {left1} {held} {held1} {r} {room} left2 held2 piece behind refusal d t within few p =
+stopped_last {R} {form} each rules {Took} {left} {left1} {held} {held1} {r} {room} left2 held2 piece following refusal d t within few p =
     let T : List ℕ → Type 0 = Takes left left2 in
-    let line : d.bytes ++ (piece ++ behind) ≡ (d.bytes ++ p.done) ++ (p.rest ++ behind) =
-    ap (λ (x : List ℕ). d.bytes ++ x) (ap (λ (x : List ℕ). x ++ behind) (sym p.parts) ∙ append_assoc p.done p.rest behind) ∙ sym (append_assoc d.bytes p.done (p.rest ++ behind)) in
+    let line : d.bytes ++ (piece ++ following) ≡ (d.bytes ++ p.done) ++ (p.rest ++ following) =
+    ap (λ (x : List ℕ). d.bytes ++ x) (ap (λ (x : List ℕ). x ++ following) (sym p.parts) ∙ append_assoc p.done p.rest following) ∙ sym (append_assoc d.bytes p.done (p.rest ++ following)) in
     let size : length p.done + length p.rest ≡ length piece = omega (arith, ap length p.parts, length-append p.done p.rest) in
     let P : List ℕ → Type 0 = λ x. Grows held held2 (x ++ form.text [] (d.entries ++ p.more)) in
     record {
       before = d.entries ++ p.more;
       last = p.last;
       bytes = d.bytes ++ p.done;
-      behind = p.rest ++ behind;
-      taken = subst T line (Takes-Takes left left1 left2 d.bytes (piece ++ behind) d.taken t);
+      following = p.rest ++ following;
+      taken = subst T line (Takes-Takes left left1 left2 d.bytes (piece ++ following) d.taken t);
       within = omega (arith, d.count, within, size, length-append d.bytes p.done);
-      few = omega (arith, few, size, length-append p.rest behind);
+      few = omega (arith, few, size, length-append p.rest following);
       begins = p.begins;
       accepted = p.accepted;
       rejected = p.rejected;
@@ -289,42 +289,42 @@ stopped_last {R} {form} each rules {Took} {left} {left1} {held} {held1} {r} {roo
     }
 
 stopped : {R : Type 0} {form : Form} (each : IsEach form.text) (rules : Rules R)
-    (Took' : List Timed → Type 0) {Took : List Timed → Type 0} {left left1 held held1 : Option (List ℕ)} {r : State} {room : ℕ} (left2 held2 : Option (List ℕ)) (piece behind : List ℕ)
+    (Took' : List Timed → Type 0) {Took : List Timed → Type 0} {left left1 held held1 : Option (List ℕ)} {r : State} {room : ℕ} (left2 held2 : Option (List ℕ)) (piece following : List ℕ)
     (e : LogEnding R) (d : DecodedTo form Took left left1 held held1 r room)
-    → Takes left1 left2 (piece ++ behind) → length piece ≤ room → length piece + length behind ≤ piece_size → StopsAt form rules Took' held1 held2 d.entries d.bytes piece e
+    → Takes left1 left2 (piece ++ following) → length piece ≤ room → length piece + length following ≤ piece_size → StopsAt form rules Took' held1 held2 d.entries d.bytes piece e
     → ReadsTo (bare form) rules Took' left left2 held held2 e
-stopped each rules Took' left2 held2 piece behind (NoLog f) d t within few s = stopped_fault each Took' left2 held2 piece behind f d t within few s
-stopped each rules Took' left2 held2 piece behind (Refused u) d t within few s = inl (stopped_last each rules left2 held2 piece behind u d t within few s)
-stopped each rules Took' left2 held2 piece behind (Stopped WriteFault) d t within few s = inl (stopped_part each left2 held2 piece behind d t s)
-stopped each rules Took' left2 held2 piece behind (Stopped NoMemory) d t within few s = stopped_part each left2 held2 piece behind d t s
-stopped each rules Took' left2 held2 piece behind (Stopped ReadFault) d t within few s = absurd s
-stopped each rules Took' left2 held2 piece behind (Stopped TooLong) d t within few s = absurd s
-stopped each rules Took' left2 held2 piece behind Done d t within few s = absurd s
+stopped each rules Took' left2 held2 piece following (NoLog f) d t within few s = stopped_fault each Took' left2 held2 piece following f d t within few s
+stopped each rules Took' left2 held2 piece following (Refused u) d t within few s = inl (stopped_last each rules left2 held2 piece following u d t within few s)
+stopped each rules Took' left2 held2 piece following (Stopped WriteFault) d t within few s = inl (stopped_part each left2 held2 piece following d t s)
+stopped each rules Took' left2 held2 piece following (Stopped NoMemory) d t within few s = stopped_part each left2 held2 piece following d t s
+stopped each rules Took' left2 held2 piece following (Stopped ReadFault) d t within few s = absurd s
+stopped each rules Took' left2 held2 piece following (Stopped TooLong) d t within few s = absurd s
+stopped each rules Took' left2 held2 piece following Done d t within few s = absurd s
 
 -- some of the bytes were looked at
 pub stopped_in : {R : Type 0} {form : Form} (each : IsEach form.text) (rules : Rules R)
-    (Took' : List Timed → Type 0) {Took : List Timed → Type 0} {left left1 held held1 : Option (List ℕ)} {r : State} {room : ℕ} (left2 held2 : Option (List ℕ)) (piece behind : List ℕ)
+    (Took' : List Timed → Type 0) {Took : List Timed → Type 0} {left left1 held held1 : Option (List ℕ)} {r : State} {room : ℕ} (left2 held2 : Option (List ℕ)) (piece following : List ℕ)
     (e : LogEnding R) (d : DecodedTo form Took left left1 held held1 r room)
-    → Takes left1 left2 (piece ++ behind) → length piece ≤ room → length piece + length behind ≤ piece_size → (front rest : List ℕ) × (front ++ rest ≡ piece)
-    × StopsAt form rules Took' held1 held2 d.entries d.bytes front e → ReadsTo (bare form) rules Took' left left2 held held2 e
-stopped_in each rules Took' {left1 = left1} left2 held2 piece behind e d t within few s =
+    → Takes left1 left2 (piece ++ following) → length piece ≤ room → length piece + length following ≤ piece_size → (prefix rest : List ℕ) × (prefix ++ rest ≡ piece)
+    × StopsAt form rules Took' held1 held2 d.entries d.bytes prefix e → ReadsTo (bare form) rules Took' left left2 held held2 e
+stopped_in each rules Took' {left1 = left1} left2 held2 piece following e d t within few s =
     let T : List ℕ → Type 0 = Takes left1 left2 in
-    stopped each rules Took' left2 held2 s.0 (s.1 ++ behind) e d (subst T (ap (λ (x : List ℕ). x ++ behind) (sym s.2) ∙ append_assoc s.0 s.1 behind) t)
+    stopped each rules Took' left2 held2 s.0 (s.1 ++ following) e d (subst T (ap (λ (x : List ℕ). x ++ following) (sym s.2) ∙ append_assoc s.0 s.1 following) t)
     (omega (arith, within, ap length s.2, length-append s.0 s.1))
-    (omega (arith, few, ap length s.2, length-append s.0 s.1, length-append s.1 behind)) s.3
+    (omega (arith, few, ap length s.2, length-append s.0 s.1, length-append s.1 following)) s.3
 
 -- more bytes came than the limit
 pub passed : {form : Form} (each : IsEach form.text) {accepts : List Timed → Type 0} {Took Took' : List Timed → Type 0} {left left1 held held1 : Option (List ℕ)} {r : State} {room : ℕ}
-    → ((es : List Timed) → Took' es → accepts es) → (left2 held2 : Option (List ℕ)) (new : State) (piece behind : List ℕ)
-    (d : DecodedTo form Took left left1 held held1 r room) → Takes left1 left2 (piece ++ behind) → length piece ≡ room → 0 < length behind → length behind ≤ piece_size
+    → ((es : List Timed) → Took' es → accepts es) → (left2 held2 : Option (List ℕ)) (new : State) (piece following : List ℕ)
+    (d : DecodedTo form Took left left1 held held1 r room) → Takes left1 left2 (piece ++ following) → length piece ≡ room → 0 < length following → length following ≤ piece_size
     → PrintsMore form Took' held1 held2 d.entries d.bytes piece new → PassedLimit (bare form) accepts left left2 held held2
-passed {form} each {accepts} {Took} {Took'} {left} {left1} {held} {held1} {r} {room} took left2 held2 new piece behind d t full some few p =
+passed {form} each {accepts} {Took} {Took'} {left} {left1} {held} {held1} {r} {room} took left2 held2 new piece following d t full some few p =
     let T : List ℕ → Type 0 = Takes left left2 in
     record {
       entries = d.entries ++ p.more;
       bytes = d.bytes ++ piece;
-      behind = behind;
-      taken = subst T (sym (append_assoc d.bytes piece behind)) (Takes-Takes left left1 left2 d.bytes (piece ++ behind) d.taken t);
+      following = following;
+      taken = subst T (sym (append_assoc d.bytes piece following)) (Takes-Takes left left1 left2 d.bytes (piece ++ following) d.taken t);
       full = omega (arith, d.count, full, length-append d.bytes piece);
       more = some;
       few = few;
@@ -345,7 +345,17 @@ pub read_by : {R : Type 0} (form : Form) (rules : Rules R) (Took : List Timed �
     → ReadsTo form rules Took left left' held held' e → Reads form rules left left' held held' e
 read_by form rules Took left left' held held' Done took d = record { entries = d.entries; read = d.read; accepted = took d.entries d.accepted; last = d.last; closed = d.closed; grew = d.grew }
 read_by form rules Took left left' held held' (NoLog f) took d =
-    record { entries = d.entries; bytes = d.bytes; behind = d.behind; taken = d.taken; within = d.within; before = d.before; refused = d.refused; accepted = took d.entries d.accepted; grew = d.grew }
+    record {
+      entries = d.entries;
+      bytes = d.bytes;
+      following = d.following;
+      taken = d.taken;
+      within = d.within;
+      before = d.before;
+      refused = d.refused;
+      accepted = took d.entries d.accepted;
+      grew = d.grew;
+    }
 read_by form rules Took left left' held held' (Refused u) took d = d
 read_by form rules Took left left' held held' (Stopped ReadFault) took d =
     record { entries = d.entries; bytes = d.bytes; taken = d.taken; within = d.within; part = d.part; begins = d.begins; pending = d.pending; accepted = took d.entries d.accepted; grew = d.grew }
@@ -353,7 +363,7 @@ read_by form rules Took left left' held held' (Stopped WriteFault) took d = d
 read_by form rules Took left left' held held' (Stopped TooLong) took d = record {
   entries = d.entries;
   bytes = d.bytes;
-  behind = d.behind;
+  following = d.following;
   taken = d.taken;
   full = d.full;
   more = d.more;
@@ -381,8 +391,8 @@ cut_at n m xs within = ap (λ (x : List ℕ). x ++ drop n (take m xs)) (sym (tak
 pub few_taken : (n m : ℕ) (xs : List ℕ) → n ≤ m → m ≤ length xs → length xs ≤ piece_size → length (take n xs) + length (drop n (take m xs)) ≤ piece_size
 few_taken n m xs less fits size = omega (arith, less, fits, size, length-take-le n xs (omega (arith, less, fits)), length-take-le m xs fits, length-drop n (take m xs))
 
-pub few_behind : {k : ℕ} (n : ℕ) → n + k ≤ piece_size → k ≤ piece_size
-few_behind n h = omega (arith, h)
+pub few_following : {k : ℕ} (n : ℕ) → n + k ≤ piece_size → k ≤ piece_size
+few_following n h = omega (arith, h)
 
 -- ---- the end of the input meets no fault of the source
 

@@ -3,10 +3,10 @@ use Rattle.std.proofs.Common.{◌≡◌, ℕ, ◌+◌, ◌≤◌, ◌<◌, List,
 use Rattle.std.proofs.Common.{Option, None, Some, Result, Ok, Err, refl, arith, sym, subst, ap, ◌∙◌, append_assoc, length-append}
 use Rattle.std.proofs.lemmas.Bool.Decides.{nat_tests}
 use Rattle.std.proofs.lemmas.List.{append-nil}
-use Rattle.fw_outside.specs.Outside.{Grows, AppendsFront}
+use Rattle.fw_outside.specs.Outside.{Grows, AppendsPrefix}
 use Rattle.fw_outside.specs.Stops.{ReadCount}
 use Rattle.fw_outside.specs.declared.stop.Stop.TheVariants.{ReadFault, WriteFault, TooLong, NoMemory}
-use Rattle.fw_outside.proofs.Parts.{Grows-Grows, then_front, front_then}
+use Rattle.fw_outside.proofs.Parts.{Grows-Grows, then_prefix, prefix_then}
 use Rattle.fw_log_entry.specs.Log.{header_bytes, epoch_after, entry_bytes, entries_bytes}
 use Rattle.fw_log_entry.specs.declared.version.Version.{Version}
 use Rattle.fw_log_entry.specs.declared.entry.Timed.{Timed}
@@ -19,17 +19,17 @@ use Rattle.fw_log_loop.specs.declared.ending.LogEnd.{LogEnd}
 use Rattle.fw_log_loop.specs.declared.ending.LogEnding.{LogEnding}
 use Rattle.fw_log_loop.specs.declared.ending.LogEnding.TheVariants.{Done, NoLog, Refused, Stopped}
 use Rattle.fw_log_loop.specs.Pieces.{TakesPiece, Gathers, GathersUpTo, GathersToLast, Prints, PrintsUpTo, PrintsToLast, PrintsPart}
-use Rattle.fw_log_loop.specs.Pieces.{Stops, PrintsPiece, opening, PrintsTo, PrintsFront, StopsAt, PrintsBytes}
-use Rattle.fw_log_loop.proofs.Texts.{front_of_none}
+use Rattle.fw_log_loop.specs.Pieces.{Stops, PrintsPiece, opening, PrintsTo, PrintsPrefix, StopsAt, PrintsBytes}
+use Rattle.fw_log_loop.proofs.Texts.{prefix_of_none}
 
 abbrev pub begins_of : {entries : List Timed} {bytes : List ℕ} {r : State} → HasRead entries bytes r → Begins entries r.taken bytes
 begins_of h = record { version = h.version; order = h.order; same = h.same }
 
-pub begins_before : (entries : List Timed) (part bytes behind : List ℕ) → Begins entries part bytes → Begins entries (part ++ behind) (bytes ++ behind)
-begins_before entries part bytes behind b = record {
+pub begins_before : (entries : List Timed) (part bytes following : List ℕ) → Begins entries part bytes → Begins entries (part ++ following) (bytes ++ following)
+begins_before entries part bytes following b = record {
   version = b.version;
   order = b.order;
-  same = sym (append_assoc (bytes_of b.version entries) part behind) ∙ ap (λ (x : List ℕ). x ++ behind) b.same;
+  same = sym (append_assoc (bytes_of b.version entries) part following) ∙ ap (λ (x : List ℕ). x ++ following) b.same;
 }
 
 -- the text that was gathered, if none was before
@@ -66,35 +66,35 @@ printed_to_last {R} {text} {rules} {held} {held'} {entries = entries} none g w =
 
 -- not all was written
 printed_part : {text : Text} {Took : List Timed → Type 0} {held held' : Option (List ℕ)} {old new : List ℕ} {entries : List Timed} {bytes : List ℕ} {r : State}
-    → old ≡ [] → Gathers text Took old new entries bytes r → AppendsFront held held' new → PrintsPart text held held' entries bytes
+    → old ≡ [] → Gathers text Took old new entries bytes r → AppendsPrefix held held' new → PrintsPart text held held' entries bytes
 printed_part {text} {Took} {held} {held'} {entries = entries} none g w =
-    let P : List ℕ → Type 0 = AppendsFront held held' in
+    let P : List ℕ → Type 0 = AppendsPrefix held held' in
     record { more = g.more; part = _; begins = begins_of g.read; grew = subst P (whole (text entries g.more) none g.gathered) w }
 
 printed_part_up_to : {text : Text} {accepts : List Timed → Type 0} {held held' : Option (List ℕ)} {old new : List ℕ} {entries : List Timed} {bytes piece : List ℕ} {f : LogFault}
-    → old ≡ [] → GathersUpTo text accepts old new entries bytes piece f → AppendsFront held held' new → PrintsPart text held held' entries (bytes ++ piece)
+    → old ≡ [] → GathersUpTo text accepts old new entries bytes piece f → AppendsPrefix held held' new → PrintsPart text held held' entries (bytes ++ piece)
 printed_part_up_to {text} {accepts} {held} {held'} {entries = entries} none g w =
-    let P : List ℕ → Type 0 = AppendsFront held held' in
+    let P : List ℕ → Type 0 = AppendsPrefix held held' in
     record { more = g.more; part = g.refuses.part; begins = g.refuses.begins; grew = subst P (whole (text entries g.more) none g.gathered) w }
 
 printed_part_to_last : {R : Type 0} {text : Text} (e : IsEach text) {rules : Rules R} {held held' : Option (List ℕ)} {old new : List ℕ} {entries : List Timed} {bytes piece : List ℕ} {refusal : R}
-    → old ≡ [] → GathersToLast text rules old new entries bytes piece refusal → AppendsFront held held' new → PrintsPart text held held' entries (bytes ++ piece)
+    → old ≡ [] → GathersToLast text rules old new entries bytes piece refusal → AppendsPrefix held held' new → PrintsPart text held held' entries (bytes ++ piece)
 printed_part_to_last {R} {text} e {rules} {held} {held'} {old} {new} {entries} {bytes} {piece} none g w =
-    let P : List ℕ → Type 0 = AppendsFront held held' in
+    let P : List ℕ → Type 0 = AppendsPrefix held held' in
     let B : List Timed → Type 0 = λ es. Begins es g.rest (bytes ++ piece) in
-    let behind = begins_before ((entries ++ g.more) ++ g.last ∷ []) [] (bytes ++ g.done) g.rest g.begins in
+    let following = begins_before ((entries ++ g.more) ++ g.last ∷ []) [] (bytes ++ g.done) g.rest g.begins in
     record {
       more = g.more ++ g.last ∷ [];
       part = g.rest;
       begins = subst B (append_assoc entries g.more (g.last ∷ []))
-          (record { version = behind.version; order = behind.order; same = behind.same ∙ append_assoc bytes g.done g.rest ∙ ap (λ (x : List ℕ). bytes ++ x) g.parts });
-      grew = subst P (sym (e.more entries g.more (g.last ∷ []))) (front_then held held' (text entries g.more) (text (entries ++ g.more) (g.last ∷ []))
+          (record { version = following.version; order = following.order; same = following.same ∙ append_assoc bytes g.done g.rest ∙ ap (λ (x : List ℕ). bytes ++ x) g.parts });
+      grew = subst P (sym (e.more entries g.more (g.last ∷ []))) (prefix_then held held' (text entries g.more) (text (entries ++ g.more) (g.last ∷ []))
           (subst P (whole (text entries g.more) none g.gathered) w));
     }
 
 pub written_part : {R : Type 0} (text : Text) (e : IsEach text) (rules : Rules R) (Took : List Timed → Type 0) {held held' : Option (List ℕ)} {old : List ℕ} (new : List ℕ) (entries : List Timed)
     (bytes piece : List ℕ) (r : State) (o : Option (LogEnding R))
-    → old ≡ [] → TakesPiece text rules Took old new entries bytes piece r (Ok o) → AppendsFront held held' new → PrintsPart text held held' entries (bytes ++ piece)
+    → old ≡ [] → TakesPiece text rules Took old new entries bytes piece r (Ok o) → AppendsPrefix held held' new → PrintsPart text held held' entries (bytes ++ piece)
 written_part text e rules Took new entries bytes piece r None none g w = printed_part none g w
 written_part text e rules Took new entries bytes piece r (Some (NoLog f)) none g w = printed_part_up_to none g w
 written_part text e rules Took new entries bytes piece r (Some (Refused u)) none g w = printed_part_to_last e none g w
@@ -124,7 +124,7 @@ written text rules Took Took' held held' old new entries bytes piece r (Some f) 
 pub printed_nothing : (text : Text) (held : Option (List ℕ)) (entries : List Timed) (bytes piece : List ℕ) (r : State) → HasRead entries bytes r → PrintsPart text held held entries (bytes ++ piece)
 printed_nothing text held entries bytes piece r h =
     let P : List Timed → Type 0 = λ es. Begins es (r.taken ++ piece) (bytes ++ piece) in
-    record { more = []; part = r.taken ++ piece; begins = subst P (sym (append-nil entries)) (begins_before entries r.taken bytes piece (begins_of h)); grew = front_of_none held (text entries []) }
+    record { more = []; part = r.taken ++ piece; begins = subst P (sym (append-nil entries)) (begins_before entries r.taken bytes piece (begins_of h)); grew = prefix_of_none held (text entries []) }
 
 -- ---- the bytes of a read
 
@@ -176,20 +176,20 @@ none_yet v (t ∷ ts) part bytes e short =
     let some = some_entry v 0 t ts in
     absurd (omega (arith, short, some, ap length e, length-append (bytes_of v (t ∷ ts)) part, length-append (header_bytes v) (entries_bytes v 0 (t ∷ ts))))
 
-behind_none : (xs ys : List Timed) → xs ++ ys ≡ [] → ys ≡ []
-behind_none [] ys e = e
-behind_none (x ∷ xs) ys e = cc e
+following_none : (xs ys : List Timed) → xs ++ ys ≡ [] → ys ≡ []
+following_none [] ys e = e
+following_none (x ∷ xs) ys e = cc e
 
 no_last : (xs : List Timed) (t : Timed) → xs ++ t ∷ [] ≡ [] → ⊥
 no_last [] t e = cc e
 no_last (x ∷ xs) t e = cc e
 
-stops_behind : {R : Type 0} (form : Form) (rules : Rules R) (Took : List Timed → Type 0) (held held' : Option (List ℕ)) (entries : List Timed) (bytes piece : List ℕ) (e : LogEnding R)
+stops_after : {R : Type 0} (form : Form) (rules : Rules R) (Took : List Timed → Type 0) (held held' : Option (List ℕ)) (entries : List Timed) (bytes piece : List ℕ) (e : LogEnding R)
     → 16 ≤ length bytes → Stops form.text rules Took held held' entries bytes piece e → StopsAt form rules Took held held' entries bytes piece e
-stops_behind form rules Took held held' entries bytes piece (NoLog f) whole s =
+stops_after form rules Took held held' entries bytes piece (NoLog f) whole s =
     let P : List ℕ → Type 0 = λ x. Grows held held' (x ++ form.text entries s.more) in
     record { more = s.more; refuses = s.refuses; soon = s.soon; accepted = s.accepted; grew = subst P (sym (opening_none form.head (length bytes) _ whole)) s.grew }
-stops_behind form rules Took held held' entries bytes piece (Refused u) whole s =
+stops_after form rules Took held held' entries bytes piece (Refused u) whole s =
     let P : List ℕ → Type 0 = λ x. Grows held held' (x ++ form.text entries s.more) in
     record {
       more = s.more;
@@ -202,15 +202,15 @@ stops_behind form rules Took held held' entries bytes piece (Refused u) whole s 
       rejected = s.rejected;
       grew = subst P (sym (opening_none form.head (length bytes) 16 whole)) s.grew;
     }
-stops_behind form rules Took held held' entries bytes piece (Stopped WriteFault) whole s =
-    let P : List ℕ → Type 0 = λ x. AppendsFront held held' (x ++ form.text entries s.more) in
+stops_after form rules Took held held' entries bytes piece (Stopped WriteFault) whole s =
+    let P : List ℕ → Type 0 = λ x. AppendsPrefix held held' (x ++ form.text entries s.more) in
     record { more = s.more; part = s.part; begins = s.begins; grew = subst P (sym (opening_none form.head (length bytes) (length (bytes ++ piece)) whole)) s.grew }
-stops_behind form rules Took held held' entries bytes piece (Stopped NoMemory) whole s =
-    let P : List ℕ → Type 0 = λ x. AppendsFront held held' (x ++ form.text entries s.more) in
+stops_after form rules Took held held' entries bytes piece (Stopped NoMemory) whole s =
+    let P : List ℕ → Type 0 = λ x. AppendsPrefix held held' (x ++ form.text entries s.more) in
     record { more = s.more; part = s.part; begins = s.begins; grew = subst P (sym (opening_none form.head (length bytes) (length (bytes ++ piece)) whole)) s.grew }
-stops_behind form rules Took held held' entries bytes piece (Stopped ReadFault) whole s = absurd s
-stops_behind form rules Took held held' entries bytes piece (Stopped TooLong) whole s = absurd s
-stops_behind form rules Took held held' entries bytes piece Done whole s = absurd s
+stops_after form rules Took held held' entries bytes piece (Stopped ReadFault) whole s = absurd s
+stops_after form rules Took held held' entries bytes piece (Stopped TooLong) whole s = absurd s
+stops_after form rules Took held held' entries bytes piece Done whole s = absurd s
 
 -- a part that is refused before the header is whole
 to_before : (form : Form) (accepts : List Timed → Type 0) (held held' : Option (List ℕ)) (entries : List Timed) (bytes piece : List ℕ) (f : LogFault) → length (bytes ++ piece) ≤ 16
@@ -234,35 +234,35 @@ last_before text rules held held' entries bytes piece refusal short s =
     (omega (arith, short, length-append bytes piece, length-append bytes s.done, ap length s.parts, length-append s.done s.rest))))
 
 -- if no entry ended yet nothing is written, whatever is due after it
-front_before : (form : Form) (held held' : Option (List ℕ)) (entries : List Timed) (bytes piece : List ℕ) → IsEach form.text → length (bytes ++ piece) ≤ 16
+prefix_before : (form : Form) (held held' : Option (List ℕ)) (entries : List Timed) (bytes piece : List ℕ) → IsEach form.text → length (bytes ++ piece) ≤ 16
     → PrintsPart form.text held held' entries (bytes ++ piece)
-    → PrintsFront form held held' entries (bytes ++ piece) (length bytes)
-front_before form held held' entries bytes piece e short s =
+    → PrintsPrefix form held held' entries (bytes ++ piece) (length bytes)
+prefix_before form held held' entries bytes piece e short s =
     let none : entries ++ s.more ≡ [] = none_yet s.begins.version (entries ++ s.more) s.part (bytes ++ piece) s.begins.same short in
-    let more : s.more ≡ [] = behind_none entries s.more none in
-    let P : List ℕ → Type 0 = AppendsFront held held' in
-    let nothing : AppendsFront held held' [] = subst P (ap (form.text entries) more ∙ e.none entries) s.grew in
-    record { more = s.more; part = s.part; begins = s.begins; grew = front_then held held' [] (opening form.head (length bytes) (length (bytes ++ piece)) ++ form.text entries s.more) nothing }
+    let more : s.more ≡ [] = following_none entries s.more none in
+    let P : List ℕ → Type 0 = AppendsPrefix held held' in
+    let nothing : AppendsPrefix held held' [] = subst P (ap (form.text entries) more ∙ e.none entries) s.grew in
+    record { more = s.more; part = s.part; begins = s.begins; grew = prefix_then held held' [] (opening form.head (length bytes) (length (bytes ++ piece)) ++ form.text entries s.more) nothing }
 
 stops_before : {R : Type 0} (form : Form) (rules : Rules R) (Took : List Timed → Type 0) (held held' : Option (List ℕ)) (entries : List Timed) (bytes piece : List ℕ) (e : LogEnding R)
     → IsEach form.text → length (bytes ++ piece) ≤ 16 → Stops form.text rules Took held held' entries bytes piece e
     → StopsAt form rules Took held held' entries bytes piece e
 stops_before form rules Took held held' entries bytes piece (NoLog f) each short s = to_before form Took held held' entries bytes piece f short s
 stops_before form rules Took held held' entries bytes piece (Refused u) each short s = last_before form.text rules held held' entries bytes piece u short s
-stops_before form rules Took held held' entries bytes piece (Stopped WriteFault) each short s = front_before form held held' entries bytes piece each short s
-stops_before form rules Took held held' entries bytes piece (Stopped NoMemory) each short s = front_before form held held' entries bytes piece each short s
+stops_before form rules Took held held' entries bytes piece (Stopped WriteFault) each short s = prefix_before form held held' entries bytes piece each short s
+stops_before form rules Took held held' entries bytes piece (Stopped NoMemory) each short s = prefix_before form held held' entries bytes piece each short s
 stops_before form rules Took held held' entries bytes piece (Stopped ReadFault) each short s = absurd s
 stops_before form rules Took held held' entries bytes piece (Stopped TooLong) each short s = absurd s
 stops_before form rules Took held held' entries bytes piece Done each short s = absurd s
 
 -- those of a read after the header
-pub bytes_behind : {R : Type 0} (form : Form) (rules : Rules R) (Took : List Timed → Type 0) (held held' : Option (List ℕ)) (entries : List Timed) (bytes piece : List ℕ) (reader : State)
+pub bytes_after : {R : Type 0} (form : Form) (rules : Rules R) (Took : List Timed → Type 0) (held held' : Option (List ℕ)) (entries : List Timed) (bytes piece : List ℕ) (reader : State)
     (r : Result (Unit {0}) (LogEnding R))
     → 16 ≤ length bytes → PrintsPiece form.text rules Took held held' entries bytes piece reader r → PrintsBytes form rules Took held held' entries bytes piece reader r
-bytes_behind form rules Took held held' entries bytes piece reader (Ok u) whole p =
+bytes_after form rules Took held held' entries bytes piece reader (Ok u) whole p =
     let P : List ℕ → Type 0 = λ x. Grows held held' (x ++ form.text entries p.more) in
     record { more = p.more; read = p.read; took = p.took; grew = subst P (sym (opening_none form.head (length bytes) _ whole)) p.grew }
-bytes_behind form rules Took held held' entries bytes piece reader (Err e) whole s = (piece, [], append-nil piece, stops_behind form rules Took held held' entries bytes piece e whole s)
+bytes_after form rules Took held held' entries bytes piece reader (Err e) whole s = (piece, [], append-nil piece, stops_after form rules Took held held' entries bytes piece e whole s)
 
 -- none of it was due yet
 pub bytes_before : {R : Type 0} (form : Form) (rules : Rules R) (Took : List Timed → Type 0) (held held' : Option (List ℕ)) (entries : List Timed) (bytes piece : List ℕ) (reader : State)
@@ -275,24 +275,25 @@ bytes_before form rules Took held held' entries bytes piece reader (Err e) each 
     (piece, [], append-nil piece, stops_before form rules Took held held' entries bytes piece e each (omega (arith, short)) s)
 
 -- the bytes up to the header's end were not all read
-pub bytes_stopped : {R : Type 0} (form : Form) (rules : Rules R) (Took : List Timed → Type 0) (held held' : Option (List ℕ)) (entries : List Timed) (bytes front behind piece : List ℕ)
-    (e : LogEnding R) → IsEach form.text → length (bytes ++ front) ≤ 16 → front ++ behind ≡ piece
-    → Stops form.text rules Took held held' entries bytes front e → (x y : List ℕ) × (x ++ y ≡ piece) × StopsAt form rules Took held held' entries bytes x e
-bytes_stopped form rules Took held held' entries bytes front behind piece e each short line s = (front, behind, line, stops_before form rules Took held held' entries bytes front e each short s)
+pub bytes_stopped : {R : Type 0} (form : Form) (rules : Rules R) (Took : List Timed → Type 0) (held held' : Option (List ℕ)) (entries : List Timed) (bytes prefix following piece : List ℕ)
+    (e : LogEnding R) → IsEach form.text → length (bytes ++ prefix) ≤ 16 → prefix ++ following ≡ piece
+    → Stops form.text rules Took held held' entries bytes prefix e → (x y : List ℕ) × (x ++ y ≡ piece) × StopsAt form rules Took held held' entries bytes x e
+bytes_stopped form rules Took held held' entries bytes prefix following piece e each short line s =
+    (prefix, following, line, stops_before form rules Took held held' entries bytes prefix e each short s)
 
 -- the header becomes whole in it: the bytes up to its end, then what is due, then those after it
-pub bytes_opened : {R : Type 0} (form : Form) (rules : Rules R) (Took Took' : List Timed → Type 0) (held mid held1 held2 : Option (List ℕ)) (entries : List Timed) (bytes front : List ℕ)
-    (reader : State) (behind : List ℕ) (new : State) (r : Result (Unit {0}) (LogEnding R))
-    → IsEach form.text → length (bytes ++ front) ≡ 16 → 0 < length front → Prints form.text Took held mid entries (bytes ++ front) reader → Grows mid held1 form.head
-    → ((es : List Timed) (bs : List ℕ) → HasRead es bs reader → Took es → PrintsPiece form.text rules Took' held1 held2 es bs behind new r)
-    → PrintsBytes form rules Took' held held2 entries bytes (front ++ behind) new r
-bytes_opened {R} form rules Took Took' held mid held1 held2 entries bytes front reader behind new r each whole some p wrote next = go r (next (entries ++ p.more) (bytes ++ front) p.read p.took)
+pub bytes_opened : {R : Type 0} (form : Form) (rules : Rules R) (Took Took' : List Timed → Type 0) (held mid held1 held2 : Option (List ℕ)) (entries : List Timed) (bytes prefix : List ℕ)
+    (reader : State) (following : List ℕ) (new : State) (r : Result (Unit {0}) (LogEnding R))
+    → IsEach form.text → length (bytes ++ prefix) ≡ 16 → 0 < length prefix → Prints form.text Took held mid entries (bytes ++ prefix) reader → Grows mid held1 form.head
+    → ((es : List Timed) (bs : List ℕ) → HasRead es bs reader → Took es → PrintsPiece form.text rules Took' held1 held2 es bs following new r)
+    → PrintsBytes form rules Took' held held2 entries bytes (prefix ++ following) new r
+bytes_opened {R} form rules Took Took' held mid held1 held2 entries bytes prefix reader following new r each whole some p wrote next = go r (next (entries ++ p.more) (bytes ++ prefix) p.read p.took)
   where
     none : entries ++ p.more ≡ []
-    none = none_yet p.read.version (entries ++ p.more) reader.taken (bytes ++ front) p.read.same (omega (arith, whole))
+    none = none_yet p.read.version (entries ++ p.more) reader.taken (bytes ++ prefix) p.read.same (omega (arith, whole))
 
     more : p.more ≡ []
-    more = behind_none entries p.more none
+    more = following_none entries p.more none
 
     same : entries ++ p.more ≡ entries
     same = ap (λ (xs : List Timed). entries ++ xs) more ∙ append-nil entries
@@ -301,25 +302,26 @@ bytes_opened {R} form rules Took Took' held mid held1 held2 entries bytes front 
     opened_at = let P : List ℕ → Type 0 = Grows held mid in Grows-Grows held mid held1 [] form.head (subst P (ap (form.text entries) more ∙ each.none entries) p.grew) wrote
 
     due : (count : ℕ) → 16 ≤ count → opening form.head (length bytes) count ≡ form.head
-    due count enough = opening_is form.head (length bytes) count (omega (arith, whole, some, length-append bytes front)) enough
+    due count enough = opening_is form.head (length bytes) count (omega (arith, whole, some, length-append bytes prefix)) enough
 
-    line : (bytes ++ front) ++ behind ≡ bytes ++ (front ++ behind)
-    line = append_assoc bytes front behind
+    line : (bytes ++ prefix) ++ following ≡ bytes ++ (prefix ++ following)
+    line = append_assoc bytes prefix following
 
-    cut : PrintsPart form.text held1 held2 entries ((bytes ++ front) ++ behind) → PrintsFront form held held2 entries (bytes ++ (front ++ behind)) (length bytes)
+    cut : PrintsPart form.text held1 held2 entries ((bytes ++ prefix) ++ following) → PrintsPrefix form held held2 entries (bytes ++ (prefix ++ following)) (length bytes)
     cut s =
-        let P : List ℕ → Type 0 = λ x. AppendsFront held held2 (x ++ form.text entries s.more) in
+        let P : List ℕ → Type 0 = λ x. AppendsPrefix held held2 (x ++ form.text entries s.more) in
         record {
           more = s.more;
           part = s.part;
           begins = record { version = s.begins.version; order = s.begins.order; same = s.begins.same ∙ line };
-          grew = subst P (sym (due (length (bytes ++ (front ++ behind))) (omega (arith, whole, ap length line, length-append (bytes ++ front) behind))))
-              (then_front held held1 held2 form.head (form.text entries s.more) opened_at s.grew);
+          grew = subst P (sym (due (length (bytes ++ (prefix ++ following))) (omega (arith, whole, ap length line, length-append (bytes ++ prefix) following))))
+              (then_prefix held held1 held2 form.head (form.text entries s.more) opened_at s.grew);
         }
 
-    stopped : (e : LogEnding R) → Stops form.text rules Took' held1 held2 entries (bytes ++ front) behind e → StopsAt form rules Took' held held2 entries bytes (front ++ behind) e
+    stopped : (e : LogEnding R) → Stops form.text rules Took' held1 held2 entries (bytes ++ prefix) following e → StopsAt form rules Took' held held2 entries bytes (prefix ++ following) e
     stopped (NoLog f) s =
-        let at : 16 ≤ length (bytes_of s.refuses.begins.version (entries ++ s.more)) + s.refuses.index = omega (arith, whole, refused_at s.refuses, s.soon, length-append (bytes ++ front) behind) in
+        let at : 16 ≤ length (bytes_of s.refuses.begins.version (entries ++ s.more)) + s.refuses.index = omega
+        (arith, whole, refused_at s.refuses, s.soon, length-append (bytes ++ prefix) following) in
         let P : List ℕ → Type 0 = λ x. Grows held held2 (x ++ form.text entries s.more) in
         record {
           more = s.more;
@@ -330,7 +332,7 @@ bytes_opened {R} form rules Took Took' held mid held1 held2 entries bytes front 
             shown = s.refuses.shown;
             none = s.refuses.none;
           };
-          soon = omega (arith, s.soon, length-append front behind);
+          soon = omega (arith, s.soon, length-append prefix following);
           accepted = s.accepted;
           grew = subst P (sym (due (length (bytes_of s.refuses.begins.version (entries ++ s.more)) + s.refuses.index) at))
               (Grows-Grows held held1 held2 form.head (form.text entries s.more) opened_at s.grew);
@@ -340,10 +342,10 @@ bytes_opened {R} form rules Took Took' held mid held1 held2 entries bytes front 
         record {
           more = s.more;
           last = s.last;
-          done = front ++ s.done;
+          done = prefix ++ s.done;
           rest = s.rest;
-          parts = append_assoc front s.done s.rest ∙ ap (λ (x : List ℕ). front ++ x) s.parts;
-          begins = record { version = s.begins.version; order = s.begins.order; same = s.begins.same ∙ append_assoc bytes front s.done };
+          parts = append_assoc prefix s.done s.rest ∙ ap (λ (x : List ℕ). prefix ++ x) s.parts;
+          begins = record { version = s.begins.version; order = s.begins.order; same = s.begins.same ∙ append_assoc bytes prefix s.done };
           accepted = s.accepted;
           rejected = s.rejected;
           grew = subst P (sym (due 16 (omega arith))) (Grows-Grows held held1 held2 form.head (form.text entries s.more) opened_at s.grew);
@@ -354,10 +356,10 @@ bytes_opened {R} form rules Took Took' held mid held1 held2 entries bytes front 
     stopped (Stopped TooLong) s = absurd s
     stopped Done s = absurd s
 
-    go : (r : Result (Unit {0}) (LogEnding R)) → PrintsPiece form.text rules Took' held1 held2 (entries ++ p.more) (bytes ++ front) behind new r
-        → PrintsBytes form rules Took' held held2 entries bytes (front ++ behind) new r
+    go : (r : Result (Unit {0}) (LogEnding R)) → PrintsPiece form.text rules Took' held1 held2 (entries ++ p.more) (bytes ++ prefix) following new r
+        → PrintsBytes form rules Took' held held2 entries bytes (prefix ++ following) new r
     go (Ok u) q =
-        let Q : List Timed → Type 0 = λ es. (more : List Timed) × HasRead (es ++ more) ((bytes ++ front) ++ behind) new × Took' (es ++ more) × Grows held1 held2 (form.text es more) in
+        let Q : List Timed → Type 0 = λ es. (more : List Timed) × HasRead (es ++ more) ((bytes ++ prefix) ++ following) new × Took' (es ++ more) × Grows held1 held2 (form.text es more) in
         let z = subst Q same (q.more, q.read, q.took, q.grew) in
         let H : List ℕ → Type 0 = λ b. HasRead (entries ++ z.0) b new in
         let P : List ℕ → Type 0 = λ x. Grows held held2 (x ++ form.text entries z.0) in
@@ -365,30 +367,30 @@ bytes_opened {R} form rules Took Took' held mid held1 held2 entries bytes front 
           more = z.0;
           read = subst H line z.1;
           took = z.2;
-          grew = subst P (sym (due (length (bytes ++ (front ++ behind))) (omega (arith, whole, ap length line, length-append (bytes ++ front) behind))))
+          grew = subst P (sym (due (length (bytes ++ (prefix ++ following))) (omega (arith, whole, ap length line, length-append (bytes ++ prefix) following))))
               (Grows-Grows held held1 held2 form.head (form.text entries z.0) opened_at z.3);
         }
     go (Err e) q =
-        let Q : List Timed → Type 0 = λ es. Stops form.text rules Took' held1 held2 es (bytes ++ front) behind e in
-        (front ++ behind, [], append-nil (front ++ behind), stopped e (subst Q same q))
+        let Q : List Timed → Type 0 = λ es. Stops form.text rules Took' held1 held2 es (bytes ++ prefix) following e in
+        (prefix ++ following, [], append-nil (prefix ++ following), stopped e (subst Q same q))
 
 -- what is due of the header was not all written
-pub bytes_unopened : (form : Form) (Took : List Timed → Type 0) (held mid held1 : Option (List ℕ)) (entries : List Timed) (bytes front : List ℕ) (reader : State)
-    → IsEach form.text → length (bytes ++ front) ≡ 16 → 0 < length front → Prints form.text Took held mid entries (bytes ++ front) reader → AppendsFront mid held1 form.head
-    → PrintsFront form held held1 entries (bytes ++ front) (length bytes)
-bytes_unopened form Took held mid held1 entries bytes front reader each whole some p wrote =
-    let none : entries ++ p.more ≡ [] = none_yet p.read.version (entries ++ p.more) reader.taken (bytes ++ front) p.read.same (omega (arith, whole)) in
-    let more : p.more ≡ [] = behind_none entries p.more none in
+pub bytes_unopened : (form : Form) (Took : List Timed → Type 0) (held mid held1 : Option (List ℕ)) (entries : List Timed) (bytes prefix : List ℕ) (reader : State)
+    → IsEach form.text → length (bytes ++ prefix) ≡ 16 → 0 < length prefix → Prints form.text Took held mid entries (bytes ++ prefix) reader → AppendsPrefix mid held1 form.head
+    → PrintsPrefix form held held1 entries (bytes ++ prefix) (length bytes)
+bytes_unopened form Took held mid held1 entries bytes prefix reader each whole some p wrote =
+    let none : entries ++ p.more ≡ [] = none_yet p.read.version (entries ++ p.more) reader.taken (bytes ++ prefix) p.read.same (omega (arith, whole)) in
+    let more : p.more ≡ [] = following_none entries p.more none in
     let P : List ℕ → Type 0 = Grows held mid in
-    let due : opening form.head (length bytes) (length (bytes ++ front)) ≡ form.head =
-    opening_is form.head (length bytes) (length (bytes ++ front)) (omega (arith, whole, some, length-append bytes front)) (omega (arith, whole)) in
-    let Q : List ℕ → Type 0 = λ x. AppendsFront held held1 (x ++ form.text entries p.more) in
+    let due : opening form.head (length bytes) (length (bytes ++ prefix)) ≡ form.head =
+    opening_is form.head (length bytes) (length (bytes ++ prefix)) (omega (arith, whole, some, length-append bytes prefix)) (omega (arith, whole)) in
+    let Q : List ℕ → Type 0 = λ x. AppendsPrefix held held1 (x ++ form.text entries p.more) in
     record {
       more = p.more;
       part = reader.taken;
       begins = begins_of p.read;
-      grew = subst Q (sym due) (front_then held held1 form.head (form.text entries p.more)
-          (then_front held mid held1 [] form.head (subst P (ap (form.text entries) more ∙ each.none entries) p.grew) wrote));
+      grew = subst Q (sym due) (prefix_then held held1 form.head (form.text entries p.more)
+          (then_prefix held mid held1 [] form.head (subst P (ap (form.text entries) more ∙ each.none entries) p.grew) wrote));
     }
 
 -- ---- counts of faults

@@ -2,11 +2,11 @@
 use Rattle.std.proofs.Common.{◌≡◌, ◌⊎◌, inl, inr, ℕ, ◌+◌, ◌^◌, ◌≤◌, ◌<◌, List, [], ◌∷◌, ◌++◌, length, nat_le, Bool, true, false, if◌then◌else◌}
 use Rattle.std.proofs.Common.{Option, Some, None, Result, Ok, Err, arith, refl, ap, sym, subst, ◌∙◌, append_assoc, length-append}
 use Rattle.std.proofs.lemmas.List.{append-nil}
-use Rattle.fw_outside.specs.Outside.{Rose, Takes, Grows, IsAtEnd, AppendsFront}
+use Rattle.fw_outside.specs.Outside.{Rose, Takes, Grows, IsAtEnd, AppendsPrefix}
 use Rattle.fw_outside.specs.Stops.{ReadCount, WriteCount}
 use Rattle.fw_outside.specs.declared.stop.Stop.{Stop}
 use Rattle.fw_outside.specs.declared.stop.Stop.TheVariants.{ReadFault, WriteFault, TooLong, NoMemory}
-use Rattle.fw_outside.proofs.Parts.{Takes-nothing, Grows-Grows, then_front, front_then}
+use Rattle.fw_outside.proofs.Parts.{Takes-nothing, Grows-Grows, then_prefix, prefix_then}
 use Rattle.fw_log_entry.specs.Log.{HasEnd, header_bytes, entries_bytes}
 use Rattle.fw_log_entry.specs.declared.version.Version.{Version}
 use Rattle.fw_log_entry.specs.declared.version.Version.TheVariants.{One}
@@ -21,7 +21,7 @@ use Rattle.fw_log_loop.specs.declared.ending.LogEnd.{LogEnd}
 use Rattle.fw_log_loop.specs.declared.ending.LogEnd.TheVariants.{Whole, NoLog as EndsNoLog, TooLong as EndsTooLong}
 use Rattle.fw_log_loop.specs.declared.ending.LogEnding.{LogEnding}
 use Rattle.fw_log_loop.specs.declared.ending.LogEnding.TheVariants.{Done, NoLog, Refused, Stopped}
-use Rattle.fw_log_loop.proofs.Texts.{front_of_all, front_of_none, few_by, length-bytes_of}
+use Rattle.fw_log_loop.proofs.Texts.{prefix_of_all, prefix_of_none, few_by, length-bytes_of}
 
 -- ---- how many entries there are
 
@@ -44,41 +44,41 @@ begins_log entries bytes log = record {
   same = append-nil (bytes_of log.version entries) ∙ spelled log.version entries log.spells.ends ∙ log.spells.opens.same;
 }
 
-pub begun_by : (entries : List Timed) (bytes behind : List ℕ) (before : ℕ) (left' : Option (List ℕ)) (f : LogFault)
-    → RefusesSoon entries bytes behind f before ⊎ ((behind ≡ []) × IsAtEnd left' × EndsEarly entries bytes f × (length bytes ≡ before))
+pub begun_by : (entries : List Timed) (bytes following : List ℕ) (before : ℕ) (left' : Option (List ℕ)) (f : LogFault)
+    → RefusesSoon entries bytes following f before ⊎ ((following ≡ []) × IsAtEnd left' × EndsEarly entries bytes f × (length bytes ≡ before))
     → (part : List ℕ) × Begins entries part bytes
-begun_by entries bytes behind before left' f (inl r) = (r.refuses.part, r.refuses.begins)
-begun_by entries bytes behind before left' f (inr r) = (r.2.part, r.2.begins)
+begun_by entries bytes following before left' f (inl r) = (r.refuses.part, r.refuses.begins)
+begun_by entries bytes following before left' f (inr r) = (r.2.part, r.2.begins)
 
 -- more bytes than those were taken
-begins_more : (entries : List Timed) (part bytes behind : List ℕ) → Begins entries part bytes → Begins entries (part ++ behind) (bytes ++ behind)
-begins_more entries part bytes behind b =
-    record { version = b.version; order = b.order; same = sym (append_assoc (bytes_of b.version entries) part behind) ∙ ap (λ (x : List ℕ). x ++ behind) b.same }
+begins_more : (entries : List Timed) (part bytes following : List ℕ) → Begins entries part bytes → Begins entries (part ++ following) (bytes ++ following)
+begins_more entries part bytes following b =
+    record { version = b.version; order = b.order; same = sym (append_assoc (bytes_of b.version entries) part following) ∙ ap (λ (x : List ℕ). x ++ following) b.same }
 
 -- ---- what is written, between a begin and an end
 
-pub enclosed : (form : Form) (entries : List Timed) (end : LogEnd) (held0 held1 held2 held3 : Option (List ℕ)) (x : List ℕ) → Grows held0 held1 form.front → Grows held1 held2 x
+pub enclosed : (form : Form) (entries : List Timed) (end : LogEnd) (held0 held1 held2 held3 : Option (List ℕ)) (x : List ℕ) → Grows held0 held1 form.prefix → Grows held1 held2 x
     → Adds form entries end (Grows held2 held3)
-    → Grows held0 held3 (form.closed entries end (form.front ++ x))
+    → Grows held0 held3 (form.closed entries end (form.prefix ++ x))
 enclosed form entries end held0 held1 held2 held3 x first next a =
     let P : List ℕ → Type 0 = Grows held0 held3 in
-    subst P (sym (a.closes (form.front ++ x))) (Grows-Grows held0 held2 held3 (form.front ++ x) a.more (Grows-Grows held0 held1 held2 form.front x first next) a.grew)
+    subst P (sym (a.closes (form.prefix ++ x))) (Grows-Grows held0 held2 held3 (form.prefix ++ x) a.more (Grows-Grows held0 held1 held2 form.prefix x first next) a.grew)
 
 -- a prefix of it
-pub enclosed_part : (form : Form) (entries : List Timed) (end : LogEnd) (held0 held1 held2 held3 : Option (List ℕ)) (x : List ℕ) → Grows held0 held1 form.front → Grows held1 held2 x
-    → Adds form entries end (AppendsFront held2 held3)
-    → AppendsFront held0 held3 (form.closed entries end (form.front ++ x))
+pub enclosed_part : (form : Form) (entries : List Timed) (end : LogEnd) (held0 held1 held2 held3 : Option (List ℕ)) (x : List ℕ) → Grows held0 held1 form.prefix → Grows held1 held2 x
+    → Adds form entries end (AppendsPrefix held2 held3)
+    → AppendsPrefix held0 held3 (form.closed entries end (form.prefix ++ x))
 enclosed_part form entries end held0 held1 held2 held3 x first next a =
-    let P : List ℕ → Type 0 = AppendsFront held0 held3 in
-    subst P (sym (a.closes (form.front ++ x))) (then_front held0 held2 held3 (form.front ++ x) a.more (Grows-Grows held0 held1 held2 form.front x first next) a.grew)
+    let P : List ℕ → Type 0 = AppendsPrefix held0 held3 in
+    subst P (sym (a.closes (form.prefix ++ x))) (then_prefix held0 held2 held3 (form.prefix ++ x) a.more (Grows-Grows held0 held1 held2 form.prefix x first next) a.grew)
 
 -- a prefix of what stands before the end
-pub front_enclosed : {R : Type 0} (form : Form) (rules : Rules R) (entries : List Timed) (end : LogEnd) (held held' : Option (List ℕ)) (x : List ℕ) → IsFramed form rules → AppendsFront held held' x
-    → AppendsFront held held' (form.closed entries end x)
-front_enclosed form rules entries end held held' x framed a =
-    let P : List ℕ → Type 0 = AppendsFront held held' in
+pub prefix_enclosed : {R : Type 0} (form : Form) (rules : Rules R) (entries : List Timed) (end : LogEnd) (held held' : Option (List ℕ)) (x : List ℕ) → IsFramed form rules → AppendsPrefix held held' x
+    → AppendsPrefix held held' (form.closed entries end x)
+prefix_enclosed form rules entries end held held' x framed a =
+    let P : List ℕ → Type 0 = AppendsPrefix held held' in
     let c = framed.closing entries end in
-    subst P (sym (c.1 x)) (front_then held held' x c.0 a)
+    subst P (sym (c.1 x)) (prefix_then held held' x c.0 a)
 
 -- a header has no text, however many bytes were taken
 no_opening : (head : List ℕ) (n m : ℕ) → head ≡ [] → opened head n ≡ opened head m
@@ -128,17 +128,17 @@ ready form rules Took left left' held held' Done end framed d is =
           ∙ ap (λ (x : List ℕ). x ++ text) (sym (no_opening_all form.head (length d.read.bytes) framed.no_head))) d.grew;
     }
 ready form rules Took left left' held held' (NoLog f) end framed d is =
-    let b = begun_by d.entries d.bytes d.behind d.before left' f d.refused in
+    let b = begun_by d.entries d.bytes d.following d.before left' f d.refused in
     let P : List ℕ → Type 0 = λ x. Grows held held' (x ++ form.text [] d.entries) in
     record {
       entries = d.entries;
-      bytes = d.bytes ++ d.behind;
+      bytes = d.bytes ++ d.following;
       taken = d.taken;
-      part = b.0 ++ d.behind;
-      begins = begins_more d.entries b.0 d.bytes d.behind b.1;
+      part = b.0 ++ d.following;
+      begins = begins_more d.entries b.0 d.bytes d.following b.1;
       took = d.accepted;
       few = few_begun d.entries b.0 d.bytes b.1 d.within;
-      grew = subst P (no_opening form.head d.before (length (d.bytes ++ d.behind)) framed.no_head) d.grew;
+      grew = subst P (no_opening form.head d.before (length (d.bytes ++ d.following)) framed.no_head) d.grew;
     }
 ready form rules Took left left' held held' (Refused u) end framed d is = cc is
 ready form rules Took left left' held held' (Stopped ReadFault) end framed d is = cc is
@@ -147,12 +147,12 @@ ready form rules Took left left' held held' (Stopped TooLong) end framed d is =
     let P : List ℕ → Type 0 = λ x. Grows held held' (x ++ form.text [] d.entries) in
     record {
       entries = d.entries;
-      bytes = d.bytes ++ d.behind;
+      bytes = d.bytes ++ d.following;
       taken = d.taken;
-      part = d.part ++ d.behind;
-      begins = begins_more d.entries d.part d.bytes d.behind d.begins;
+      part = d.part ++ d.following;
+      begins = begins_more d.entries d.part d.bytes d.following d.begins;
       took = d.accepted;
       few = few_begun d.entries d.part d.bytes d.begins (omega (arith, d.full));
-      grew = subst P (sym (no_opening_all form.head (length (d.bytes ++ d.behind)) framed.no_head)) d.grew;
+      grew = subst P (sym (no_opening_all form.head (length (d.bytes ++ d.following)) framed.no_head)) d.grew;
     }
 ready form rules Took left left' held held' (Stopped NoMemory) end framed d is = cc is

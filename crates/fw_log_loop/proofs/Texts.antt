@@ -2,8 +2,8 @@
 use Rattle.std.proofs.Common.{◌≡◌, ℕ, ◌≤◌, List, [], ◌∷◌, ◌++◌, ◌<◌, length, nat_le, Bool, true, false, if◌then◌else◌, Option, arith, refl, ap, sym, subst, ◌∙◌, append_assoc, length-append}
 use Rattle.std.proofs.lemmas.List.{append-nil}
 use Rattle.std.proofs.lemmas.Bool.Decides.{nat_tests}
-use Rattle.fw_outside.specs.Outside.{Grows, AppendsFront}
-use Rattle.fw_outside.proofs.Parts.{Grows-nothing, Grows-Grows, then_front, front_then}
+use Rattle.fw_outside.specs.Outside.{Grows, AppendsPrefix}
+use Rattle.fw_outside.proofs.Parts.{Grows-nothing, Grows-Grows, then_prefix, prefix_then}
 use Rattle.fw_log_entry.specs.Log.{header_bytes, epoch_after, entry_bytes, entries_bytes}
 use Rattle.fw_log_entry.specs.declared.version.Version.{Version}
 use Rattle.fw_log_entry.specs.declared.entry.Timed.{Timed}
@@ -57,17 +57,17 @@ grows_due {text} e head entries more before now held mid new on none a b =
     let P : List ℕ → Type 0 = Grows held new in
     subst P (due_more e head entries more before now on none) (Grows-Grows held mid new (opened head before ++ text [] entries) (opening head before now ++ text entries more) a b)
 
-pub front_due : {text : Text} (e : IsEach text) (head : List ℕ) (entries more : List Timed) (before now : ℕ) (held mid new : Option (List ℕ)) → (16 ≤ before → 16 ≤ now) → (before < 16 → entries ≡ [])
-    → Grows held mid (opened head before ++ text [] entries) → AppendsFront mid new (opening head before now ++ text entries more)
-    → AppendsFront held new (opened head now ++ text [] (entries ++ more))
-front_due {text} e head entries more before now held mid new on none a b =
-    let P : List ℕ → Type 0 = AppendsFront held new in
-    subst P (due_more e head entries more before now on none) (then_front held mid new (opened head before ++ text [] entries) (opening head before now ++ text entries more) a b)
+pub prefix_due : {text : Text} (e : IsEach text) (head : List ℕ) (entries more : List Timed) (before now : ℕ) (held mid new : Option (List ℕ)) → (16 ≤ before → 16 ≤ now) → (before < 16 → entries ≡ [])
+    → Grows held mid (opened head before ++ text [] entries) → AppendsPrefix mid new (opening head before now ++ text entries more)
+    → AppendsPrefix held new (opened head now ++ text [] (entries ++ more))
+prefix_due {text} e head entries more before now held mid new on none a b =
+    let P : List ℕ → Type 0 = AppendsPrefix held new in
+    subst P (due_more e head entries more before now on none) (then_prefix held mid new (opened head before ++ text [] entries) (opening head before now ++ text entries more) a b)
 
 -- the same if more bytes were taken: a header that they make whole is due too, and then there are no entries yet
-pub front_later : {text : Text} (e : IsEach text) (head : List ℕ) (entries : List Timed) (now later : ℕ) (held new : Option (List ℕ)) → now ≤ later → (now < 16 → entries ≡ [])
-    → AppendsFront held new (opened head now ++ text [] entries) → AppendsFront held new (opened head later ++ text [] entries)
-front_later {text} e head entries now later held new less none a = by (nat_le 16 now) (nat_le 16 later) (λ h. le_true later (omega (arith, less, true_le now h))) (λ h. none (false_lt now h)) a
+pub prefix_later : {text : Text} (e : IsEach text) (head : List ℕ) (entries : List Timed) (now later : ℕ) (held new : Option (List ℕ)) → now ≤ later → (now < 16 → entries ≡ [])
+    → AppendsPrefix held new (opened head now ++ text [] entries) → AppendsPrefix held new (opened head later ++ text [] entries)
+prefix_later {text} e head entries now later held new less none a = by (nat_le 16 now) (nat_le 16 later) (λ h. le_true later (omega (arith, less, true_le now h))) (λ h. none (false_lt now h)) a
   where
     true_le : (n : ℕ) → nat_le 16 n ≡ true → 16 ≤ n
     true_le n h = grind (arith, nat_tests)
@@ -78,18 +78,18 @@ front_later {text} e head entries now later held new less none a = by (nat_le 16
     false_lt : (n : ℕ) → nat_le 16 n ≡ false → n < 16
     false_lt n h = grind (arith, nat_tests)
 
-    by : (b c : Bool) → (b ≡ true → c ≡ true) → (b ≡ false → entries ≡ []) → AppendsFront held new ((if b then head else []) ++ text [] entries)
-        → AppendsFront held new ((if c then head else []) ++ text [] entries)
-    by true c on empty a = let P : Bool → Type 0 = λ z. AppendsFront held new ((if z then head else []) ++ text [] entries) in subst P (sym (on refl)) a
+    by : (b c : Bool) → (b ≡ true → c ≡ true) → (b ≡ false → entries ≡ []) → AppendsPrefix held new ((if b then head else []) ++ text [] entries)
+        → AppendsPrefix held new ((if c then head else []) ++ text [] entries)
+    by true c on empty a = let P : Bool → Type 0 = λ z. AppendsPrefix held new ((if z then head else []) ++ text [] entries) in subst P (sym (on refl)) a
     by false c on empty a =
-        let P : List ℕ → Type 0 = AppendsFront held new in
-        front_then held new [] ((if c then head else []) ++ text [] entries) (subst P (ap (text []) (empty refl) ∙ e.none []) a)
+        let P : List ℕ → Type 0 = AppendsPrefix held new in
+        prefix_then held new [] ((if c then head else []) ++ text [] entries) (subst P (ap (text []) (empty refl) ∙ e.none []) a)
 
-pub front_of_all : (held held' : Option (List ℕ)) (xs : List ℕ) → Grows held held' xs → AppendsFront held held' xs
-front_of_all held held' xs g = record { front = xs; rest = []; parts = sym (append-nil xs); appended = g }
+pub prefix_of_all : (held held' : Option (List ℕ)) (xs : List ℕ) → Grows held held' xs → AppendsPrefix held held' xs
+prefix_of_all held held' xs g = record { prefix = xs; rest = []; parts = sym (append-nil xs); appended = g }
 
-pub front_of_none : (held : Option (List ℕ)) (xs : List ℕ) → AppendsFront held held xs
-front_of_none held xs = record { front = []; rest = xs; parts = refl; appended = Grows-nothing held }
+pub prefix_of_none : (held : Option (List ℕ)) (xs : List ℕ) → AppendsPrefix held held xs
+prefix_of_none held xs = record { prefix = []; rest = xs; parts = refl; appended = Grows-nothing held }
 
 -- ---- how many entries a log has
 

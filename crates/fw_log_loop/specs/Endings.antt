@@ -1,6 +1,6 @@
 -- What each ending of a word that reads a log says of the input and of what was written.
 use Rattle.std.specs.Prelude.{◌≡◌, ℕ, ◌+◌, ◌≤◌, ◌<◌, ◌⊎◌, List, [], ◌∷◌, ◌++◌, length, take, nat_le, if◌then◌else◌, Option, Some, None}
-use Rattle.fw_outside.specs.Outside.{Takes, Grows, IsAtEnd, AppendsFront}
+use Rattle.fw_outside.specs.Outside.{Takes, Grows, IsAtEnd, AppendsPrefix}
 use Rattle.fw_outside.specs.Stops.{ReadCount, WriteCount}
 use Rattle.fw_outside.specs.declared.stop.Stop.{Stop}
 use Rattle.fw_outside.specs.declared.stop.Stop.TheVariants.{ReadFault, WriteFault, TooLong, NoMemory}
@@ -89,23 +89,23 @@ pub record Decoded {R : Type 0} (form : Form) (rules : Rules R) (left left' held
   pub grew : Grows held held' (form.closed entries Whole (written form entries ++ last))
 
 -- A part is refused, after so many bytes before its last one, and at most 4,096 bytes were taken from that one on.
-pub record RefusesSoon (entries : List Timed) (bytes behind : List ℕ) (fault : LogFault) (before : ℕ) : Type 0 where
+pub record RefusesSoon (entries : List Timed) (bytes following : List ℕ) (fault : LogFault) (before : ℕ) : Type 0 where
   pub refuses : Refuses entries bytes fault
   pub place : length (bytes_of refuses.begins.version entries) + refuses.index ≡ before
-  pub soon : length refuses.part + length behind ≤ refuses.index + piece_size
+  pub soon : length refuses.part + length following ≤ refuses.index + piece_size
 
 -- Of the bytes within the limit a part is refused, or the input ended with them and they are no log. The text of the
 -- entries before was written, and what is due of a header that was taken whole before.
 pub record Faulted (form : Form) (accepts : List Timed → Type 0) (left left' held held' : Option (List ℕ)) (fault : LogFault) : Type 0 where
   pub entries : List Timed
   pub bytes : List ℕ
-  pub behind : List ℕ
-  pub taken : Takes left left' (bytes ++ behind)
+  pub following : List ℕ
+  pub taken : Takes left left' (bytes ++ following)
   pub within : length bytes ≤ limit
   pub before : ℕ
-  pub refused : RefusesSoon entries bytes behind fault before ⊎ ((behind ≡ []) × IsAtEnd left' × EndsEarly entries bytes fault × (length bytes ≡ before))
+  pub refused : RefusesSoon entries bytes following fault before ⊎ ((following ≡ []) × IsAtEnd left' × EndsEarly entries bytes fault × (length bytes ≡ before))
   pub accepted : accepts entries
-  pub grew : Grows held held' (form.closed entries (EndsNoLog fault) (form.front ++ (opened form.head before ++ form.text [] entries)))
+  pub grew : Grows held held' (form.closed entries (EndsNoLog fault) (form.prefix ++ (opened form.head before ++ form.text [] entries)))
 
 -- The bytes up to the end of an entry are those of entries of a log, and the log is refused at that entry and at none before. At most
 -- 4,096 bytes after it were taken. What is written of the entries before was written.
@@ -113,10 +113,10 @@ pub record Rejected {R : Type 0} (form : Form) (rules : Rules R) (left left' hel
   pub before : List Timed
   pub last : Timed
   pub bytes : List ℕ
-  pub behind : List ℕ
-  pub taken : Takes left left' (bytes ++ behind)
+  pub following : List ℕ
+  pub taken : Takes left left' (bytes ++ following)
   pub within : length bytes ≤ limit
-  pub few : length behind ≤ piece_size
+  pub few : length following ≤ piece_size
   pub begins : Begins (before ++ last ∷ []) [] bytes
   pub accepted : rules.accepts before
   pub rejected : rules.rejects (before ++ last ∷ []) refusal
@@ -135,11 +135,11 @@ pub record RefusedWhole {R : Type 0} (form : Form) (rules : Rules R) (left left'
 pub record PassedLimit (form : Form) (accepts : List Timed → Type 0) (left left' held held' : Option (List ℕ)) : Type 0 where
   pub entries : List Timed
   pub bytes : List ℕ
-  pub behind : List ℕ
-  pub taken : Takes left left' (bytes ++ behind)
+  pub following : List ℕ
+  pub taken : Takes left left' (bytes ++ following)
   pub full : length bytes ≡ limit
-  pub more : 0 < length behind
-  pub few : length behind ≤ piece_size
+  pub more : 0 < length following
+  pub few : length following ≤ piece_size
   pub part : List ℕ
   pub begins : Begins entries part bytes
   pub pending : IsPending (stand_after begins.version entries) part
@@ -157,7 +157,7 @@ pub record Interrupted (form : Form) (accepts : List Timed → Type 0) (left lef
   pub begins : Begins entries part bytes
   pub pending : IsPending (stand_after begins.version entries) part
   pub accepted : accepts entries
-  pub grew : Grows held held' (form.front ++ (opened form.head (length bytes) ++ form.text [] entries))
+  pub grew : Grows held held' (form.prefix ++ (opened form.head (length bytes) ++ form.text [] entries))
 
 -- The bytes that were taken begin with those of entries, and a prefix was written of what is written of them, after what is due of a
 -- header that was taken whole, and with what closes it at one end or another.
@@ -168,7 +168,7 @@ pub record PartRead (form : Form) (left left' held held' : Option (List ℕ)) : 
   pub part : List ℕ
   pub begins : Begins entries part bytes
   pub end : LogEnd
-  pub grew : AppendsFront held held' (form.closed entries end (form.front ++ (opened form.head (length bytes) ++ form.text [] entries)))
+  pub grew : AppendsPrefix held held' (form.closed entries end (form.prefix ++ (opened form.head (length bytes) ++ form.text [] entries)))
 
 -- The log was read, is not refused, and a prefix of what is written of its entries and at its end was written.
 pub record PartClosed {R : Type 0} (form : Form) (rules : Rules R) (left left' held held' : Option (List ℕ)) : Type 0 where
@@ -177,7 +177,7 @@ pub record PartClosed {R : Type 0} (form : Form) (rules : Rules R) (left left' h
   pub accepted : rules.accepts entries
   pub last : List ℕ
   pub closed : rules.closes entries last
-  pub grew : AppendsFront held held' (form.closed entries Whole (written form entries ++ last))
+  pub grew : AppendsPrefix held held' (form.closed entries Whole (written form entries ++ last))
 
 -- A word read a log.
 abbrev pub Reads : {R : Type 0} → Form → Rules R → Option (List ℕ) → Option (List ℕ) → Option (List ℕ) → Option (List ℕ) → LogEnding R → Type 0

@@ -1,6 +1,6 @@
 -- The end of what was read, if what is written of it gets one.
 use Rattle.std.specs.Prelude.{◌≡◌, ℕ, List, ◌++◌, Option, Result, Ok, Err}
-use Rattle.fw_outside.specs.Outside.{Rose, Grows, AppendsFront}
+use Rattle.fw_outside.specs.Outside.{Rose, Grows, AppendsPrefix}
 use Rattle.fw_outside.specs.declared.stop.Stop.{Stop}
 use Rattle.fw_outside.specs.declared.stop.Stop.TheVariants.{ReadFault, WriteFault, TooLong, NoMemory}
 use Rattle.fw_log_entry.specs.declared.entry.Timed.{Timed}
@@ -16,7 +16,7 @@ pub record Adds (form : Form) (entries : List Timed) (end : LogEnd) (Grew : List
 -- What is due at the end was written; or not all of it, as a write failed; or nothing, as memory ran out.
 abbrev pub Concludes : Form → List Timed → LogEnd → Option (List ℕ) → Option (List ℕ) → Result (Unit {0}) Stop → Type 0
 Concludes form entries end held held' (Ok _) = Adds form entries end (Grows held held')
-Concludes form entries end held held' (Err WriteFault) = Adds form entries end (AppendsFront held held')
+Concludes form entries end held held' (Err WriteFault) = Adds form entries end (AppendsPrefix held held')
 Concludes form entries end held held' (Err NoMemory) = held' ≡ held
 Concludes form entries end held held' (Err ReadFault) = ⊥
 Concludes form entries end held held' (Err TooLong) = ⊥

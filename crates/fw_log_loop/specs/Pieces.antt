@@ -1,7 +1,7 @@
 -- What a piece of a log does to a reader, to what takes the entries, and to a sink.
 use Rattle.std.specs.Prelude.{◌≡◌, ℕ, ◌+◌, ◌≤◌, ◌⊎◌, List, [], ◌∷◌, ◌++◌, length, nat_le, if◌then◌else◌, Option, Some, None, Result, Ok, Err, IfOk}
 use Rattle.std.specs.declared.alloc.AllocError.{AllocError}
-use Rattle.fw_outside.specs.Outside.{Takes, Grows, AppendsFront}
+use Rattle.fw_outside.specs.Outside.{Takes, Grows, AppendsPrefix}
 use Rattle.fw_outside.specs.declared.stop.Stop.TheVariants.{ReadFault, WriteFault, TooLong, NoMemory}
 use Rattle.fw_log_entry.specs.declared.entry.Timed.{Timed}
 use Rattle.fw_log.specs.History.{bytes_of, HasRead, ReadsOn, Finishes}
@@ -105,7 +105,7 @@ pub record PrintsPart (text : Text) (held held' : Option (List ℕ)) (entries : 
   pub more : List Timed
   pub part : List ℕ
   pub begins : Begins (entries ++ more) part bytes
-  pub grew : AppendsFront held held' (text entries more)
+  pub grew : AppendsPrefix held held' (text entries more)
 
 -- how far a piece was read, by the ending
 abbrev pub Stops : {R : Type 0} → Text → Rules R → (List Timed → Type 0) → Option (List ℕ) → Option (List ℕ) → List Timed → List ℕ → List ℕ → LogEnding R → Type 0
@@ -156,18 +156,18 @@ pub record PrintsLast {R : Type 0} (form : Form) (rules : Rules R) (held held' :
   pub grew : Grows held held' (opening form.head (length bytes) 16 ++ form.text entries more)
 
 -- there are more entries, and a prefix of what is due of the header and their text was written; so many of the bytes were taken before
-pub record PrintsFront (form : Form) (held held' : Option (List ℕ)) (entries : List Timed) (bytes : List ℕ) (before : ℕ) : Type 0 where
+pub record PrintsPrefix (form : Form) (held held' : Option (List ℕ)) (entries : List Timed) (bytes : List ℕ) (before : ℕ) : Type 0 where
   pub more : List Timed
   pub part : List ℕ
   pub begins : Begins (entries ++ more) part bytes
-  pub grew : AppendsFront held held' (opening form.head before (length bytes) ++ form.text entries more)
+  pub grew : AppendsPrefix held held' (opening form.head before (length bytes) ++ form.text entries more)
 
 -- how far the bytes were read, by the ending
 abbrev pub StopsAt : {R : Type 0} → Form → Rules R → (List Timed → Type 0) → Option (List ℕ) → Option (List ℕ) → List Timed → List ℕ → List ℕ → LogEnding R → Type 0
 StopsAt form rules Took held held' entries bytes piece (NoLog fault) = PrintsTo form Took held held' entries bytes piece fault
 StopsAt form rules Took held held' entries bytes piece (Refused refusal) = PrintsLast form rules held held' entries bytes piece refusal
-StopsAt form rules Took held held' entries bytes piece (Stopped WriteFault) = PrintsFront form held held' entries (bytes ++ piece) (length bytes)
-StopsAt form rules Took held held' entries bytes piece (Stopped NoMemory) = PrintsFront form held held' entries (bytes ++ piece) (length bytes)
+StopsAt form rules Took held held' entries bytes piece (Stopped WriteFault) = PrintsPrefix form held held' entries (bytes ++ piece) (length bytes)
+StopsAt form rules Took held held' entries bytes piece (Stopped NoMemory) = PrintsPrefix form held held' entries (bytes ++ piece) (length bytes)
 StopsAt form rules Took held held' entries bytes piece (Stopped ReadFault) = ⊥
 StopsAt form rules Took held held' entries bytes piece (Stopped TooLong) = ⊥
 StopsAt form rules Took held held' entries bytes piece Done = ⊥
@@ -176,7 +176,7 @@ StopsAt form rules Took held held' entries bytes piece Done = ⊥
 abbrev pub PrintsBytes : {R : Type 0} → Form → Rules R → (List Timed → Type 0) → Option (List ℕ) → Option (List ℕ) → List Timed → List ℕ → List ℕ → State → Result (Unit {0}) (LogEnding R) → Type 0
 PrintsBytes form rules Took held held' entries bytes piece reader (Ok _) = PrintsMore form Took held held' entries bytes piece reader
 PrintsBytes form rules Took held held' entries bytes piece reader (Err ending) =
-    (front behind : List ℕ) × (front ++ behind ≡ piece) × StopsAt form rules Took held held' entries bytes front ending
+    (prefix following : List ℕ) × (prefix ++ following ≡ piece) × StopsAt form rules Took held held' entries bytes prefix ending
 
 -- ---- the whole log
 
@@ -200,7 +200,7 @@ pub record ClosesLog {R : Type 0} (rules : Rules R) (entries : List Timed) (held
 pub record ClosesPart {R : Type 0} (rules : Rules R) (entries : List Timed) (held held' : Option (List ℕ)) : Type 0 where
   pub last : List ℕ
   pub closed : rules.closes entries last
-  pub grew : AppendsFront held held' last
+  pub grew : AppendsPrefix held held' last
 
 -- The input ended: the entries are a log, and what is written at its end was written, or a prefix, or it is refused; or they are no
 -- log, and nothing was.

@@ -19,18 +19,18 @@ pub record IsEach (text : Text) : Type 0 where
 -- what a word writes while a log is read: this before anything is read, this once the header was taken whole, and this of entries as
 -- they end; and what it makes of all that was written of entries at the end of what was read
 pub record Form : Type 0 where
-  pub front : List ℕ
+  pub prefix : List ℕ
   pub head : List ℕ
   pub text : Text
   pub closed : List Timed → LogEnd → List ℕ → List ℕ
 
 -- what is written of entries up to the last of them
 abbrev pub written : Form → List Timed → List ℕ
-written form entries = form.front ++ (form.head ++ form.text [] entries)
+written form entries = form.prefix ++ (form.head ++ form.text [] entries)
 
 -- this for the header and for entries, with nothing before anything is read, and nothing at the end of what was read
 abbrev pub bare_form : List ℕ → Text → Form
-bare_form head text = record { front = []; head = head; text = text; closed = λ entries end text. text }
+bare_form head text = record { prefix = []; head = head; text = text; closed = λ entries end text. text }
 
 -- a form without what is written before anything is read and at the end of what was read
 abbrev pub bare : Form → Form
@@ -61,7 +61,7 @@ pub record IsFramed {R : Type 0} (form : Form) (rules : Rules R) : Type 0 where
 
 -- a log that a word does not refuse, at none of its entries and not at its end
 pub record IsAccepted {R : Type 0} (rules : Rules R) (entries : List Timed) : Type 0 where
-  pub entry : (front rest : List Timed) (refusal : R) → entries ≡ front ++ rest → rules.rejects front refusal → ⊥
+  pub entry : (prefix rest : List Timed) (refusal : R) → entries ≡ prefix ++ rest → rules.rejects prefix refusal → ⊥
   pub end : (refusal : R) → rules.refuses entries refusal → ⊥
 
 -- One entry more was taken, and its text was gathered; or the log is refused at it, and nothing was.

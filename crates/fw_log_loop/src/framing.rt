@@ -10,7 +10,7 @@ ghost use Rattle.fw_log_loop.specs.Framings.{Concludes, ConcludeCount};
 use crate::log::read_pieces;
 use crate::piece::print;
 use crate::{LogEnd, LogEnding, Reading};
-use fw_log::{LogReader, Room};
+use fw_log::{LogReader, ReadBuffers};
 use fw_outside::{Failed, Sink, Source, Stop};
 use std::alloc::{AllocError, Global};
 
@@ -18,7 +18,7 @@ use std::alloc::{AllocError, Global};
 pub trait Framed: Reading {
     /// Writes what is due before anything is read.
     fn begin<K: Sink>(&self, sink: &mut K) -> Result<(), Failed>
-        ensures text { Writes (K.held sink.old) (K.held sink.new) result (Self.form self.now).front }
+        ensures text { Writes (K.held sink.old) (K.held sink.new) result (Self.form self.now).prefix }
         ensures stays { OnOk result (K.faults sink.new ≡ K.faults sink.old) }
         ensures failed { OnErr result (Rose (K.faults sink.old) (K.faults sink.new)) };
 
@@ -50,7 +50,7 @@ fn conclude<O: Framed, K: Sink>(output: &mut O, end: LogEnd, sink: &mut K) -> Re
 }
 
 /// Reads a log to its end as `read_log` does, and writes what a word makes of it between what is due before anything is read and what
-/// is due at the end of what was read: at a log's end, if the bytes are no log, and where more than 268,435,456 of them come.
+/// is due at the end of what was read: at a log's end, if the bytes are not a log, and if more than 268,435,456 of them come.
 pub fn read_framed<O: Framed, S: Source, K: Sink>(
     alloc: Global,
     mut output: O,
@@ -65,7 +65,7 @@ pub fn read_framed<O: Framed, S: Source, K: Sink>(
     let Ok(mut reader) = LogReader::new(alloc) else {
         return LogEnding::Stopped(Stop::NoMemory);
     };
-    let Ok(mut room) = Room::new(alloc) else {
+    let Ok(mut room) = ReadBuffers::new(alloc) else {
         return LogEnding::Stopped(Stop::NoMemory);
     };
     let Ok(()) = output.begin(sink) else {

@@ -13,7 +13,7 @@ ghost use Rattle.fw_log_loop.specs.declared.ending.LogEnd.{LogEnd as AnEnd};
 
 use crate::piece::{print, print_bytes};
 use crate::{LogEnding, Reading};
-use fw_log::{LogReader, Room};
+use fw_log::{LogReader, ReadBuffers};
 use fw_outside::{Sink, Source, Stop};
 use std::alloc::Global;
 
@@ -56,7 +56,7 @@ fn end_log<O: Reading, K: Sink>(
 pub(crate) fn read_pieces<O: Reading, S: Source, K: Sink>(
     alloc: Global,
     reader: &mut LogReader,
-    room: &mut Room,
+    room: &mut ReadBuffers,
     output: &mut O,
     source: &mut S,
     sink: &mut K,
@@ -116,7 +116,7 @@ pub fn read_log<O: Reading, S: Source, K: Sink>(
     let Ok(mut reader) = LogReader::new(alloc) else {
         return LogEnding::Stopped(Stop::NoMemory);
     };
-    let Ok(mut room) = Room::new(alloc) else {
+    let Ok(mut room) = ReadBuffers::new(alloc) else {
         return LogEnding::Stopped(Stop::NoMemory);
     };
     read_pieces(alloc, &mut reader, &mut room, &mut output, source, sink)

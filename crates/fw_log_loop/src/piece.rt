@@ -11,14 +11,14 @@ ghost use Rattle.fw_log_loop.specs.Pieces.{IsUnderWay, TakesPiece, PrintsPiece, 
 
 use crate::feeding::feed;
 use crate::{LogEnding, Reading};
-use fw_log::{LogFed, LogReader, Room};
+use fw_log::{LogFed, LogReader, ReadBuffers};
 use fw_outside::{Failed, Sink, Stop};
 use std::alloc::AllocError;
 
 // Takes each entry that ends in a piece, and answers how the call ends if it takes no more.
 fn take_entries<O: Reading>(
     reader: &mut LogReader,
-    room: &mut Room,
+    room: &mut ReadBuffers,
     output: &mut O,
     piece: &[u8],
 ) -> Result<Option<LogEnding<O::Refusal>>, AllocError>
@@ -31,7 +31,7 @@ fn take_entries<O: Reading>(
 {
     let mut rest = piece;
     while !rest.is_empty() {
-        if let Some(used) = output.pass(reader, room, rest)? {
+        if let Some(used) = output.take_raw(reader, room, rest)? {
             rest = &rest[used..];
             continue;
         }
@@ -79,7 +79,7 @@ fn flush<O: Reading, K: Sink>(output: &mut O, sink: &mut K) -> Result<(), Failed
 // Reads a piece of a log, and writes what its entries give.
 fn print_piece<O: Reading, K: Sink>(
     reader: &mut LogReader,
-    room: &mut Room,
+    room: &mut ReadBuffers,
     output: &mut O,
     piece: &[u8],
     sink: &mut K,
@@ -114,7 +114,7 @@ const HEADER: usize = 16;
 /// the entries give.
 pub(crate) fn print_bytes<O: Reading, K: Sink>(
     reader: &mut LogReader,
-    room: &mut Room,
+    room: &mut ReadBuffers,
     output: &mut O,
     taken: usize,
     bytes: &[u8],
@@ -139,12 +139,12 @@ pub(crate) fn print_bytes<O: Reading, K: Sink>(
     if bytes.len() < rest {
         return print_piece(reader, room, output, bytes, sink);
     }
-    let (front, behind) = bytes.split_at(rest);
-    if let Err(ending) = print_piece(reader, room, output, front, sink) {
+    let (prefix, following) = bytes.split_at(rest);
+    if let Err(ending) = print_piece(reader, room, output, prefix, sink) {
         return Err(ending);
     }
     let Ok(()) = output.open(sink) else {
         return Err(LogEnding::Stopped(Stop::WriteFault));
     };
-    print_piece(reader, room, output, behind, sink)
+    print_piece(reader, room, output, following, sink)
 }

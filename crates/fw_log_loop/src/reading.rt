@@ -10,7 +10,7 @@ ghost use Rattle.fw_log.specs.Reader.{total};
 ghost use Rattle.fw_log_loop.specs.Readings.{Form, Rules, IsEach, IsAccepted, TakesEntry, Passes, Closes};
 
 use crate::Closing;
-use fw_log::{LogReader, Room, Timed};
+use fw_log::{LogReader, ReadBuffers, Timed};
 use fw_outside::{Failed, Sink};
 use std::alloc::{AllocError, Global};
 
@@ -48,10 +48,10 @@ pub trait Reading: Drop {
 
     /// Takes the entry that ends in a piece from its bytes, if no value need be made of it, and answers how many bytes of the
     /// piece it took. If it takes none, the entry is to be read. An error says that memory ran out.
-    fn pass(
+    fn take_raw(
         &mut self,
         reader: &mut LogReader,
-        room: &mut Room,
+        room: &mut ReadBuffers,
         piece: &[u8],
     ) -> Result<Option<usize>, AllocError>
         requires { total reader.old + length piece.now < 2 ^ 64 }

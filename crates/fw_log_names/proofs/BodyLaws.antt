@@ -9,11 +9,11 @@ use Rattle.fw_log_names.specs.Texts.{quadlet_text, first_quadlets, quadlets_text
 first_then : (bytes : List ℕ) (n : ℕ) → first_quadlets bytes (suc n) ≡ quadlet_text (quadlet_at bytes 0) ++ first_quadlets (drop 4 bytes) n
 first_then bytes zero = sym (append-nil (quadlet_text (quadlet_at bytes 0)))
 first_then bytes (suc n) =
-    let behind : quadlet_at (drop 4 bytes) (4 * n) ≡ quadlet_at bytes (4 * suc n) =
+    let following : quadlet_at (drop 4 bytes) (4 * n) ≡ quadlet_at bytes (4 * suc n) =
     ap (λ t. from_be_bytes w32 (take 4 t)) (drop-drop (4 * n) 4 bytes ∙ ap (λ k. drop k bytes) (omega arith)) in
     ap (λ t. t ++ quadlet_text (quadlet_at bytes (4 * suc n))) (first_then bytes n)
     ∙ append_assoc (quadlet_text (quadlet_at bytes 0)) (first_quadlets (drop 4 bytes) n) (quadlet_text (quadlet_at bytes (4 * suc n)))
-    ∙ ap (λ (q : ℕ). quadlet_text (quadlet_at bytes 0) ++ (first_quadlets (drop 4 bytes) n ++ quadlet_text q)) (sym behind)
+    ∙ ap (λ (q : ℕ). quadlet_text (quadlet_at bytes 0) ++ (first_quadlets (drop 4 bytes) n ++ quadlet_text q)) (sym following)
 
 pub quadlets_then : (bytes : List ℕ) → 4 ≤ length bytes → quadlets_text bytes ≡ quadlet_text (quadlet_at bytes 0) ++ quadlets_text (drop 4 bytes)
 quadlets_then bytes some =

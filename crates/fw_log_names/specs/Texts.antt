@@ -31,7 +31,7 @@ first_quadlets bytes (suc n) = first_quadlets bytes n ++ quadlet_text (quadlet_a
 abbrev pub quadlets_text : List ℕ → List ℕ
 quadlets_text bytes = first_quadlets bytes (length bytes / 4)
 
--- the name that a table has for a number, or where it has none another word, a space, and the number
+-- the name that a table has for a number, or if it has none another word, a space, and the number
 abbrev pub named : Option (List ℕ) → List ℕ → ℕ → List ℕ
 named (Some name) other number = name
 named None other number = other ++ codes " " ++ decimal number

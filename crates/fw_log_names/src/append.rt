@@ -38,7 +38,7 @@ fn put_long_number(text: &mut Vec<u8>, n: u64) -> Result<(), AllocError>
     text.extend_from_slice(buffer.format(n).as_bytes())
 }
 
-/// Appends the name that a table has for a number, or where it has none another word, a space and the number.
+/// Appends the name that a table has for a number, or if it has none another word, a space and the number.
 pub fn put_named(
     text: &mut Vec<u8>,
     name: Option<&str>,

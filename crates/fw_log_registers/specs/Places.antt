@@ -1,22 +1,22 @@
 -- Which register stands at an offset (IEEE 1212; IEEE 1394-1995, 8.3.2; IEC 61883-1, 7 and 9).
 use Rattle.std.specs.Prelude.{ℕ, ◌+◌, ◌-◌, ◌*◌, ◌/◌, ◌%◌, ◌==◌, ◌&&◌, nat_le, nat_lt, List, [], ◌∷◌, Option, Some, None, if◌then◌else◌}
 use Rattle.fw_csr.specs.declared.offset.TheConstants.{REGISTER_SPACE}
-use Rattle.fw_log_registers.specs.declared.register.Register.{Register}
-use Rattle.fw_log_registers.specs.declared.register.Register.TheVariants.{StateClear, StateSet, NodeIds, ResetStart, SplitTimeoutHi, SplitTimeoutLo, CycleTime, BusTime, BusyTimeout, PriorityBudget}
-use Rattle.fw_log_registers.specs.declared.register.Register.TheVariants.{BusManagerId, BandwidthAvailable, ChannelsAvailableHi, ChannelsAvailableLo}
-use Rattle.fw_log_registers.specs.declared.register.Register.TheVariants.{MaintUtility, BroadcastChannel, BusName, BusOptions}
-use Rattle.fw_log_registers.specs.declared.register.Register.TheVariants.{Eui64Hi, Eui64Lo, ConfigRom, OutputMasterPlug, OutputPlug, InputMasterPlug, InputPlug, FcpCommand, FcpResponse, TopologyMap}
-use Rattle.fw_log_registers.specs.declared.place.Place.{Place}
-use Rattle.fw_log_registers.specs.declared.place.Place.TheVariants.{Named, Unnamed}
+use Rattle.fw_log_registers.specs.declared.register.NamedRegister.{NamedRegister}
+use Rattle.fw_log_registers.specs.declared.register.NamedRegister.TheVariants.{StateClear, StateSet, NodeIds, ResetStart, SplitTimeoutHi, SplitTimeoutLo, CycleTime, BusTime, BusyTimeout, PriorityBudget}
+use Rattle.fw_log_registers.specs.declared.register.NamedRegister.TheVariants.{BusManagerId, BandwidthAvailable, ChannelsAvailableHi, ChannelsAvailableLo}
+use Rattle.fw_log_registers.specs.declared.register.NamedRegister.TheVariants.{MaintUtility, BroadcastChannel, BusName, BusOptions}
+use Rattle.fw_log_registers.specs.declared.register.NamedRegister.TheVariants.{Eui64Hi, Eui64Lo, ConfigRom, OutputMasterPlug, OutputPlug, InputMasterPlug, InputPlug, FcpCommand, FcpResponse, TopologyMap}
+use Rattle.fw_log_registers.specs.declared.place.RegisterPlace.{RegisterPlace}
+use Rattle.fw_log_registers.specs.declared.place.RegisterPlace.TheVariants.{Named, Unnamed}
 
 -- a row of the table: where it begins in the register space, how many quadlets it has, and what they are
 pub record Row : Type 0 where
   pub first : ℕ
   pub quadlets : ℕ
-  pub register : Register
+  pub register : NamedRegister
 
 -- a row: a register from its first offset on
-abbrev pub row : ℕ → ℕ → Register → Row
+abbrev pub row : ℕ → ℕ → NamedRegister → Row
 row first quadlets register = record { first = first; quadlets = quadlets; register = register }
 
 -- the registers of one quadlet that each node may have
@@ -49,20 +49,20 @@ abbrev pub index_of : Row → ℕ → Option ℕ
 index_of r offset = index_in (REGISTER_SPACE + r.first) r.quadlets offset
 
 -- the register with that index, or else another place
-abbrev pub named_or : Register → Option ℕ → Place → Place
+abbrev pub named_or : NamedRegister → Option ℕ → RegisterPlace → RegisterPlace
 named_or register None rest = rest
 named_or register (Some index) rest = Named register index
 
 -- the first row that has the offset, or else another place
-abbrev pub place_among : List Row → ℕ → Place → Place
+abbrev pub place_among : List Row → ℕ → RegisterPlace → RegisterPlace
 place_among [] offset rest = rest
 place_among (r ∷ rs) offset rest = named_or r.register (index_of r offset) (place_among rs offset rest)
 
 -- a register of one quadlet, or else another place
-abbrev pub single_or : Option Register → Place → Place
+abbrev pub single_or : Option NamedRegister → RegisterPlace → RegisterPlace
 single_or None rest = rest
 single_or (Some register) rest = Named register 0
 
 -- what stands at an offset
-unfoldable pub place_of : ℕ → Place
+unfoldable pub place_of : ℕ → RegisterPlace
 place_of offset = place_among core_rows offset (place_among bus_rows offset (place_among unit_rows offset (place_among long_rows offset (Unnamed offset))))

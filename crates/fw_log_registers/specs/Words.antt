@@ -3,22 +3,22 @@ use Rattle.std.specs.Prelude.{ℕ, zero, suc, ◌+◌, ◌-◌, ◌^◌, ◌==�
 use Rattle.fw_words.specs.Quadlet.{field}
 use Rattle.fw_log_names.specs.Texts.{hex, named, quadlet_text}
 use Rattle.fw_log_names.specs.Names.{rate_name}
-use Rattle.fw_log_registers.specs.declared.register.Register.{Register}
-use Rattle.fw_log_registers.specs.declared.register.Register.TheVariants.{StateClear, StateSet, NodeIds, ResetStart, SplitTimeoutHi, SplitTimeoutLo, CycleTime, BusTime, BusyTimeout, PriorityBudget}
-use Rattle.fw_log_registers.specs.declared.register.Register.TheVariants.{BusManagerId, BandwidthAvailable, ChannelsAvailableHi, ChannelsAvailableLo}
-use Rattle.fw_log_registers.specs.declared.register.Register.TheVariants.{MaintUtility, BroadcastChannel, BusName, BusOptions}
-use Rattle.fw_log_registers.specs.declared.register.Register.TheVariants.{Eui64Hi, Eui64Lo, ConfigRom, OutputMasterPlug, OutputPlug, InputMasterPlug, InputPlug, FcpCommand, FcpResponse, TopologyMap}
-use Rattle.fw_log_registers.specs.declared.place.Place.{Place}
-use Rattle.fw_log_registers.specs.declared.place.Place.TheVariants.{Named, Unnamed}
+use Rattle.fw_log_registers.specs.declared.register.NamedRegister.{NamedRegister}
+use Rattle.fw_log_registers.specs.declared.register.NamedRegister.TheVariants.{StateClear, StateSet, NodeIds, ResetStart, SplitTimeoutHi, SplitTimeoutLo, CycleTime, BusTime, BusyTimeout, PriorityBudget}
+use Rattle.fw_log_registers.specs.declared.register.NamedRegister.TheVariants.{BusManagerId, BandwidthAvailable, ChannelsAvailableHi, ChannelsAvailableLo}
+use Rattle.fw_log_registers.specs.declared.register.NamedRegister.TheVariants.{MaintUtility, BroadcastChannel, BusName, BusOptions}
+use Rattle.fw_log_registers.specs.declared.register.NamedRegister.TheVariants.{Eui64Hi, Eui64Lo, ConfigRom, OutputMasterPlug, OutputPlug, InputMasterPlug, InputPlug, FcpCommand, FcpResponse, TopologyMap}
+use Rattle.fw_log_registers.specs.declared.place.RegisterPlace.{RegisterPlace}
+use Rattle.fw_log_registers.specs.declared.place.RegisterPlace.TheVariants.{Named, Unnamed}
 use Rattle.fw_log_registers.specs.declared.shown.Amount.{Amount}
 use Rattle.fw_log_registers.specs.declared.shown.Amount.TheVariants.{Units, BroadcastConnections, PointToPointConnections}
 use Rattle.fw_log_registers.specs.declared.shown.Shown.{Shown}
 use Rattle.fw_log_registers.specs.declared.shown.Shown.TheVariants.{Decimal, Company, Rate, Node, Counted}
-use Rattle.fw_log_registers.specs.declared.told.Told.{Told}
-use Rattle.fw_log_registers.specs.declared.told.Told.TheVariants.{Word, Swap}
+use Rattle.fw_log_registers.specs.declared.told.RegisterValue.{RegisterValue}
+use Rattle.fw_log_registers.specs.declared.told.RegisterValue.TheVariants.{Word, Swap}
 
 -- the name of a register
-abbrev pub register_name : Register → List ℕ
+abbrev pub register_name : NamedRegister → List ℕ
 register_name StateClear = codes "STATE_CLEAR"
 register_name StateSet = codes "STATE_SET"
 register_name NodeIds = codes "NODE_IDS"
@@ -49,7 +49,7 @@ register_name FcpResponse = codes "FCP_RESPONSE"
 register_name TopologyMap = codes "TOPOLOGY_MAP"
 
 -- there is more than one of it
-abbrev pub is_row : Register → Bool
+abbrev pub is_row : NamedRegister → Bool
 is_row ConfigRom = true
 is_row OutputPlug = true
 is_row InputPlug = true
@@ -57,7 +57,7 @@ is_row TopologyMap = true
 is_row _ = false
 
 -- what stands at an offset: a register's name, with its index if there is more than one of it, or the offset's twelve digits
-unfoldable pub place_text : Place → List ℕ
+unfoldable pub place_text : RegisterPlace → List ℕ
 place_text (Named register index) = register_name register ++ (if is_row register then codes "[" ++ decimal index ++ codes "]" else [])
 place_text (Unnamed offset) = codes "offset " ++ hex 12 offset
 
@@ -102,7 +102,7 @@ input_plug_fields = field_at (codes "on-line") 0 0 Decimal ∷ field_at (codes "
     ∷ field_at (codes "point-to-point") 2 7 (Counted PointToPointConnections) ∷ field_at (codes "channel") 10 15 Decimal ∷ []
 
 -- the fields of the registers that each node has (IEEE 1394-1995, 8.3.2)
-abbrev pub node_fields : Register → List Field
+abbrev pub node_fields : NamedRegister → List Field
 node_fields NodeIds = field_at (codes "bus_ID") 0 9 Decimal ∷ field_at (codes "physical_ID") 10 15 Decimal ∷ []
 node_fields SplitTimeoutHi = field_at (codes "seconds") 29 31 Decimal ∷ []
 node_fields SplitTimeoutLo = field_at (codes "cycles") 0 12 Decimal ∷ []
@@ -112,7 +112,7 @@ node_fields Eui64Hi = field_at (codes "vendor") 0 23 Company ∷ []
 node_fields _ = []
 
 -- the fields of a register, in the order in which they are told
-abbrev pub fields_of : Register → List Field
+abbrev pub fields_of : NamedRegister → List Field
 fields_of BusManagerId = field_at (codes "bus manager") 26 31 Node ∷ []
 fields_of BandwidthAvailable = field_at (codes "units left") 19 31 (Counted Units) ∷ []
 fields_of OutputMasterPlug = field_at (codes "rate") 0 1 Rate ∷ field_at (codes "broadcast base") 2 7 Decimal ∷ field_at (codes "plugs") 27 31 Decimal ∷ []
@@ -148,7 +148,7 @@ change_text label (Counted amount) old new = difference_text amount old new
 change_text label shown old new = codes ", " ++ label ++ codes " " ++ value_text shown old ++ codes " to " ++ value_text shown new
 
 -- what is told of a field; a swap tells it only if its value differs
-unfoldable pub told_field : Told → Field → List ℕ
+unfoldable pub told_field : RegisterValue → Field → List ℕ
 told_field (Word word) f = field_text f.label f.shown (field word f.first f.last)
 told_field (Swap old new) f =
     if field old f.first f.last == field new f.first f.last then []
@@ -180,22 +180,22 @@ abbrev pub taken_text : ℕ → ℕ → List ℕ
 taken_text first word = if word == 0 then codes " none" else channels_text first word
 
 -- what is told of a set of channels whose bits are 1 if they are free
-abbrev pub told_channels : Told → ℕ → List ℕ
+abbrev pub told_channels : RegisterValue → ℕ → List ℕ
 told_channels (Word word) first = codes ", channels taken" ++ taken_text first (inverted word)
 told_channels (Swap old new) first =
     moved_text (codes ", takes channel") first (bit_and old (inverted new)) ++ moved_text (codes ", gives back channel") first (bit_and new (inverted old))
 
 -- what is told of a register
-abbrev pub told_register : Told → Register → List ℕ
+abbrev pub told_register : RegisterValue → NamedRegister → List ℕ
 told_register told ChannelsAvailableHi = told_channels told 0
 told_register told ChannelsAvailableLo = told_channels told 32
 told_register told register = flat_map (told_field told) (fields_of register)
 
 -- what is told of what stands at an offset; each part begins with a comma and a space
-unfoldable pub told_text : Told → Place → List ℕ
+unfoldable pub told_text : RegisterValue → RegisterPlace → List ℕ
 told_text told (Named register index) = told_register told register
 told_text told (Unnamed offset) = []
 
 -- a word there: a space, its eight digits, and what it says
-unfoldable pub word_text : Place → ℕ → List ℕ
+unfoldable pub word_text : RegisterPlace → ℕ → List ℕ
 word_text place word = quadlet_text word ++ told_text (Word word) place

@@ -3,7 +3,7 @@
 ghost use Rattle.std.specs.Prelude.{◌≡◌, ◌++◌, ◌<◌, OnOk};
 ghost use Rattle.fw_log_registers.specs.Words.{channel_text, channels_text, taken_text, moved_text, told_channels};
 
-use crate::told::Told;
+use crate::told::RegisterValue;
 use fw_log_names::{put_number, put_word};
 use fw_words::Quadlet;
 use std::alloc::AllocError;
@@ -53,15 +53,15 @@ fn put_taken(text: &mut Vec<u8>, first: u8, taken: u32) -> Result<(), AllocError
 }
 
 // Appends what is told of a set of 32 channels, whose first is `first`.
-pub(crate) fn put_set(text: &mut Vec<u8>, told: Told, first: u8) -> Result<(), AllocError>
+pub(crate) fn put_set(text: &mut Vec<u8>, told: RegisterValue, first: u8) -> Result<(), AllocError>
     ensures { OnOk result (text.new.items ≡ text.old.items ++ told_channels told first) }
 {
     match told {
-        Told::Word(free) => {
+        RegisterValue::Word(free) => {
             put_word(text, ", channels taken")?;
             put_taken(text, first, !free)
         }
-        Told::Swap { old, new } => {
+        RegisterValue::Swap { old, new } => {
             put_moved(text, ", takes channel", first, old & !new)?;
             put_moved(text, ", gives back channel", first, new & !old)
         }

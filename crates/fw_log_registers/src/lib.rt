@@ -9,8 +9,8 @@ mod shown;
 mod text;
 mod told;
 
-pub use place::Place;
-pub use register::Register;
+pub use place::RegisterPlace;
+pub use register::NamedRegister;
 pub use shown::{Amount, Shown};
 pub use text::{put_place, put_register_word, put_told};
-pub use told::Told;
+pub use told::RegisterValue;

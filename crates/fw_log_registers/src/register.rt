@@ -4,7 +4,7 @@ ghost use Rattle.std.specs.Prelude.{◌≡◌};
 
 /// A register of a node, or a row of registers of one kind (IEEE 1212; IEEE 1394-1995, 8.3.2; IEC 61883-1, 7 and 9).
 #[derive(Clone, Copy)]
-pub enum Register {
+pub enum NamedRegister {
     /// STATE_CLEAR.
     StateClear,
     /// STATE_SET.
@@ -63,7 +63,7 @@ pub enum Register {
     TopologyMap,
 }
 
-impl Register {
+impl NamedRegister {
     ghost use Rattle.fw_log_registers.specs.Words.{register_name, is_row};
 
     /// Its name in the standards.
@@ -71,34 +71,34 @@ impl Register {
         ensures { result.now ≡ register_name self }
     {
         match self {
-            Register::StateClear => "STATE_CLEAR",
-            Register::StateSet => "STATE_SET",
-            Register::NodeIds => "NODE_IDS",
-            Register::ResetStart => "RESET_START",
-            Register::SplitTimeoutHi => "SPLIT_TIMEOUT_HI",
-            Register::SplitTimeoutLo => "SPLIT_TIMEOUT_LO",
-            Register::CycleTime => "CYCLE_TIME",
-            Register::BusTime => "BUS_TIME",
-            Register::BusyTimeout => "BUSY_TIMEOUT",
-            Register::PriorityBudget => "PRIORITY_BUDGET",
-            Register::BusManagerId => "BUS_MANAGER_ID",
-            Register::BandwidthAvailable => "BANDWIDTH_AVAILABLE",
-            Register::ChannelsAvailableHi => "CHANNELS_AVAILABLE_HI",
-            Register::ChannelsAvailableLo => "CHANNELS_AVAILABLE_LO",
-            Register::MaintUtility => "MAINT_UTILITY",
-            Register::BroadcastChannel => "BROADCAST_CHANNEL",
-            Register::BusName => "bus_name",
-            Register::BusOptions => "bus_options",
-            Register::Eui64Hi => "EUI_64_HI",
-            Register::Eui64Lo => "EUI_64_LO",
-            Register::ConfigRom => "CONFIG_ROM",
-            Register::OutputMasterPlug => "oMPR",
-            Register::OutputPlug => "oPCR",
-            Register::InputMasterPlug => "iMPR",
-            Register::InputPlug => "iPCR",
-            Register::FcpCommand => "FCP_COMMAND",
-            Register::FcpResponse => "FCP_RESPONSE",
-            Register::TopologyMap => "TOPOLOGY_MAP",
+            NamedRegister::StateClear => "STATE_CLEAR",
+            NamedRegister::StateSet => "STATE_SET",
+            NamedRegister::NodeIds => "NODE_IDS",
+            NamedRegister::ResetStart => "RESET_START",
+            NamedRegister::SplitTimeoutHi => "SPLIT_TIMEOUT_HI",
+            NamedRegister::SplitTimeoutLo => "SPLIT_TIMEOUT_LO",
+            NamedRegister::CycleTime => "CYCLE_TIME",
+            NamedRegister::BusTime => "BUS_TIME",
+            NamedRegister::BusyTimeout => "BUSY_TIMEOUT",
+            NamedRegister::PriorityBudget => "PRIORITY_BUDGET",
+            NamedRegister::BusManagerId => "BUS_MANAGER_ID",
+            NamedRegister::BandwidthAvailable => "BANDWIDTH_AVAILABLE",
+            NamedRegister::ChannelsAvailableHi => "CHANNELS_AVAILABLE_HI",
+            NamedRegister::ChannelsAvailableLo => "CHANNELS_AVAILABLE_LO",
+            NamedRegister::MaintUtility => "MAINT_UTILITY",
+            NamedRegister::BroadcastChannel => "BROADCAST_CHANNEL",
+            NamedRegister::BusName => "bus_name",
+            NamedRegister::BusOptions => "bus_options",
+            NamedRegister::Eui64Hi => "EUI_64_HI",
+            NamedRegister::Eui64Lo => "EUI_64_LO",
+            NamedRegister::ConfigRom => "CONFIG_ROM",
+            NamedRegister::OutputMasterPlug => "oMPR",
+            NamedRegister::OutputPlug => "oPCR",
+            NamedRegister::InputMasterPlug => "iMPR",
+            NamedRegister::InputPlug => "iPCR",
+            NamedRegister::FcpCommand => "FCP_COMMAND",
+            NamedRegister::FcpResponse => "FCP_RESPONSE",
+            NamedRegister::TopologyMap => "TOPOLOGY_MAP",
         }
     }
 
@@ -108,7 +108,10 @@ impl Register {
     {
         matches!(
             self,
-            Register::ConfigRom | Register::OutputPlug | Register::InputPlug | Register::TopologyMap
+            NamedRegister::ConfigRom
+                | NamedRegister::OutputPlug
+                | NamedRegister::InputPlug
+                | NamedRegister::TopologyMap
         )
     }
 }

@@ -4,27 +4,27 @@ ghost use Rattle.std.specs.Prelude.{◌≡◌, ◌++◌, OnOk, codes, decimal};
 ghost use Rattle.fw_log_registers.specs.Words.{is_row, place_text, told_text, word_text};
 
 use crate::fields::put_register;
-use crate::place::Place;
-use crate::register::Register;
-use crate::told::Told;
+use crate::place::RegisterPlace;
+use crate::register::NamedRegister;
+use crate::told::RegisterValue;
 use fw_log_names::{Pairs, put_hex12, put_number, put_quadlet, put_word};
 use std::alloc::AllocError;
 
 /// Appends what stands at an offset: the name of a register, with its index if there is more than one of it, or the offset's
 /// twelve hexadecimal digits. An error says that memory ran out, and comes for nothing else.
 #[tactic(auto, unfolding(crate::specs::Words::place_text))]
-pub fn put_place(text: &mut Vec<u8>, pairs: &Pairs, place: Place) -> Result<(), AllocError>
+pub fn put_place(text: &mut Vec<u8>, pairs: &Pairs, place: RegisterPlace) -> Result<(), AllocError>
     ensures { OnOk result (text.new.items ≡ text.old.items ++ place_text place) }
 {
     match place {
-        Place::Named(register, index) => {
+        RegisterPlace::Named(register, index) => {
             put_word(text, register.name())?;
             if register.is_row() {
                 put_index(text, index)?;
             }
             Ok(())
         }
-        Place::Unnamed(offset) => {
+        RegisterPlace::Unnamed(offset) => {
             put_word(text, "offset ")?;
             put_hex12(text, pairs, offset)
         }
@@ -45,14 +45,14 @@ fn put_index(text: &mut Vec<u8>, index: u16) -> Result<(), AllocError>
 pub fn put_told(
     text: &mut Vec<u8>,
     pairs: &Pairs,
-    place: Place,
-    told: Told,
+    place: RegisterPlace,
+    told: RegisterValue,
 ) -> Result<(), AllocError>
     ensures { OnOk result (text.new.items ≡ text.old.items ++ told_text told place) }
 {
     match place {
-        Place::Named(register, _) => put_register(text, pairs, told, register),
-        Place::Unnamed(_) => Ok(()),
+        RegisterPlace::Named(register, _) => put_register(text, pairs, told, register),
+        RegisterPlace::Unnamed(_) => Ok(()),
     }
 }
 
@@ -62,11 +62,11 @@ pub fn put_told(
 pub fn put_register_word(
     text: &mut Vec<u8>,
     pairs: &Pairs,
-    place: Place,
+    place: RegisterPlace,
     word: u32,
 ) -> Result<(), AllocError>
     ensures { OnOk result (text.new.items ≡ text.old.items ++ word_text place word) }
 {
     put_quadlet(text, pairs, word)?;
-    put_told(text, pairs, place, Told::Word(word))
+    put_told(text, pairs, place, RegisterValue::Word(word))
 }

@@ -10,7 +10,7 @@ use std::alloc::AllocError;
 
 /// What is told of a register.
 #[derive(Clone, Copy)]
-pub enum Told {
+pub enum RegisterValue {
     /// The word that it holds, or that is written to it.
     Word(u32),
     /// A swap of one word for another.
@@ -75,7 +75,7 @@ fn put_change(
 pub(crate) fn put_field(
     text: &mut Vec<u8>,
     pairs: &Pairs,
-    told: Told,
+    told: RegisterValue,
     label: &str,
     first: u8,
     last: u8,
@@ -86,11 +86,11 @@ pub(crate) fn put_field(
     ensures { OnOk result (text.new.items ≡ text.old.items ++ told_field told (field_at label.now first last shown)) }
 {
     match told {
-        Told::Word(word) => {
+        RegisterValue::Word(word) => {
             put_label(text, label)?;
             put_value(text, pairs, shown, Quadlet(word).field(first, last))
         }
-        Told::Swap { old, new } => {
+        RegisterValue::Swap { old, new } => {
             let from = Quadlet(old).field(first, last);
             let to = Quadlet(new).field(first, last);
             if from == to {

@@ -7,7 +7,7 @@ use Rattle.fw_model_account.specs.Fold.{no_account}
 use Rattle.fw_audit.specs.Found.{IsPassedOver}
 use Rattle.fw_log_entry.specs.declared.entry.Entry.{Entry}
 use Rattle.fw_log_entry.specs.declared.entry.Timed.{Timed}
-use Rattle.fw_holders.specs.Told.{Holds, IsQuiet, Room, holders as lines}
+use Rattle.fw_holders.specs.Told.{Holds, IsQuiet, HolderState, holders as lines}
 use Rattle.fw_holders.proofs.QuietLaws.{quiet_packet, quiet_iso, holds_quiet, text_quiet}
 use Rattle.fw_log.specs.Passing.{HasBody}
 use Rattle.fw_log.specs.declared.plain.PlainBody.{PlainBody}
@@ -42,7 +42,7 @@ passed_over v count entries t b few h made passed counts =
     }
 
 -- one that was taken has the line that was appended
-pub taken_text : (v : Holding) (holders : Room) (count : ℕ) (entries : List Timed) (t : Timed) → Takes v entries → Holds (entries ++ t ∷ []) holders
+pub taken_text : (v : Holding) (holders : HolderState) (count : ℕ) (entries : List Timed) (t : Timed) → Takes v entries → Holds (entries ++ t ∷ []) holders
     → holders.text ≡ v.holders.text ++ lines entries (t ∷ []) → count ≡ v.count + 1 → TakesText entries t v (record { holders = holders; count = count })
 taken_text v holders count entries t h holds text counts = record {
   takes = record { count = omega (arith, h.count, counts, length-append entries (t ∷ [])); holds = holds };

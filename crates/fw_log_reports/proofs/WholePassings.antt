@@ -6,7 +6,7 @@ use Rattle.fw_log.specs.Passing.{PassesBody}
 use Rattle.fw_log.specs.Reader.{State}
 use Rattle.fw_log.specs.declared.passing.PassedBody.{PassedBody}
 use Rattle.fw_log_loop.specs.Readings.{Passes}
-use Rattle.fw_watch.specs.Watched.{watched, Watches, Room as WatchRoom}
+use Rattle.fw_watch.specs.Watched.{watched, Watches, WatchState as WatchRoom}
 use Rattle.fw_log_reports.specs.Watching.{watched_form}
 
 -- the entry that was made is the one that was passed

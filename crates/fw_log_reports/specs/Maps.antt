@@ -64,8 +64,8 @@ never_refused_map entries _ h r = r
 
 -- a log that has its tree is not refused
 pub map_unrefused : (entries : List Timed) → HasTree entries → IsAccepted map_rules entries
-map_unrefused entries h = record { entry = λ front rest m is r. r; end = λ refusal r. never_refused_map entries refusal h r }
+map_unrefused entries h = record { entry = λ prefix rest m is r. r; end = λ refusal r. never_refused_map entries refusal h r }
 
 -- nor if its graph is drawn
 pub graph_unrefused : (entries : List Timed) → HasTree entries → IsAccepted graph_rules entries
-graph_unrefused entries h = record { entry = λ front rest m is r. r; end = λ refusal r. never_refused_map entries refusal h r }
+graph_unrefused entries h = record { entry = λ prefix rest m is r. r; end = λ refusal r. never_refused_map entries refusal h r }

@@ -10,4 +10,4 @@ never_refused last = record { accepts = λ entries. ⊤; rejects = λ entries re
 
 -- so none is
 pub none_unrefused : (last : List Timed → List ℕ) (entries : List Timed) → IsAccepted (never_refused last) entries
-none_unrefused last entries = record { entry = λ front rest refusal is r. r; end = λ refusal r. r }
+none_unrefused last entries = record { entry = λ prefix rest refusal is r. r; end = λ refusal r. r }

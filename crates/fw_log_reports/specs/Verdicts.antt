@@ -49,12 +49,12 @@ pub entries_more : (xs ys : List Timed) → entries_of (xs ++ ys) ≡ entries_of
 entries_more [] ys = refl
 entries_more (x ∷ xs) ys = ap (λ es. x.what ∷ es) (entries_more xs ys)
 
-never_rejected : (entries front rest : List Timed) (refusal : LogRefusal) → IsSoundLog entries → entries ≡ front ++ rest → RejectsUnsound front refusal → ⊥
-never_rejected entries front rest (Audit u) sound is r =
-    let parts : entries_of entries ≡ entries_of front ++ entries_of rest = ap entries_of is ∙ entries_more front rest in
-    never_audited (entries_of front) (entries_of rest) u.fault r.faulty (subst IsAudited parts sound)
-never_rejected entries front rest _ sound is r = r
+never_rejected : (entries prefix rest : List Timed) (refusal : LogRefusal) → IsSoundLog entries → entries ≡ prefix ++ rest → RejectsUnsound prefix refusal → ⊥
+never_rejected entries prefix rest (Audit u) sound is r =
+    let parts : entries_of entries ≡ entries_of prefix ++ entries_of rest = ap entries_of is ∙ entries_more prefix rest in
+    never_audited (entries_of prefix) (entries_of rest) u.fault r.faulty (subst IsAudited parts sound)
+never_rejected entries prefix rest _ sound is r = r
 
 -- a log in which no entry has a fault is not refused
 pub sound_unrefused : (entries : List Timed) → IsSoundLog entries → IsAccepted audit_rules entries
-sound_unrefused entries sound = record { entry = λ front rest refusal is r. never_rejected entries front rest refusal sound is r; end = λ refusal r. r }
+sound_unrefused entries sound = record { entry = λ prefix rest refusal is r. never_rejected entries prefix rest refusal sound is r; end = λ refusal r. r }

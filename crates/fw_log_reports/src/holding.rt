@@ -18,7 +18,7 @@ use crate::whole_bus::read_whole_bus;
 use crate::whole_reset::no_reset;
 use crate::{LogRefusal, Unsound};
 use fw_holders::Holders;
-use fw_log::{LogReader, PlainBody, Room, Timed};
+use fw_log::{LogReader, PlainBody, ReadBuffers, Timed};
 use fw_log_loop::{Closing, LogEnding, Reading, Stop, read_log};
 use fw_outside::{Failed, Sink, Source};
 use std::alloc::{AllocError, Global};
@@ -125,10 +125,10 @@ impl Reading for Holding {
     }
 
     // No fault of a packet of a usual form is looked for twice.
-    fn pass(
+    fn take_raw(
         &mut self,
         reader: &mut LogReader,
-        room: &mut Room,
+        room: &mut ReadBuffers,
         piece: &[u8],
     ) -> Result<Option<usize>, AllocError> {
         if !may_pass(reader.next_kind(piece)) {

@@ -11,7 +11,7 @@ ghost use Rattle.fw_log_reports.specs.Texts.{silent_form};
 ghost use Rattle.fw_log_reports.specs.Trees.{last_reset, KeepsLast};
 
 use crate::whole_reset::{no_reset, read_whole_reset};
-use fw_log::{Entry, LogReader, PlainBody, Room, Timed};
+use fw_log::{Entry, LogReader, PlainBody, ReadBuffers, Timed};
 use fw_log_entry::ResetEntry;
 use std::alloc::{AllocError, Global};
 
@@ -71,10 +71,10 @@ impl LastReset {
 
     /// Takes the entry that ends in a piece from its bytes, if it has a body of a usual form, as `Reading::pass` says.
     #[inline(always)]
-    pub(crate) fn pass(
+    pub(crate) fn take_raw(
         &mut self,
         reader: &mut LogReader,
-        room: &mut Room,
+        room: &mut ReadBuffers,
         piece: &[u8],
     ) -> Result<Option<usize>, AllocError>
         requires { total reader.old + length piece.now < 2 ^ 64 }

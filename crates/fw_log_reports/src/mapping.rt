@@ -7,7 +7,7 @@ ghost use Rattle.fw_log_reports.specs.Maps.{map_rules};
 
 use crate::last_reset::LastReset;
 use crate::{LogRefusal, NoMap};
-use fw_log::{LogReader, Room, Timed};
+use fw_log::{LogReader, ReadBuffers, Timed};
 use fw_log_loop::{Closing, LogEnding, Reading, read_log};
 use fw_map::{rebuild, tree_text};
 use fw_outside::{Failed, Sink, Source};
@@ -43,13 +43,13 @@ impl Reading for Mapping {
         Ok(None)
     }
 
-    fn pass(
+    fn take_raw(
         &mut self,
         reader: &mut LogReader,
-        room: &mut Room,
+        room: &mut ReadBuffers,
         piece: &[u8],
     ) -> Result<Option<usize>, AllocError> {
-        self.last.pass(reader, room, piece)
+        self.last.take_raw(reader, room, piece)
     }
 
     fn gathered(&self) -> &[u8] {

@@ -8,7 +8,7 @@ ghost use Rattle.fw_log_reports.specs.Silences.{never_refused};
 
 use crate::LogRefusal;
 use fw_cip::whole_iso;
-use fw_log::{LogReader, PlainBody, Room, Timed};
+use fw_log::{LogReader, PlainBody, ReadBuffers, Timed};
 use fw_log_loop::{Closing, LogEnding, Reading, read_log};
 use fw_log_text::StreamReport;
 use fw_outside::{Failed, Sink, Source};
@@ -45,14 +45,14 @@ impl Reading for Streams {
     }
 
     // Entries of no stream have no part in the report; of an isochronous packet it takes what it counts.
-    fn pass(
+    fn take_raw(
         &mut self,
         reader: &mut LogReader,
-        room: &mut Room,
+        room: &mut ReadBuffers,
         piece: &[u8],
     ) -> Result<Option<usize>, AllocError> {
         let Some(passed) = reader.pass_body(piece, room) else {
-            return Ok(reader.pass(piece, room));
+            return Ok(reader.take_raw(piece, room));
         };
         if let PlainBody::Iso(bytes) = &passed.body {
             self.report.take_packet(&whole_iso(bytes.as_slice()));

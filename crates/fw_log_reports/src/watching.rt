@@ -14,7 +14,7 @@ use crate::LogRefusal;
 use crate::whole_bus::read_whole_bus;
 use crate::whole_reset::no_reset;
 use fw_cip::whole_iso;
-use fw_log::{LogReader, PlainBody, Room, Timed};
+use fw_log::{LogReader, PlainBody, ReadBuffers, Timed};
 use fw_log_entry::ResetEntry;
 use fw_log_loop::{Closing, LogEnding, Reading, Stop, read_log};
 use fw_outside::{Failed, Sink, Source};
@@ -48,7 +48,7 @@ impl Watching {
         requires { (e : AnEntry) × HasBody body.now e }
         ensures lines { (e : AnEntry) → HasBody body.now e → (before : List TimedEntry) → Watches self.old.watch before
             → OnOk result (self.new.watch.told.text ≡ self.old.watch.told.text ++ watched before (at_cycle cycle e ∷ [])) }
-        ensures behind { (e : AnEntry) → HasBody body.now e → (before : List TimedEntry) → Watches self.old.watch before
+        ensures following { (e : AnEntry) → HasBody body.now e → (before : List TimedEntry) → Watches self.old.watch before
             → OnOk result (Watches self.new.watch (before ++ at_cycle cycle e ∷ [])) }
     {
         match body {
@@ -86,10 +86,10 @@ impl Reading for Watching {
     }
 
     // No fault of a packet or a bus reset of a usual form is looked for twice.
-    fn pass(
+    fn take_raw(
         &mut self,
         reader: &mut LogReader,
-        room: &mut Room,
+        room: &mut ReadBuffers,
         piece: &[u8],
     ) -> Result<Option<usize>, AllocError> {
         let Some(passed) = reader.pass_body(piece, room) else {

@@ -2,14 +2,14 @@
 use Rattle.std.proofs.Common.{◌≡◌, refl, ap, sym, ◌∙◌, ℕ, zero, suc, ◌+◌, ◌-◌, ◌≤◌, List, [], ◌∷◌, ◌++◌, length, take, drop, add-one, arith, length-drop}
 use Rattle.fw_log_requests.specs.declared.asked.Asked.{Asked}
 
-take_front : (a b : List Asked) (n : ℕ) → n ≡ length a → take n (a ++ b) ≡ a
-take_front [] b n e = rw e refl
-take_front (x ∷ a) b zero e = absurd (omega (arith, e))
-take_front (x ∷ a) b (suc n) e = ap (λ (l : List Asked). x ∷ l) (take_front a b n (omega (arith, e)))
+take_prefix : (a b : List Asked) (n : ℕ) → n ≡ length a → take n (a ++ b) ≡ a
+take_prefix [] b n e = rw e refl
+take_prefix (x ∷ a) b zero e = absurd (omega (arith, e))
+take_prefix (x ∷ a) b (suc n) e = ap (λ (l : List Asked). x ∷ l) (take_prefix a b n (omega (arith, e)))
 
 -- moved to the beginning, and what then stands after them cut off
 pub moved_up : (rows : List Asked) (start : ℕ) → take (length rows - start) (drop start rows ++ take start rows) ≡ drop start rows
-moved_up rows start = take_front (drop start rows) (take start rows) (length rows - start) (sym (length-drop start rows))
+moved_up rows start = take_prefix (drop start rows) (take start rows) (length rows - start) (sym (length-drop start rows))
 
 drop_none : (n : ℕ) → drop {A = Asked} n [] ≡ []
 drop_none zero = refl

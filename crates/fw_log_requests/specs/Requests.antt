@@ -1,4 +1,4 @@
--- The requests that stand: those that no response has answered since the latest bus reset, the oldest first, at most 256.
+-- The outstanding requests: those that no response has answered since the latest bus reset, the oldest first, at most 256.
 use Rattle.std.specs.Prelude.{ℕ, ◌==◌, ◌&&◌, not, Bool, Option, Some, None, List, [], ◌∷◌, ◌++◌, length, drop, slice_get, if◌then◌else◌}
 use Rattle.std.specs.List.{filter, position}
 use Rattle.fw_async.specs.declared.packet.Head.{Head}
@@ -57,27 +57,27 @@ without_same q list = filter (λ r. not (is_same q r)) list
 abbrev pub latest : List Asked → List Asked
 latest list = if length list == 257 then drop 1 list else list
 
--- the requests that stand after a request, which takes the place of one with its source, destination and label
+-- the outstanding requests after a request, which takes the place of one with its source, destination and label
 unfoldable pub with_request : Asked → List Asked → List Asked
 with_request q list = latest (without_same q list ++ q ∷ [])
 
--- the requests that stand after a packet, if it asks anything
+-- the outstanding requests after a packet, if it asks anything
 abbrev pub with_requested : Option Asked → List Asked → List Asked
 with_requested None list = list
 with_requested (Some q) list = with_request q list
 
--- the requests that stand after a packet
-unfoldable pub standing_behind : Packet → List Asked → List Asked
-standing_behind (WriteReply h rcode) list = without_answered WriteResponse h list
-standing_behind (ReadQuadletReply h rcode value) list = without_answered ReadQuadletResponse h list
-standing_behind (ReadBlockReply h rcode bytes) list = without_answered ReadBlockResponse h list
-standing_behind (LockReply h rcode function bytes) list = without_answered LockResponse h list
-standing_behind p list = with_requested (asked_by p) list
+-- the outstanding requests after a packet
+unfoldable pub standing_following : Packet → List Asked → List Asked
+standing_following (WriteReply h rcode) list = without_answered WriteResponse h list
+standing_following (ReadQuadletReply h rcode value) list = without_answered ReadQuadletResponse h list
+standing_following (ReadBlockReply h rcode bytes) list = without_answered ReadBlockResponse h list
+standing_following (LockReply h rcode function bytes) list = without_answered LockResponse h list
+standing_following p list = with_requested (asked_by p) list
 
 -- those after an entry: a bus reset ends all
 abbrev pub standing_after : Entry → List Asked → List Asked
 standing_after (Reset r) list = []
-standing_after (Async p) list = standing_behind p list
+standing_after (Async p) list = standing_following p list
 standing_after (Iso p) list = list
 standing_after (Event e) list = list
 standing_after (Outcome o) list = list
@@ -89,7 +89,7 @@ abbrev pub standing_from : List Asked → List Timed → List Asked
 standing_from list [] = list
 standing_from list (t ∷ ts) = standing_from (standing_after t.what list) ts
 
--- the requests that stand after the entries of a log
+-- the outstanding requests after the entries of a log
 abbrev pub standing : List Timed → List Asked
 standing entries = standing_from [] entries
 

@@ -19,7 +19,7 @@ pub enum Answer {
 }
 
 impl Answer {
-    ghost use Rattle.fw_async.specs.Tcode.{code_of};
+    ghost use Rattle.fw_async_fields.specs.Tcode.{code_of};
     ghost use Rattle.fw_log_requests.specs.Requests.{tcode_of};
 
     // Its transaction code.

@@ -1,4 +1,4 @@
-//! The requests that stand after the entries of a log: those that no response has answered since the latest bus reset.
+//! The outstanding requests after the entries of a log: those that no response has answered since the latest bus reset.
 #![tactic(auto)]
 
 mod asked;

@@ -1,9 +1,9 @@
-//! The requests that stand.
+//! The outstanding requests.
 
 ghost use Rattle.std.specs.Prelude.{◌≡◌, ◌<◌, ◌≤◌, ◌%◌, ◌++◌, ◌∷◌, [], List, IfSome, IsTrue, length, true, false};
 ghost use Rattle.fw_log_requests.specs.declared.asked.Asked.{Asked as AnAsked};
 ghost use Rattle.std.specs.List.{position};
-ghost use Rattle.fw_log_requests.specs.Requests.{answers, with_request, without_answered, without_same, latest, standing_behind, standing_after, answered};
+ghost use Rattle.fw_log_requests.specs.Requests.{answers, with_request, without_answered, without_same, latest, standing_following, standing_after, answered};
 ghost use Rattle.fw_log_requests.specs.Standing.{AreApart, AreOthers};
 
 use crate::asked::{Answer, Asked};
@@ -12,7 +12,7 @@ use fw_async::{Head, Packet};
 use fw_log_entry::Entry;
 use std::marker::Model;
 
-/// How many requests stand at most.
+/// How many requests are outstanding at most.
 const MOST: usize = 256;
 
 /// How many last numbers of nodes are told apart when a new request is looked for.
@@ -23,7 +23,7 @@ const ASKERS: usize = 64;
 #[derive(Drop)]
 pub struct Requests {
     queue: Queue,
-    // Whether a request that stands may be of a node_ID that ends in these six bits.
+    // Whether an outstanding request may be of a node_ID that ends in these six bits.
     askers: [bool; ASKERS],
 }
 
@@ -97,9 +97,9 @@ impl Requests {
     }
 
     // Takes a packet.
-    #[tactic(auto, unfolding(crate::specs::Requests::standing_behind))]
+    #[tactic(auto, unfolding(crate::specs::Requests::standing_following))]
     fn take_packet(&mut self, p: &Packet)
-        ensures { self.new ≡ standing_behind p.now self.old }
+        ensures { self.new ≡ standing_following p.now self.old }
     {
         match p {
             Packet::WriteReply { head, .. } => self.take_answered(Answer::Write, head),
@@ -116,7 +116,7 @@ impl Requests {
         }
     }
 
-    /// Takes an entry: a bus reset ends all, a request stands from then on, and a response ends the one that it answers.
+    /// Takes an entry: a bus reset ends all, a request is outstanding from then on, and a response ends the one that it answers.
     pub fn take(&mut self, what: &Entry)
         ensures { self.new ≡ standing_after what.now self.old }
     {

@@ -10,8 +10,8 @@ pub moved : {X : Type 0} (f : X → List ℕ) (before last : List ℕ) (x y : X)
 moved f before last x y e t = t ∙ ap (λ z. before ++ f z) e
 
 -- two rows, what stands after them, and a line feed
-pub line_behind : (text front word rest : List ℕ) → (((text ++ front) ++ word) ++ rest) ++ 10 ∷ [] ≡ text ++ ((front ++ (word ++ rest)) ++ 10 ∷ [])
-line_behind text front word rest =
-    ap (λ (t : List ℕ). (t ++ rest) ++ 10 ∷ []) (append_assoc text front word)
-    ∙ ap (λ (t : List ℕ). t ++ 10 ∷ []) (append_assoc text (front ++ word) rest ∙ ap (λ (t : List ℕ). text ++ t) (append_assoc front word rest))
-    ∙ append_assoc text (front ++ (word ++ rest)) (10 ∷ [])
+pub line_after : (text prefix word rest : List ℕ) → (((text ++ prefix) ++ word) ++ rest) ++ 10 ∷ [] ≡ text ++ ((prefix ++ (word ++ rest)) ++ 10 ∷ [])
+line_after text prefix word rest =
+    ap (λ (t : List ℕ). (t ++ rest) ++ 10 ∷ []) (append_assoc text prefix word)
+    ∙ ap (λ (t : List ℕ). t ++ 10 ∷ []) (append_assoc text (prefix ++ word) rest ∙ ap (λ (t : List ℕ). text ++ t) (append_assoc prefix word rest))
+    ∙ append_assoc text (prefix ++ (word ++ rest)) (10 ∷ [])

@@ -2,10 +2,10 @@
 use Rattle.std.proofs.Common.{◌≡◌, ℕ, ◌≤◌, List, [], ◌∷◌, ◌++◌, drop, length, codes, decimal, arith, ap, sym, ◌∙◌}
 use Rattle.fw_async.specs.Async.{Fits, spelling}
 use Rattle.fw_async.specs.Reader.{Spells}
-use Rattle.fw_async.specs.Reading.{tcode_of}
+use Rattle.fw_async_fields.specs.Reading.{tcode_of}
 use Rattle.fw_async.specs.declared.packet.Packet.{Packet}
 use Rattle.fw_async.specs.declared.packet.Packet.TheVariants.{WriteQuadlet, WriteBlock, WriteReply, ReadQuadlet, ReadBlock, ReadQuadletReply, ReadBlockReply, CycleStart, Lock, LockReply}
-use Rattle.fw_async.proofs.NeedLaws.{need_most}
+use Rattle.fw_async_fields.proofs.NeedLaws.{need_most}
 use Rattle.fw_async.proofs.SpelledLaws.{spelled_need, spelled_none, spelled_tcode}
 use Rattle.fw_log_entry.specs.declared.entry.Entry.TheVariants.{Async}
 use Rattle.fw_log_names.specs.Names.{tcode}
@@ -31,9 +31,9 @@ pub code_in : (p : Packet) (bytes : List ℕ) → Spells p bytes → tcode_of by
 code_in p bytes s = ap tcode_of (sym s.same) ∙ code_of p s.fits
 
 -- a cycle, a name and the quadlets are the line of the packet's entry
-pub line_is : (cycle : ℕ) (p : Packet) (bytes front word : List ℕ) → Spells p bytes → front ≡ decimal cycle ++ codes " " → word ≡ codes "async " ++ packet_name p
-    → front ++ (word ++ quadlets_text bytes) ++ 10 ∷ [] ≡ entry_line (record { cycle = cycle; what = Async p })
-line_is cycle p bytes front word s f w =
+pub line_is : (cycle : ℕ) (p : Packet) (bytes prefix word : List ℕ) → Spells p bytes → prefix ≡ decimal cycle ++ codes " " → word ≡ codes "async " ++ packet_name p
+    → prefix ++ (word ++ quadlets_text bytes) ++ 10 ∷ [] ≡ entry_line (record { cycle = cycle; what = Async p })
+line_is cycle p bytes prefix word s f w =
     let quads : List ℕ = quadlets_text bytes in
     ap (λ (x : List ℕ). x ++ (word ++ quads) ++ 10 ∷ []) f ∙ ap (λ (x : List ℕ). decimal cycle ++ codes " " ++ (x ++ quads) ++ 10 ∷ []) w
     ∙ ap (λ (b : List ℕ). decimal cycle ++ codes " " ++ (codes "async " ++ packet_name p ++ quadlets_text b) ++ 10 ∷ []) (sym s.same)

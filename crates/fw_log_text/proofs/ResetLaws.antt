@@ -12,8 +12,8 @@ use Rattle.fw_log_text.proofs.BodyLaws.{ids_from, length-nodes}
 pub long : (r : ResetEntry) (bytes : List ℕ) → body (Reset r) ≡ bytes → 8 + 4 * length r.nodes ≤ length bytes
 long r bytes s = omega (arith, ap length s, length-nodes r, length-append (quads (reset_quads r)) (flat_map spelling r.ids))
 
-pub ids_behind : (r : ResetEntry) (bytes : List ℕ) (n : ℕ) → body (Reset r) ≡ bytes → n ≡ length r.nodes → drop (8 + 4 * n) bytes ≡ flat_map spelling r.ids
-ids_behind r bytes n s e = ap (λ (k : ℕ). drop (8 + 4 * k) bytes) e ∙ ap (drop (8 + 4 * length r.nodes)) (sym s) ∙ ids_from r
+pub ids_after : (r : ResetEntry) (bytes : List ℕ) (n : ℕ) → body (Reset r) ≡ bytes → n ≡ length r.nodes → drop (8 + 4 * n) bytes ≡ flat_map spelling r.ids
+ids_after r bytes n s e = ap (λ (k : ℕ). drop (8 + 4 * k) bytes) e ∙ ap (drop (8 + 4 * length r.nodes)) (sym s) ∙ ids_from r
 
 pub head_is : (r : ResetEntry) (h : ResetHead) → HasHead r h → head_text h ++ flat_map id_text r.ids ≡ reset_text r
 head_is r h x = rw (x.epoch, x.root, x.manager, x.initiator) refl

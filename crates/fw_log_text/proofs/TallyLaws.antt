@@ -19,7 +19,7 @@ use Rattle.fw_log_entry.specs.declared.entry.Entry.{Entry}
 use Rattle.fw_log_entry.specs.declared.entry.Entry.TheVariants.{Reset, Async, Iso, Event, Outcome, Shown, End}
 use Rattle.fw_log_entry.specs.declared.entry.Timed.{Timed}
 use Rattle.fw_log_text.specs.declared.report.Channel.{Channel}
-use Rattle.fw_log_text.specs.Report.{packet_on, packets_on, blocks_of, empties_of, gap_of, gaps_behind, counts_text, channel_text, channels_text}
+use Rattle.fw_log_text.specs.Report.{packet_on, packets_on, blocks_of, empties_of, gap_of, gaps_after, counts_text, channel_text, channels_text}
 use Rattle.fw_log_text.specs.Tallies.{Counts, Reports}
 
 -- ---- one channel
@@ -27,7 +27,7 @@ use Rattle.fw_log_text.specs.Tallies.{Counts, Reports}
 blocks_more : (packets : List IsoPacket) (p : IsoPacket) → blocks_of (packets ++ p ∷ []) ≡ blocks_of packets + cond (is_some p.block) 1 0
 blocks_more packets p = sum_by-append (λ (q : IsoPacket). cond (is_some q.block) 1 0) packets (p ∷ []) ∙ omega arith
 
-gaps_more : (before packets : List IsoPacket) (p : IsoPacket) → gaps_behind before (packets ++ p ∷ []) ≡ gaps_behind before packets + gap_of (heard (expected_of (before ++ packets)) p)
+gaps_more : (before packets : List IsoPacket) (p : IsoPacket) → gaps_after before (packets ++ p ∷ []) ≡ gaps_after before packets + gap_of (heard (expected_of (before ++ packets)) p)
 gaps_more before [] p = ap (λ b. gap_of (heard (expected_of b) p) + 0) (sym (append-nil before)) ∙ omega arith
 gaps_more before (q ∷ qs) p =
     let h = gaps_more (before ++ q ∷ []) qs p in

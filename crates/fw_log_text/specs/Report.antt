@@ -33,13 +33,13 @@ gap_of Empty = 0
 gap_of (Gap expected found) = 1
 
 -- how many of the packets are a gap to a listener that heard others before
-abbrev pub gaps_behind : List IsoPacket → List IsoPacket → ℕ
-gaps_behind before [] = 0
-gaps_behind before (p ∷ ps) = gap_of (heard (expected_of before) p) + gaps_behind (before ++ p ∷ []) ps
+abbrev pub gaps_after : List IsoPacket → List IsoPacket → ℕ
+gaps_after before [] = 0
+gaps_after before (p ∷ ps) = gap_of (heard (expected_of before) p) + gaps_after (before ++ p ∷ []) ps
 
 -- how many packets of a channel are a gap to a listener that hears them all
 abbrev pub gaps_of : List IsoPacket → ℕ
-gaps_of packets = gaps_behind [] packets
+gaps_of packets = gaps_after [] packets
 
 -- the line of a channel: how many packets it has, with a block and without one, and how many of them are a gap
 abbrev pub counts_text : ℕ → ℕ → ℕ → ℕ → ℕ → List ℕ

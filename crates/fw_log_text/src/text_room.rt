@@ -133,17 +133,17 @@ impl TextRoom {
     #[inline(always)]
     pub(crate) fn put_line(
         &mut self,
-        front: Row,
+        prefix: Row,
         word: Row,
         pairs: &Pairs,
         bytes: &[u8],
     ) -> Result<(), AllocError>
         requires { length bytes.now ≤ 528 }
-        ensures { OnOk result (self.new ≡ self.old ++ (front.entry ++ (word.entry ++ quadlets_text bytes.now) ++ 10 ∷ [])) }
+        ensures { OnOk result (self.new ≡ self.old ++ (prefix.entry ++ (word.entry ++ quadlets_text bytes.now) ++ 10 ∷ [])) }
     {
         let room = 2 * ROW + WORD * (bytes.len() / 4) + 1;
         make_room(&mut self.bytes, self.filled, room)?;
-        let at = write_row(&mut self.bytes, self.filled, front);
+        let at = write_row(&mut self.bytes, self.filled, prefix);
         let at = write_row(&mut self.bytes, at, word);
         let at = write_quadlets(&mut self.bytes, at, pairs, bytes);
         self.bytes[at] = b'\n';

@@ -9,7 +9,7 @@ use Rattle.fw_log.specs.declared.passing.PassedBody.{PassedBody}
 use Rattle.fw_log_loop.specs.Readings.{Passes}
 use Rattle.fw_log_text.specs.Line.{entry_line}
 use Rattle.fw_log_json.specs.Objects.{object}
-use Rattle.fw_log_explain.specs.Explained.{explained, Room}
+use Rattle.fw_log_explain.specs.Explained.{explained, ExplainerState}
 use Rattle.fw_log_explain.specs.Lines.{line}
 use Rattle.fw_log_requests.specs.Requests.{standing, standing_after}
 use Rattle.fw_log_requests.specs.declared.asked.Asked.{Asked}
@@ -23,7 +23,7 @@ object_passes room new entries bytes reader p x what same is =
     let made = made_is p.cycle what x.entry (sym x.cycle) same in
     record { entry = x.entry; read = x.read; took = tt; gathered = is ∙ ap (λ (t : Timed). room ++ object t) made ∙ ap (λ (l : List ℕ). room ++ l) (all_of_one object x.entry) }
 
-pub explained_passes : (old new : Room) (entries : List Timed) (bytes : List ℕ) (reader : State) (p : PassedBody) (x : PassesBody entries bytes reader p) (what : Entry)
+pub explained_passes : (old new : ExplainerState) (entries : List Timed) (bytes : List ℕ) (reader : State) (p : PassedBody) (x : PassesBody entries bytes reader p) (what : Entry)
     → what ≡ x.entry.what → new.text ≡ old.text ++ explained entries (record { cycle = p.cycle; what = what } ∷ [])
     → new.requests ≡ standing (entries ++ record { cycle = p.cycle; what = what } ∷ []) → Passes explained_form.text (λ es. new.requests ≡ standing es) old.text new.text entries bytes reader
 explained_passes old new entries bytes reader p x what same text requests =
@@ -35,8 +35,8 @@ explained_passes old new entries bytes reader p x what same text requests =
       gathered = text ∙ ap (λ (t : Timed). old.text ++ explained entries (t ∷ [])) made;
     }
 
--- by the line of the entry, and the requests that stand after it
-pub told_passes : (old new : Room) (entries : List Timed) (bytes : List ℕ) (reader : State) (p : PassedBody) (x : PassesBody entries bytes reader p) → old.requests ≡ standing entries
+-- by the line of the entry, and the outstanding requests after it
+pub told_passes : (old new : ExplainerState) (entries : List Timed) (bytes : List ℕ) (reader : State) (p : PassedBody) (x : PassesBody entries bytes reader p) → old.requests ≡ standing entries
     → new.text ≡ old.text ++ line old.requests (record { cycle = p.cycle; what = x.entry.what }) → new.requests ≡ standing_after x.entry.what old.requests
     → Passes explained_form.text (λ es. new.requests ≡ standing es) old.text new.text entries bytes reader
 told_passes old new entries bytes reader p x took text requests =

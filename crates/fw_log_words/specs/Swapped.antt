@@ -4,8 +4,8 @@ use Rattle.fw_words.specs.Quadlet.{quadlet_at}
 use Rattle.fw_async.specs.declared.packet.Head.{Head}
 use Rattle.fw_async.specs.declared.packet.Packet.TheVariants.{Lock}
 use Rattle.fw_log_names.specs.Texts.{quadlet_text, quadlets_text}
-use Rattle.fw_log_registers.specs.declared.place.Place.{Place}
-use Rattle.fw_log_registers.specs.declared.told.Told.TheVariants.{Word, Swap}
+use Rattle.fw_log_registers.specs.declared.place.RegisterPlace.{RegisterPlace}
+use Rattle.fw_log_registers.specs.declared.told.RegisterValue.TheVariants.{Word, Swap}
 use Rattle.fw_log_registers.specs.Places.{place_of}
 use Rattle.fw_log_registers.specs.Words.{told_text}
 use Rattle.fw_log_requests.specs.Requests.{asked_by}
@@ -13,14 +13,14 @@ use Rattle.fw_log_explain.specs.Lines.{rcode_text, function_text, at_text, locke
 use Rattle.fw_model_account.specs.Packets.{is_quadlet_swap, is_swapped}
 
 -- what a response brings if no word was replaced: nothing if it is not complete, of a quadlet compare_swap that there was no swap, and of another lock the old value
-abbrev pub kept_text : Place → ℕ → List ℕ → ℕ → List ℕ → List ℕ
+abbrev pub kept_text : RegisterPlace → ℕ → List ℕ → ℕ → List ℕ → List ℕ
 kept_text place function given rcode old =
     if rcode == 0 then
     (if is_quadlet_swap function given && (length old == 4) then quadlet_text (quadlet_at old 0) ++ (codes ", no swap" ++ told_text (Word (quadlet_at old 0)) place) else quadlets_text old)
     else []
 
 -- what a response brings, by whether the account's word was replaced: then, and only then, that the swap was made
-abbrev pub brought : Bool → Place → ℕ → List ℕ → ℕ → List ℕ → List ℕ
+abbrev pub brought : Bool → RegisterPlace → ℕ → List ℕ → ℕ → List ℕ → List ℕ
 brought true place function given rcode old =
     quadlet_text (quadlet_at old 0) ++ (codes ", swap made" ++ told_text (Swap (quadlet_at given 0) (quadlet_at given 4)) place)
 brought false place function given rcode old = kept_text place function given rcode old

@@ -94,7 +94,7 @@ break_of TooLong = Some BreakTooLong
 
 -- the head, the pieces of the entries as they end, and the end of the page after them
 abbrev pub page_form : Form
-page_form = record { front = HEAD.now; head = []; text = pieces; closed = λ entries end text. text ++ page_end entries (break_of end) }
+page_form = record { prefix = HEAD.now; head = []; text = pieces; closed = λ entries end text. text ++ page_end entries (break_of end) }
 
 pub states_more : (st : State) (xs ys : List Timed) → state_from st (xs ++ ys) ≡ state_from (state_from st xs) ys
 states_more st [] ys = refl

@@ -55,4 +55,4 @@ accepts_by Audit entries h = sound_unrefused entries h
 accepts_by Holders entries h = held_unrefused entries h
 accepts_by Map entries h = map_unrefused entries h
 accepts_by Graph entries h = graph_unrefused entries h
-accepts_by _ entries h = record { entry = λ front rest refusal is r. r; end = λ refusal r. r }
+accepts_by _ entries h = record { entry = λ prefix rest refusal is r. r; end = λ refusal r. r }

@@ -16,7 +16,7 @@ ghost use Rattle.fw_log_reports.specs.Silences.{never_refused};
 
 use crate::LogRefusal;
 use fw_cip::whole_iso;
-use fw_log::{LogReader, PlainBody, Room, Timed};
+use fw_log::{LogReader, PlainBody, ReadBuffers, Timed};
 use fw_log_explainer::Explainer;
 use fw_log_loop::{Closing, LogEnding, Reading, Stop, read_log};
 use fw_log_reports::WholeRoom;
@@ -24,7 +24,7 @@ use fw_outside::{Failed, Sink, Source};
 use fw_words::quadlet_at;
 use std::alloc::{AllocError, Global};
 
-// The lines of entries in words, and the requests that stand after them.
+// The lines of entries in words, and the outstanding requests after them.
 #[derive(Drop)]
 struct Explanation {
     explainer: Explainer,
@@ -107,10 +107,10 @@ impl Reading for Explanation {
     }
 
     // No fault of a packet or a bus reset of a usual form is looked for twice.
-    fn pass(
+    fn take_raw(
         &mut self,
         reader: &mut LogReader,
-        room: &mut Room,
+        room: &mut ReadBuffers,
         piece: &[u8],
     ) -> Result<Option<usize>, AllocError> {
         let Some(passed) = reader.pass_body(piece, room) else {

@@ -11,7 +11,7 @@ ghost use Rattle.fw_log_words.specs.Texts.{each_form};
 
 use crate::LogRefusal;
 use fw_cip::whole_iso;
-use fw_log::{LogReader, PlainBody, Room, Timed};
+use fw_log::{LogReader, PlainBody, ReadBuffers, Timed};
 use fw_log_loop::{Closing, LogEnding, Reading, Stop, read_log};
 use fw_log_text::{LineRoom, put_entry_from, put_iso_from, put_packet_from, put_reset_from};
 use fw_outside::{Failed, Sink, Source};
@@ -59,10 +59,10 @@ impl Reading for Lines {
     }
 
     // The line of a packet or a bus reset of a usual form is made of its body.
-    fn pass(
+    fn take_raw(
         &mut self,
         reader: &mut LogReader,
-        room: &mut Room,
+        room: &mut ReadBuffers,
         piece: &[u8],
     ) -> Result<Option<usize>, AllocError> {
         let Some(passed) = reader.pass_body(piece, room) else {

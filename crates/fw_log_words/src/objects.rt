@@ -15,7 +15,7 @@ ghost use Rattle.fw_log_words.specs.Texts.{each_form};
 
 use crate::LogRefusal;
 use fw_cip::whole_iso;
-use fw_log::{LogReader, PlainBody, Room, Timed};
+use fw_log::{LogReader, PlainBody, ReadBuffers, Timed};
 use fw_log_json::{
     ObjectRoom, put_iso_from, put_object, put_packet_from, put_reset_again, put_reset_from,
 };
@@ -103,10 +103,10 @@ impl Reading for Objects {
     }
 
     // No fault of a packet or a bus reset of a usual form is looked for twice.
-    fn pass(
+    fn take_raw(
         &mut self,
         reader: &mut LogReader,
-        room: &mut Room,
+        room: &mut ReadBuffers,
         piece: &[u8],
     ) -> Result<Option<usize>, AllocError> {
         let Some(passed) = reader.pass_body(piece, room) else {

@@ -10,7 +10,7 @@ ghost use Rattle.fw_log_reports.specs.Silences.{never_refused};
 ghost use Rattle.fw_log_words.specs.Texts.{page_form, break_of};
 
 use crate::LogRefusal;
-use fw_log::{LogReader, PlainBody, Room, Timed};
+use fw_log::{LogReader, PlainBody, ReadBuffers, Timed};
 use fw_log_loop::{Closing, Framed, LogEnd, LogEnding, Reading, Stop, read_framed};
 use fw_log_reports::WholeRoom;
 use fw_outside::{Failed, Sink, Source};
@@ -88,10 +88,10 @@ impl Reading for Paging {
     }
 
     // No fault of a packet or a bus reset of a usual form is looked for twice.
-    fn pass(
+    fn take_raw(
         &mut self,
         reader: &mut LogReader,
-        room: &mut Room,
+        room: &mut ReadBuffers,
         piece: &[u8],
     ) -> Result<Option<usize>, AllocError> {
         let Some(passed) = reader.pass_body(piece, room) else {

@@ -11,7 +11,7 @@ ghost use Rattle.fw_log_words.specs.Texts.{log_form};
 ghost use Rattle.fw_log_reports.specs.Silences.{never_refused};
 
 use crate::LogRefusal;
-use fw_log::{LogReader, PlainBody, Room, Timed, Version, write_header};
+use fw_log::{LogReader, PlainBody, ReadBuffers, Timed, Version, write_header};
 use fw_log_entry::codes::kind;
 use fw_log_entry::{epoch_after, head_of};
 use fw_log_loop::{Closing, LogEnding, Reading, Stop, read_log};
@@ -154,10 +154,10 @@ impl Reading for Rewriting {
     }
 
     // Between versions only the head of an entry changes: the body of a packet or a bus reset of a usual form is copied.
-    fn pass(
+    fn take_raw(
         &mut self,
         reader: &mut LogReader,
-        room: &mut Room,
+        room: &mut ReadBuffers,
         piece: &[u8],
     ) -> Result<Option<usize>, AllocError> {
         let Some(passed) = reader.pass_body(piece, room) else {

@@ -5,24 +5,24 @@ use Rattle.fw_csr.specs.Requests.{request_at}
 use Rattle.fw_csr.specs.declared.request.Request.{Request}
 use Rattle.fw_manager.specs.declared.bid.Bid.{Bid}
 use Rattle.fw_manager.specs.declared.bid.Bid.TheVariants.{Send, Elected, Defeated, Done}
-use Rattle.fw_manager.specs.declared.candidate.Stage.{Stage}
-use Rattle.fw_manager.specs.declared.candidate.Stage.TheVariants.{Fresh, Asked, Heard, Answered}
+use Rattle.fw_manager.specs.declared.candidate.BidProgress.{BidProgress}
+use Rattle.fw_manager.specs.declared.candidate.BidProgress.TheVariants.{Fresh, Asked, Heard, Answered}
 
 -- the epoch of the latest bid, and how far that came
 pub record CandidateState : Type 0 where
   pub epoch : ℕ
-  pub stage : Stage
+  pub stage : BidProgress
 
 -- no bid was made yet
 abbrev pub first_state : CandidateState
 first_state = record { epoch = 0; stage = Fresh }
 
 -- how far the bid of an epoch has come
-abbrev pub stage_in : ℕ → CandidateState → Stage
+abbrev pub stage_in : ℕ → CandidateState → BidProgress
 stage_in epoch c = if c.epoch == epoch then c.stage else Fresh
 
 -- the lock request of the bid stands
-abbrev pub is_asked : Stage → Bool
+abbrev pub is_asked : BidProgress → Bool
 is_asked Asked = true
 is_asked Fresh = false
 is_asked (Heard word) = false
@@ -37,7 +37,7 @@ abbrev pub bid_request : ℕ → Request
 bid_request node = request_at BUS_MANAGER_ID (Some (record { argument = 0x3F; new = node }))
 
 -- what a candidate does next, by the stage of its bid
-abbrev pub bid_of : ℕ → ℕ → Stage → Bid
+abbrev pub bid_of : ℕ → ℕ → BidProgress → Bid
 bid_of node manager Fresh = Send manager (bid_request node)
 bid_of node manager Asked = Done
 bid_of node manager (Heard word) = if word == 0x3F then Elected else Defeated word
@@ -48,7 +48,7 @@ abbrev pub next : ℕ → ℕ → ℕ → CandidateState → Bid
 next epoch node manager c = bid_of node manager (stage_in epoch c)
 
 -- the stage of a bid after the candidate's turn
-abbrev pub stage_after : Stage → Stage
+abbrev pub stage_after : BidProgress → BidProgress
 stage_after Fresh = Asked
 stage_after Asked = Answered
 stage_after (Heard word) = Answered

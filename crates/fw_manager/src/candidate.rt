@@ -1,6 +1,6 @@
 ghost use Rattle.std.specs.Prelude.{◌≡◌, ◌≢◌, ◌↔◌, ℕ, IsTrue, IsFalse};
 ghost use Rattle.fw_manager.specs.Bids.{first_state, stage_in, next, after_next, after_hear, is_asked, is_standing_in};
-ghost use Rattle.fw_manager.specs.declared.candidate.Stage.TheVariants.{Heard, Answered};
+ghost use Rattle.fw_manager.specs.declared.candidate.BidProgress.TheVariants.{Heard, Answered};
 
 use crate::Bid;
 use fw_csr::{BUS_MANAGER_ID, NO_BUS_MANAGER, QuadletAccess, Reply};
@@ -9,10 +9,10 @@ use std::marker::Model;
 
 /// How far a bid has come.
 #[derive(Clone, Copy, PartialEq, Eq)]
-pub enum Stage {
+pub enum BidProgress {
     /// It is still to be made.
     Fresh,
-    /// Its request stands.
+    /// Its request is outstanding.
     Asked,
     /// The word that its compare_swap found.
     Heard(u32),
@@ -24,7 +24,7 @@ pub enum Stage {
 #[derive(Clone, Copy, PartialEq, Eq)]
 pub struct Candidate {
     epoch: u32,
-    stage: Stage,
+    stage: BidProgress,
 }
 
 impl Model for Candidate {
@@ -44,7 +44,7 @@ impl Candidate {
     {
         Candidate {
             epoch: 0,
-            stage: Stage::Fresh,
+            stage: BidProgress::Fresh,
         }
     }
 
@@ -61,8 +61,8 @@ impl Candidate {
     {
         let stage = self.stage_in(epoch);
         self.epoch = epoch;
-        if let Stage::Fresh = stage {
-            self.stage = Stage::Asked;
+        if let BidProgress::Fresh = stage {
+            self.stage = BidProgress::Asked;
             let swap = Swap {
                 argument: NO_BUS_MANAGER,
                 new: u32::from(node),
@@ -72,38 +72,38 @@ impl Candidate {
                 request: QuadletAccess::new(BUS_MANAGER_ID, Some(swap)),
             };
         }
-        self.stage = Stage::Answered;
+        self.stage = BidProgress::Answered;
         match stage {
-            Stage::Heard(NO_BUS_MANAGER) => Bid::Elected,
-            Stage::Heard(by) => Bid::Defeated { by },
-            Stage::Fresh | Stage::Asked | Stage::Answered => Bid::Done,
+            BidProgress::Heard(NO_BUS_MANAGER) => Bid::Elected,
+            BidProgress::Heard(by) => Bid::Defeated { by },
+            BidProgress::Fresh | BidProgress::Asked | BidProgress::Answered => Bid::Done,
         }
     }
 
-    /// Hears the reply to the request that stands.
+    /// Hears the reply to the outstanding request.
     pub fn hear(&mut self, r: &Reply)
         requires stands { IsTrue (is_asked self.old.stage) }
         requires complete { r.now.rcode ≡ 0 }
         ensures state { self.new ≡ after_hear r.now.value self.old }
     {
-        self.stage = Stage::Heard(r.value);
+        self.stage = BidProgress::Heard(r.value);
     }
 
-    /// Whether its request of this epoch stands, whose reply is still to be heard.
+    /// Whether its request of this epoch is outstanding, whose reply is still to be heard.
     pub fn has_request(&self, epoch: u32) -> bool
         ensures { result ≡ is_standing_in epoch self.now }
     {
-        matches!(self.stage_in(epoch), Stage::Asked)
+        matches!(self.stage_in(epoch), BidProgress::Asked)
     }
 
     /// How far its bid of this epoch has come.
-    fn stage_in(&self, epoch: u32) -> Stage
+    fn stage_in(&self, epoch: u32) -> BidProgress
         ensures { result ≡ stage_in epoch self.now }
     {
         if self.epoch == epoch {
             self.stage
         } else {
-            Stage::Fresh
+            BidProgress::Fresh
         }
     }
 }

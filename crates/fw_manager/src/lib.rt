@@ -6,4 +6,4 @@ mod bid;
 mod candidate;
 
 pub use bid::Bid;
-pub use candidate::{Candidate, Stage};
+pub use candidate::{BidProgress, Candidate};

@@ -185,7 +185,7 @@ tree_of e t n fits g few hang sizes count size noted last = record {
   children = λ d p l. (λ f. g.child d p (inl (omega arith)) f, λ w. g.field w.0 d p w.1);
   own = λ d p l. noted.own d p (omega arith);
   own_ports = own_ports;
-  speeds = record { of = λ d l. noted.sp d (omega arith); behind = λ d l. noted.sp_behind d (omega arith) };
+  speeds = record { of = λ d l. noted.sp d (omega arith); following = λ d l. noted.sp_after d (omega arith) };
 }
   where
     top : number_at t.parent e.root ≡ None
@@ -205,7 +205,7 @@ tree_of e t n fits g few hang sizes count size noted last = record {
 
     own_ports : (c : ℕ) → is_there (number_at t.own_port c) ≡ is_there (number_at t.parent c)
     own_ports c = elim (cases_lt c n) [
-      | inr high ↦ ap is_there (noted.own_behind c high) ∙ sym (off c high)
+      | inr high ↦ ap is_there (noted.own_following c high) ∙ sym (off c high)
       | inl low ↦ noted.own_ports c low ∙ elim (cases_eq (c + 1) n) [
         | inl same ↦
             let root : c ≡ e.root = omega arith in

@@ -479,7 +479,7 @@ module _ (p : Topology) (n : Numbering) (s : IsSound p) (h : IsNumbering p n) wh
       own_ports = λ v. (both_ports v).1;
       speeds = record {
         of = λ v l. let at = (device v).1 l in tree_is.speed (device v).0 v at ∙ sym (speeds_are p.devices p.cables n.number n.parent_port i n.count v (device v).0 e.ids h.nodes.one l at packets);
-        behind = λ v l. past_sp v l;
+        following = λ v l. past_sp v l;
       };
     }
       where

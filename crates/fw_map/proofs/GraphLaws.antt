@@ -20,5 +20,5 @@ unfolding edge_lines
 edges_more t n = let e : n + 1 ≡ suc n = omega arith in ap (edge_lines t) e
 
 -- a line more after a prefix and lines
-pub line_more : (front lines line more now new : List ℕ) → now ≡ front ++ lines → new ≡ now ++ line → more ≡ lines ++ line → new ≡ front ++ more
-line_more front lines line more now new a b c = b ∙ (ap (λ (x : List ℕ). x ++ line) a ∙ (append_assoc front lines line ∙ ap (λ (x : List ℕ). front ++ x) (sym c)))
+pub line_more : (prefix lines line more now new : List ℕ) → now ≡ prefix ++ lines → new ≡ now ++ line → more ≡ lines ++ line → new ≡ prefix ++ more
+line_more prefix lines line more now new a b c = b ∙ (ap (λ (x : List ℕ). x ++ line) a ∙ (append_assoc prefix lines line ∙ ap (λ (x : List ℕ). prefix ++ x) (sym c)))

@@ -80,12 +80,12 @@ noted_next e t u d o sizes low n a b own there = record {
     | inl same ↦ ap is_there (own_at c same) ∙ (there ∙ ap (λ k. not (is_last e k)) (sym same))
     | inr differ ↦ ap is_there (own_else c differ) ∙ n.own_ports c (omega arith)
   ];
-  own_behind = λ c l. let differ : c ≡ d → ⊥ = λ s. omega arith in own_else c differ ∙ n.own_behind c (omega arith);
+  own_following = λ c l. let differ : c ≡ d → ⊥ = λ s. omega arith in own_else c differ ∙ n.own_following c (omega arith);
   sp = λ c l. elim (cases_eq c d) [
     | inl same ↦ sp_at c same ∙ ap (λ k. speed_of k e.ids) (sym same)
     | inr differ ↦ sp_else c differ ∙ n.sp c (omega arith)
   ];
-  sp_behind = λ c l. let differ : c ≡ d → ⊥ = λ s. omega arith in sp_else c differ ∙ n.sp_behind c (omega arith);
+  sp_after = λ c l. let differ : c ≡ d → ⊥ = λ s. omega arith in sp_else c differ ∙ n.sp_after c (omega arith);
 }
   where
     own_at : (c : ℕ) → c ≡ d → number_at u.own_port c ≡ o
@@ -104,9 +104,9 @@ noted_like : (e : ResetEntry) (d : ℕ) (t u : Tree) → u.own_port ≡ t.own_po
 noted_like e d t u a b n = record {
   own = λ c p l. let w = n.own c p l in (λ h. ap (λ xs. number_at xs c) a ∙ w.0 h, λ h. w.1 (ap (λ xs. number_at xs c) (sym a) ∙ h));
   own_ports = λ c l. ap (λ xs. is_there (number_at xs c)) a ∙ n.own_ports c l;
-  own_behind = λ c l. ap (λ xs. number_at xs c) a ∙ n.own_behind c l;
+  own_following = λ c l. ap (λ xs. number_at xs c) a ∙ n.own_following c l;
   sp = λ c l. ap (λ xs. speed_at xs c) b ∙ n.sp c l;
-  sp_behind = λ c l. ap (λ xs. speed_at xs c) b ∙ n.sp_behind c l;
+  sp_after = λ c l. ap (λ xs. speed_at xs c) b ∙ n.sp_after c l;
 }
 
 pub joining_none : (e : ResetEntry) (d : ℕ) → fields e.ids d 2 ≡ due e d → fields e.ids d 3 ≤ branches e.ids d → joining_fault e d ≡ None
@@ -174,9 +174,9 @@ joining_first e n fits size = record {
   noted = record {
     own = λ d p l. absurd (omega arith);
     own_ports = λ d l. absurd (omega arith);
-    own_behind = λ d l. blank_at d;
+    own_following = λ d l. blank_at d;
     sp = λ d l. absurd (omega arith);
-    sp_behind = λ d l. zero_at d;
+    sp_after = λ d l. zero_at d;
   };
   joined = λ d l. absurd (omega arith);
 }

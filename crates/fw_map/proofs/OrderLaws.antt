@@ -1,11 +1,11 @@
 -- In a tree whose numbers are those of self-identification, the numbers tell who hangs on whom.
 use Rattle.fw_map.proofs.Common.{◌≡◌, inl, inr, ℕ, ◌+◌, ◌-◌, ◌<◌, ◌≤◌, ◌&&◌, nat_lt, List, [], ◌∷◌, ◌++◌, Bool, true, false, arith, refl, sym, ap, ◌∙◌, All, cases_eq, cases_lt, nat_tests, Fits}
 use Rattle.fw_map.proofs.Common.{ResetEntry, counted, comes_before, Tree, field_of, Hangs, at_root, down_to, HasPackets, Grown}
-use Rattle.fw_tree.specs.Paths.{is_front}
+use Rattle.fw_tree.specs.Paths.{is_prefix}
 use Rattle.fw_tree.proofs.CountLaws.{counted_less}
 use Rattle.fw_tree.proofs.StepLaws.{irreflexive}
 use Rattle.fw_map.specs.Growing.{IsDone}
-use Rattle.fw_map.proofs.PathLaws.{transitive, total, child_first, sibling_port, between, front_of_child, front_first}
+use Rattle.fw_map.proofs.PathLaws.{transitive, total, child_first, sibling_port, between, prefix_of_child, prefix_first}
 use Rattle.fw_map.proofs.FieldLaws.{no_field}
 use Rattle.fw_map.proofs.ShapeLaws.{one_way, root_or_hangs}
 
@@ -70,14 +70,14 @@ module _ (e : ResetEntry) (t : Tree) (h : HasPackets e t) (few : t.count ≤ 63)
         | inr up ↦ (up.0, up.1, up.2, at_most up.0 up.1 up.2 (between (h.numbers.paths d) (h.numbers.paths y) p after before))
       ]
     where
-      at_most : (f r : ℕ) → Hangs t y f r → is_front (h.numbers.paths d) (h.numbers.paths y) ≡ true → f ≤ d
-      at_most f r k front =
+      at_most : (f r : ℕ) → Hangs t y f r → is_prefix (h.numbers.paths d) (h.numbers.paths y) ≡ true → f ≤ d
+      at_most f r k prefix =
           let w = h.nodes x d g.parent in
           let v = h.nodes y f k.parent in
           elim (cases_lt d f) [
             | inr more ↦ more
-            | inl less ↦ absurd (elim (front_of_child (h.numbers.paths d) (h.numbers.paths f) r (rw (below y f r k) at front)) [
-              | inl i ↦ elim (front_first (h.numbers.paths d) (h.numbers.paths f) i) [
+            | inl less ↦ absurd (elim (prefix_of_child (h.numbers.paths d) (h.numbers.paths f) r (rw (below y f r k) at prefix)) [
+              | inl i ↦ elim (prefix_first (h.numbers.paths d) (h.numbers.paths f) i) [
                 | inl s ↦ let z = same_path f d v.1 w.1 s in omega arith
                 | inr b ↦ let z = first_lower f d v.1 w.1 b in omega arith
               ]

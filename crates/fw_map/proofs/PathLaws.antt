@@ -1,6 +1,6 @@
 -- Paths of ports, and which comes before which.
 use Rattle.fw_map.proofs.Common.{◌≡◌, ◌⊎◌, inl, inr, ℕ, ◌<◌, ◌==◌, ◌&&◌, nat_lt, List, [], ◌∷◌, ◌++◌, Bool, true, if◌then◌else◌, arith, refl, sym, cases_eq, cases_lt, nat_tests, comes_before}
-use Rattle.fw_tree.specs.Paths.{is_left, is_front}
+use Rattle.fw_tree.specs.Paths.{is_left, is_prefix}
 
 -- the order is transitive and total
 pub transitive : (u v w : List ℕ) → comes_before u v ≡ true → comes_before v w ≡ true → comes_before u w ≡ true
@@ -55,19 +55,19 @@ sibling_left (x ∷ k) p q h = step x (is_left (k ++ p ∷ []) (k ++ q ∷ [])) 
     step x a h = grind (arith, nat_tests)
 
 -- what comes between a child and its parent is in the parent's branch
-pub between : (k v : List ℕ) (p : ℕ) → comes_before (k ++ p ∷ []) v ≡ true → comes_before v k ≡ true → is_front k v ≡ true
+pub between : (k v : List ℕ) (p : ℕ) → comes_before (k ++ p ∷ []) v ≡ true → comes_before v k ≡ true → is_prefix k v ≡ true
 between [] v p h l = refl
 between (x ∷ k) [] p h l = absurd (let z : ⊥ = cc in z)
-between (x ∷ k) (y ∷ v) p h l = step x y (comes_before (k ++ p ∷ []) v) (comes_before v k) (is_front k v) (between k v p) h l
+between (x ∷ k) (y ∷ v) p h l = step x y (comes_before (k ++ p ∷ []) v) (comes_before v k) (is_prefix k v) (between k v p) h l
   where
     step : (x y : ℕ) (a b c : Bool) → (a ≡ true → b ≡ true → c ≡ true) → (if x == y then a else nat_lt x y) ≡ true → (if y == x then b else nat_lt y x) ≡ true → ((x == y) && c) ≡ true
     step x y a b c e h l = grind (arith, nat_tests)
 
-pub front_of_child : (y k : List ℕ) (p : ℕ) → is_front y (k ++ p ∷ []) ≡ true → (is_front y k ≡ true) ⊎ (y ≡ k ++ p ∷ [])
-front_of_child [] k p h = inl refl
-front_of_child (y ∷ []) [] p h = inr (let e : y ≡ p = grind (arith, nat_tests) in cc)
-front_of_child (y ∷ z ∷ ys) [] p h = absurd (let e : ⊥ = grind (arith, nat_tests) in e)
-front_of_child (y ∷ ys) (x ∷ k) p h = step y x ys k p (front_of_child ys k p) h
+pub prefix_of_child : (y k : List ℕ) (p : ℕ) → is_prefix y (k ++ p ∷ []) ≡ true → (is_prefix y k ≡ true) ⊎ (y ≡ k ++ p ∷ [])
+prefix_of_child [] k p h = inl refl
+prefix_of_child (y ∷ []) [] p h = inr (let e : y ≡ p = grind (arith, nat_tests) in cc)
+prefix_of_child (y ∷ z ∷ ys) [] p h = absurd (let e : ⊥ = grind (arith, nat_tests) in e)
+prefix_of_child (y ∷ ys) (x ∷ k) p h = step y x ys k p (prefix_of_child ys k p) h
   where
     same : (y x : ℕ) (a : Bool) → ((y == x) && a) ≡ true → y ≡ x
     same y x a h = grind (arith, nat_tests)
@@ -78,20 +78,20 @@ front_of_child (y ∷ ys) (x ∷ k) p h = step y x ys k p (front_of_child ys k p
     join : (y x : ℕ) (a : Bool) → y ≡ x → a ≡ true → ((y == x) && a) ≡ true
     join y x a e h = grind (arith, nat_tests)
 
-    step : (y x : ℕ) (ys k : List ℕ) (p : ℕ) → (is_front ys (k ++ p ∷ []) ≡ true → (is_front ys k ≡ true) ⊎ (ys ≡ k ++ p ∷ [])) → ((y == x) && is_front ys (k ++ p ∷ [])) ≡ true
-        → (((y == x) && is_front ys k) ≡ true) ⊎ (y ∷ ys ≡ x ∷ (k ++ p ∷ []))
+    step : (y x : ℕ) (ys k : List ℕ) (p : ℕ) → (is_prefix ys (k ++ p ∷ []) ≡ true → (is_prefix ys k ≡ true) ⊎ (ys ≡ k ++ p ∷ [])) → ((y == x) && is_prefix ys (k ++ p ∷ [])) ≡ true
+        → (((y == x) && is_prefix ys k) ≡ true) ⊎ (y ∷ ys ≡ x ∷ (k ++ p ∷ []))
     step y x ys k p f h =
-        let e = same y x (is_front ys (k ++ p ∷ [])) h in
-        elim (f (rest y x (is_front ys (k ++ p ∷ [])) h)) [ inl u ↦ inl (join y x (is_front ys k) e u) | inr s ↦ inr (cc) ]
+        let e = same y x (is_prefix ys (k ++ p ∷ [])) h in
+        elim (f (rest y x (is_prefix ys (k ++ p ∷ [])) h)) [ inl u ↦ inl (join y x (is_prefix ys k) e u) | inr s ↦ inr (cc) ]
 
 -- what a path is a prefix of is the same or comes before it
-pub front_first : (k v : List ℕ) → is_front k v ≡ true → (v ≡ k) ⊎ (comes_before v k ≡ true)
-front_first [] [] h = inl refl
-front_first [] (x ∷ v) h = inr refl
-front_first (y ∷ k) [] h = absurd (let z : ⊥ = cc in z)
-front_first (y ∷ k) (x ∷ v) h = elim (front_first k v (rest y x (is_front k v) h)) [
-  | inl e ↦ inl (let s = same y x (is_front k v) h in cc)
-  | inr e ↦ inr (step y x (comes_before v k) (same y x (is_front k v) h) e)
+pub prefix_first : (k v : List ℕ) → is_prefix k v ≡ true → (v ≡ k) ⊎ (comes_before v k ≡ true)
+prefix_first [] [] h = inl refl
+prefix_first [] (x ∷ v) h = inr refl
+prefix_first (y ∷ k) [] h = absurd (let z : ⊥ = cc in z)
+prefix_first (y ∷ k) (x ∷ v) h = elim (prefix_first k v (rest y x (is_prefix k v) h)) [
+  | inl e ↦ inl (let s = same y x (is_prefix k v) h in cc)
+  | inr e ↦ inr (step y x (comes_before v k) (same y x (is_prefix k v) h) e)
 ]
   where
     same : (y x : ℕ) (a : Bool) → ((y == x) && a) ≡ true → y ≡ x

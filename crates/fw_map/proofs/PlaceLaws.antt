@@ -10,18 +10,18 @@ use Rattle.fw_map.proofs.OrderLaws.{grown, root_last}
 use Rattle.fw_map.proofs.ShapeLaws.{same_some, hangs_of, root_or_hangs}
 
 -- a node hangs on none below d
-abbrev is_behind : ℕ → Option ℕ → Bool
-is_behind d None = true
-is_behind d (Some f) = nat_le d f
+abbrev is_after : ℕ → Option ℕ → Bool
+is_after d None = true
+is_after d (Some f) = nat_le d f
 
 -- it hangs on d
 abbrev is_on : ℕ → Option ℕ → Bool
 is_on d None = false
 is_on d (Some f) = f == d
 
-behind_less : (a b : ℕ) (o : Option ℕ) → a ≤ b → is_behind b o ≡ true → is_behind a o ≡ true
-behind_less a b None l h = refl
-behind_less a b (Some f) l h = grind (arith, nat_tests)
+following_less : (a b : ℕ) (o : Option ℕ) → a ≤ b → is_after b o ≡ true → is_after a o ≡ true
+following_less a b None l h = refl
+following_less a b (Some f) l h = grind (arith, nat_tests)
 
 on_some : (d : ℕ) (o : Option ℕ) → is_on d o ≡ true → o ≡ Some d
 on_some d None h = absurd (let z : ⊥ = cc in z)
@@ -30,7 +30,7 @@ on_some d (Some f) h = let e : f ≡ d = grind (arith, nat_tests) in ap Some e
 some_on : (d : ℕ) (o : Option ℕ) → o ≡ Some d → is_on d o ≡ true
 some_on d o e = ap (is_on d) e ∙ eq-eqb d d refl
 
-split_here : (d : ℕ) (o : Option ℕ) → one_if (is_behind d o) ≡ one_if (is_behind (d + 1) o) + one_if (is_on d o)
+split_here : (d : ℕ) (o : Option ℕ) → one_if (is_after d o) ≡ one_if (is_after (d + 1) o) + one_if (is_on d o)
 split_here d None = refl
 split_here d (Some f) = grind (arith, nat_tests)
 
@@ -100,27 +100,27 @@ module _ (e : ResetEntry) (t : Tree) (h : HasPackets e t) (few : t.count ≤ 63)
 
   -- ---- the branches before a node
 
-  split : (d : ℕ) → counted (λ x. is_behind d (number_at t.parent x)) d ≡ counted (λ x. is_behind (d + 1) (number_at t.parent x)) d + counted (λ x. is_on d (number_at t.parent x)) d
-  split d = counted_split (λ x. is_behind d (number_at t.parent x)) (λ x. is_behind (d + 1) (number_at t.parent x)) (λ x. is_on d (number_at t.parent x)) d (λ x l. split_here d (number_at t.parent x))
+  split : (d : ℕ) → counted (λ x. is_after d (number_at t.parent x)) d ≡ counted (λ x. is_after (d + 1) (number_at t.parent x)) d + counted (λ x. is_on d (number_at t.parent x)) d
+  split d = counted_split (λ x. is_after d (number_at t.parent x)) (λ x. is_after (d + 1) (number_at t.parent x)) (λ x. is_on d (number_at t.parent x)) d (λ x l. split_here d (number_at t.parent x))
 
-  own_behind : (d : ℕ) (o : Option ℕ) → number_at t.parent d ≡ o → is_behind (d + 1) o ≡ true
-  own_behind d None k = refl
-  own_behind d (Some f) k = let w = hangs_of t d f (h.ports d) k in let u = g.up d f w.0 w.1 in grind (arith, nat_tests)
+  own_following : (d : ℕ) (o : Option ℕ) → number_at t.parent d ≡ o → is_after (d + 1) o ≡ true
+  own_following d None k = refl
+  own_following d (Some f) k = let w = hangs_of t d f (h.ports d) k in let u = g.up d f w.0 w.1 in grind (arith, nat_tests)
 
   -- the branches before a node are the nodes that hang on none before it
-  branch_count : (d : ℕ) → d ≤ t.count → branches e.ids d ≡ counted (λ x. is_behind d (number_at t.parent x)) d
-  branch_count zero l = branches_none e.ids ∙ sym (counted_none (λ x. is_behind 0 (number_at t.parent x)))
+  branch_count : (d : ℕ) → d ≤ t.count → branches e.ids d ≡ counted (λ x. is_after d (number_at t.parent x)) d
+  branch_count zero l = branches_none e.ids ∙ sym (counted_none (λ x. is_after 0 (number_at t.parent x)))
   branch_count (suc d) l =
       let s : d + 1 ≡ suc d = omega arith in
       let r = branch_count d (omega arith) in
       let b = branches_step e.ids d in
       let k = children d (omega arith) in
       let m = split d in
-      let n = counted_yes (λ x. is_behind (d + 1) (number_at t.parent x)) d (own_behind d (number_at t.parent d) refl) in
-      let q : branches e.ids (d + 1) ≡ counted (λ x. is_behind (d + 1) (number_at t.parent x)) (d + 1) = omega arith in
+      let n = counted_yes (λ x. is_after (d + 1) (number_at t.parent x)) d (own_following d (number_at t.parent d) refl) in
+      let q : branches e.ids (d + 1) ≡ counted (λ x. is_after (d + 1) (number_at t.parent x)) (d + 1) = omega arith in
       rw s at q
 
-  place_is : (d : ℕ) → d < t.count → place_in e.ids d ≡ counted (λ x. is_behind (d + 1) (number_at t.parent x)) d
+  place_is : (d : ℕ) → d < t.count → place_in e.ids d ≡ counted (λ x. is_after (d + 1) (number_at t.parent x)) d
   place_is d l =
       let r = branch_count d (omega arith) in
       let k = children d l in
@@ -137,7 +137,7 @@ module _ (e : ResetEntry) (t : Tree) (h : HasPackets e t) (few : t.count ≤ 63)
     low = (h.nodes c d k.parent).1
 
     -- one before it that hangs on none before it hangs on none before its parent
-    above : (x : ℕ) → x < c → (o : Option ℕ) → number_at t.parent x ≡ o → is_behind (c + 1) o ≡ true → is_behind d o ≡ true
+    above : (x : ℕ) → x < c → (o : Option ℕ) → number_at t.parent x ≡ o → is_after (c + 1) o ≡ true → is_after d o ≡ true
     above x l None s b = refl
     above x l (Some f) s b =
         let w = hangs_of t x f (h.ports x) s in
@@ -148,25 +148,25 @@ module _ (e : ResetEntry) (t : Tree) (h : HasPackets e t) (few : t.count ≤ 63)
         grind (arith, nat_tests)
 
     -- what is between it and its parent hangs on none above the parent
-    inside : (x : ℕ) → c ≤ x → x < d → is_behind (d + 1) (number_at t.parent x) ≡ false
+    inside : (x : ℕ) → c ≤ x → x < d → is_after (d + 1) (number_at t.parent x) ≡ false
     inside x l m = elim (cases_eq x c) [
-      | inl same ↦ ap (λ n. is_behind (d + 1) (number_at t.parent n)) same ∙ (ap (is_behind (d + 1)) k.parent ∙ not_le (d + 1) d (omega arith))
-      | inr differ ↦ let n = g.nested c x d p k (omega arith) m in ap (is_behind (d + 1)) n.2.parent ∙ not_le (d + 1) n.0 (omega (arith, n.3))
+      | inl same ↦ ap (λ n. is_after (d + 1) (number_at t.parent n)) same ∙ (ap (is_after (d + 1)) k.parent ∙ not_le (d + 1) d (omega arith))
+      | inr differ ↦ let n = g.nested c x d p k (omega arith) m in ap (is_after (d + 1)) n.2.parent ∙ not_le (d + 1) n.0 (omega (arith, n.3))
     ]
 
-    parent_place : place_in e.ids d ≡ counted (λ x. is_behind (d + 1) (number_at t.parent x)) c
-    parent_place = place_is d low ∙ counted_cut (λ x. is_behind (d + 1) (number_at t.parent x)) c d (omega (arith, up)) inside
+    parent_place : place_in e.ids d ≡ counted (λ x. is_after (d + 1) (number_at t.parent x)) c
+    parent_place = place_is d low ∙ counted_cut (λ x. is_after (d + 1) (number_at t.parent x)) c d (omega (arith, up)) inside
 
     -- its own place is that of its parent, and one more for each child before it
     own_place : place_in e.ids c ≡ place_in e.ids d + counted (λ x. is_on d (number_at t.parent x)) c
     own_place =
         let a = place_is c (omega (arith, up, low)) in
         let b = parent_place in
-        let s = counted_split (λ x. is_behind (c + 1) (number_at t.parent x)) (λ x. is_behind (d + 1) (number_at t.parent x)) (λ x. is_on d (number_at t.parent x)) c
+        let s = counted_split (λ x. is_after (c + 1) (number_at t.parent x)) (λ x. is_after (d + 1) (number_at t.parent x)) (λ x. is_on d (number_at t.parent x)) c
         (λ x l. each x l (number_at t.parent x) refl) in
         omega arith
       where
-        each : (x : ℕ) → x < c → (o : Option ℕ) → number_at t.parent x ≡ o → one_if (is_behind (c + 1) o) ≡ one_if (is_behind (d + 1) o) + one_if (is_on d o)
+        each : (x : ℕ) → x < c → (o : Option ℕ) → number_at t.parent x ≡ o → one_if (is_after (c + 1) o) ≡ one_if (is_after (d + 1) o) + one_if (is_on d o)
         each x l None s = refl
         each x l (Some f) s = split_above c d f up (λ m. let a = above x l (Some f) s (le_yes (c + 1) f m) in yes_le d f a)
 
@@ -175,10 +175,10 @@ module _ (e : ResetEntry) (t : Tree) (h : HasPackets e t) (few : t.count ≤ 63)
     between j l m =
         let a = place_is c (omega (arith, low)) in
         let b = place_is j (omega (arith, low)) in
-        let x = counted_below (λ x. is_behind (j + 1) (number_at t.parent x)) (λ x. is_behind (c + 1) (number_at t.parent x)) c
-        (λ x n on. behind_less (j + 1) d (number_at t.parent x) (omega arith) (above x n (number_at t.parent x) refl on)) in
-        let y = counted_yes (λ x. is_behind (j + 1) (number_at t.parent x)) c (ap (is_behind (j + 1)) k.parent ∙ le_yes (j + 1) d (omega arith)) in
-        let z = counted_upto (λ x. is_behind (j + 1) (number_at t.parent x)) (c + 1) j (omega arith) in
+        let x = counted_below (λ x. is_after (j + 1) (number_at t.parent x)) (λ x. is_after (c + 1) (number_at t.parent x)) c
+        (λ x n on. following_less (j + 1) d (number_at t.parent x) (omega arith) (above x n (number_at t.parent x) refl on)) in
+        let y = counted_yes (λ x. is_after (j + 1) (number_at t.parent x)) c (ap (is_after (j + 1)) k.parent ∙ le_yes (j + 1) d (omega arith)) in
+        let z = counted_upto (λ x. is_after (j + 1) (number_at t.parent x)) (c + 1) j (omega arith) in
         omega arith
 
     pub parent_is : t.count ≡ length e.nodes → parent_in e c ≡ Some d
@@ -191,8 +191,8 @@ module _ (e : ResetEntry) (t : Tree) (h : HasPackets e t) (few : t.count ≤ 63)
         rw (parent_is count) (find_first 27 p (λ q. (field_of e.ids d q == 3) && (counted (λ r. field_of e.ids d r == 3) q == (place_in e.ids c - place_in e.ids d))) (low_port c d p k) here
         (λ q l. lower q l))
       where
-        behind : place_in e.ids c - place_in e.ids d ≡ counted (λ r. field_of e.ids d r == 3) p
-        behind = let a = own_place in let b = elder c d p k in omega arith
+        following : place_in e.ids c - place_in e.ids d ≡ counted (λ r. field_of e.ids d r == 3) p
+        following = let a = own_place in let b = elder c d p k in omega arith
 
         both : (a : Bool) (m n : ℕ) → a ≡ true → m ≡ n → (a && (m == n)) ≡ true
         both a m n s l = grind (arith, nat_tests)
@@ -202,13 +202,13 @@ module _ (e : ResetEntry) (t : Tree) (h : HasPackets e t) (few : t.count ≤ 63)
         neither false m n s = refl
 
         here : ((field_of e.ids d p == 3) && (counted (λ r. field_of e.ids d r == 3) p == (place_in e.ids c - place_in e.ids d))) ≡ true
-        here = both (field_of e.ids d p == 3) (counted (λ r. field_of e.ids d r == 3) p) (place_in e.ids c - place_in e.ids d) (at_port c d p k) (sym behind)
+        here = both (field_of e.ids d p == 3) (counted (λ r. field_of e.ids d r == 3) p) (place_in e.ids c - place_in e.ids d) (at_port c d p k) (sym following)
 
         lower : (q : ℕ) → q < p → ((field_of e.ids d q == 3) && (counted (λ r. field_of e.ids d r == 3) q == (place_in e.ids c - place_in e.ids d))) ≡ false
         lower q l = neither (field_of e.ids d q == 3) (counted (λ r. field_of e.ids d r == 3) q) (place_in e.ids c - place_in e.ids d) (λ on.
             let a = counted_yes (λ r. field_of e.ids d r == 3) q on in
             let b = counted_upto (λ r. field_of e.ids d r == 3) (q + 1) p (omega arith) in
-            let s = behind in
+            let s = following in
             omega arith)
 
   -- ---- a node that hangs on none

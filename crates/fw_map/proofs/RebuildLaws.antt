@@ -184,7 +184,7 @@ same_tree e s t h k a = λ i. record { count = count i; parent = parent i; paren
     sp_at : (c : ℕ) → speed_at t.sp c ≡ speed_at s.sp c
     sp_at c = elim (cases_lt c s.count) [
       | inl l ↦ k.speeds.of c (omega (arith, count)) ∙ sym (h.speeds.of c l)
-      | inr l ↦ k.speeds.behind c (omega (arith, count)) ∙ sym (h.speeds.behind c l)
+      | inr l ↦ k.speeds.following c (omega (arith, count)) ∙ sym (h.speeds.following c l)
     ]
 
     sp : t.sp ≡ s.sp

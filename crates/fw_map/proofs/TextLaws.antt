@@ -18,5 +18,5 @@ pub rows_more : (t : Tree) (n a : ℕ) (text line : List ℕ) → AreRows t n a 
 rows_more t n a text line r h = let e : suc a ≡ a + 1 = omega arith in let P : ℕ → Type 0 = λ m. AreRows t n m (text ++ (line ++ 10 ∷ [])) in subst P e (row r h refl)
 
 -- what is written after a prefix and more of it
-pub goes_on : (front all more text now : List ℕ) → now ≡ all ++ more → all ≡ front ++ text → now ≡ front ++ (text ++ more)
-goes_on front all more text now e f = e ∙ (ap (λ (x : List ℕ). x ++ more) f ∙ append_assoc front text more)
+pub goes_on : (prefix all more text now : List ℕ) → now ≡ all ++ more → all ≡ prefix ++ text → now ≡ prefix ++ (text ++ more)
+goes_on prefix all more text now e f = e ∙ (ap (λ (x : List ℕ). x ++ more) f ∙ append_assoc prefix text more)

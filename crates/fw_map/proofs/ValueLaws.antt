@@ -133,7 +133,7 @@ tree_value e t h size fits = λ i. record { count = h.count i; parent = parents 
     speed_is : (c : ℕ) → speed_at t.sp c ≡ speed_in e c
     speed_is c = elim (cases_lt c (length e.nodes)) [
       | inl l ↦ h.speeds.of c (let n = h.count in omega arith) ∙ sym (if_low c (length e.nodes) (speed_of c e.ids) 0 l)
-      | inr l ↦ h.speeds.behind c (let n = h.count in omega arith) ∙ sym (if_high c (length e.nodes) (speed_of c e.ids) 0 l)
+      | inr l ↦ h.speeds.following c (let n = h.count in omega arith) ∙ sym (if_high c (length e.nodes) (speed_of c e.ids) 0 l)
     ]
 
     speeds : t.sp ≡ listed 63 (speed_in e)

@@ -9,10 +9,10 @@ on_both [] ys x h = inr h
 on_both (y ∷ xs) ys x (inl e) = inl (inl e)
 on_both (y ∷ xs) ys x (inr h) = elim (on_both xs ys x h) [ inl a ↦ inl (inr a) | inr b ↦ inr b ]
 
-on_front : (xs ys : List ℕ) (x : ℕ) → IsOn xs x → IsOn (xs ++ ys) x
-on_front [] ys x h = absurd h
-on_front (y ∷ xs) ys x (inl e) = inl e
-on_front (y ∷ xs) ys x (inr h) = inr (on_front xs ys x h)
+on_prefix : (xs ys : List ℕ) (x : ℕ) → IsOn xs x → IsOn (xs ++ ys) x
+on_prefix [] ys x h = absurd h
+on_prefix (y ∷ xs) ys x (inl e) = inl e
+on_prefix (y ∷ xs) ys x (inr h) = inr (on_prefix xs ys x h)
 
 -- the ends of a walk are on it
 pub first_on : (t : Tree) (a b : ℕ) (nodes : List ℕ) → Walk t a b nodes → IsOn nodes a
@@ -83,7 +83,7 @@ module _ (t : Tree) (r : IsRebuilt t) where
     | inr differ ↦ elim (cases_lt c b) [
       | inl low ↦
           let k = ends_down b c d rest w low e in
-          (a ∷ k.0, along j k.1 (λ o. apart (subst (λ (xs : List ℕ). IsOn xs a) (sym k.2) (on_front k.0 (c ∷ []) a o))), ap (λ (xs : List ℕ). a ∷ xs) k.2)
+          (a ∷ k.0, along j k.1 (λ o. apart (subst (λ (xs : List ℕ). IsOn xs a) (sym k.2) (on_prefix k.0 (c ∷ []) a o))), ap (λ (xs : List ℕ). a ∷ xs) k.2)
       | inr high ↦ absurd (apart (
           let up : number_at t.parent b ≡ Some a = rises a b c j (omega arith) l in
           let k = begins_up b c a rest w (omega arith) up in
@@ -161,7 +161,7 @@ module _ (t : Tree) (r : IsRebuilt t) where
       → IsLeastSoFar t nodes a b old → IsLeastSoFar t nodes a d new
   second_up nodes a b d old new l e least which less s =
       let w = ends_down a b d s.rest s.walk l e in
-      let inside : (x : ℕ) → IsOn w.0 x → IsOn nodes x = λ x o. s.inside x (subst (λ (xs : List ℕ). IsOn xs x) (sym w.2) (on_front w.0 (b ∷ []) x o)) in
+      let inside : (x : ℕ) → IsOn w.0 x → IsOn nodes x = λ x o. s.inside x (subst (λ (xs : List ℕ). IsOn xs x) (sym w.2) (on_prefix w.0 (b ∷ []) x o)) in
       let passed : (x : ℕ) → IsOn nodes x → IsOn w.0 x ⊎ (new ≤ speed_at t.sp x) = λ x o. elim (s.passed x o) [
         | inl on ↦ elim (on_both w.0 (b ∷ []) x (subst (λ (xs : List ℕ). IsOn xs x) w.2 on)) [
           | inl r ↦ inl r

@@ -41,9 +41,9 @@ pub record Agrees (s t : Tree) (i q : ℕ) : Type 0 where
 pub record Noted (e : ResetEntry) (i : ℕ) (t : Tree) : Type 0 where
   pub own : (d p : ℕ) → d < i → (field_of e.ids d p ≡ 2) ↔ (number_at t.own_port d ≡ Some p)
   pub own_ports : (d : ℕ) → d < i → is_there (number_at t.own_port d) ≡ not (is_last e d)
-  pub own_behind : (d : ℕ) → i ≤ d → number_at t.own_port d ≡ None
+  pub own_following : (d : ℕ) → i ≤ d → number_at t.own_port d ≡ None
   pub sp : (d : ℕ) → d < i → speed_at t.sp d ≡ speed_of d e.ids
-  pub sp_behind : (d : ℕ) → i ≤ d → speed_at t.sp d ≡ 0
+  pub sp_after : (d : ℕ) → i ≤ d → speed_at t.sp d ≡ 0
 
 -- no test fails at the nodes below i
 abbrev pub AreJoined : ResetEntry → ℕ → Type 0

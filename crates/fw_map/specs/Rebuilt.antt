@@ -41,7 +41,7 @@ parent_in e node = find_to (length e.nodes) (takes e.ids node)
 
 -- the child port of a node after so many others
 abbrev pub child_port : List PhyPacket → ℕ → ℕ → Option ℕ
-child_port ids node behind = find_to 27 (λ p. (field_of ids node p == 3) && (counted (λ q. field_of ids node q == 3) p == behind))
+child_port ids node following = find_to 27 (λ p. (field_of ids node p == 3) && (counted (λ q. field_of ids node q == 3) p == following))
 
 abbrev pub port_by : ResetEntry → ℕ → Option ℕ → Option ℕ
 port_by e node None = None

@@ -37,7 +37,7 @@ pub record HasSizes (t : Tree) : Type 0 where
 -- each node's speed is that of its packet zero, and after the last node 0 stands
 pub record HasSpeeds (e : ResetEntry) (t : Tree) : Type 0 where
   pub of : (d : ℕ) → d < t.count → speed_at t.sp d ≡ speed_of d e.ids
-  pub behind : (d : ℕ) → t.count ≤ d → speed_at t.sp d ≡ 0
+  pub following : (d : ℕ) → t.count ≤ d → speed_at t.sp d ≡ 0
 
 -- The tree has the packets of the reset entry: its nodes are 0 to n - 1, and the root, which is the entry's, has no parent;
 -- their numbers are those of self-identification; a node's child ports are exactly its fields 3, and its parent port is its

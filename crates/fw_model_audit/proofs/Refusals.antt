@@ -173,7 +173,7 @@ refused_request h l tl (OrphanOf id f) = absurd f
 refused_request h l tl (NoMoveOf old new f) = absurd f
 refused_request h l tl (NoEventOf code f) = absurd f
 
--- a response to which no request stands
+-- a response to which no request is outstanding
 orphan_refused : (h : Head) (rcode : ℕ) (reply : Reply) (word : Option ℕ) (l : Account) (R : Type 0) → h.tl ≡ 0
     → ((q : Request) → IsAnswer l (response h rcode reply word) q → ⊥) → (IsReplyRefused h l → R)
     → ((c : ℕ) (request : Request) → Ends h c request l → is_reply_to request.operation reply ≡ false → R) → R

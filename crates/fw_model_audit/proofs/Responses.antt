@@ -120,7 +120,7 @@ bad_answer l r offset (NoRegister q w none) = (q, w)
 bad_answer l r offset (NoSwap q w function bytes is not) = (q, w)
 bad_answer l r offset (NoQuadlet q w none) = (q, w)
 
--- a response to the request that stands
+-- a response to the outstanding request
 answered : (l : Account) (r : Response) (c : ℕ) (q : Request) → device_of_id l.latest r.requester ≡ Some c → l.outstanding c ≡ Some q → q.target ≡ r.responder
     → IsTrue (is_reply_to q.operation r.reply)
     → IsJudged l (Replies r) (cond (r.rcode == 0) (judged_answer l r.requester q.target q.address q.operation r.word) None)

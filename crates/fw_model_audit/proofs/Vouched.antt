@@ -16,14 +16,14 @@ use Rattle.fw_model_audit.specs.Audited.{IsAudited, IsVouched}
 use Rattle.fw_model_audit.proofs.Verdicts.{no_fault}
 
 -- a prefix of entries in the grammar
-pub front_fits : (front rest : List Entry) → All Fits (front ++ rest) → All Fits front
-front_fits [] rest a = All-nil Fits
-front_fits (e ∷ es) rest a = All-cons Fits e es (All-head Fits e (es ++ rest) a) (front_fits es rest (All-tail Fits e (es ++ rest) a))
+pub prefix_fits : (prefix rest : List Entry) → All Fits (prefix ++ rest) → All Fits prefix
+prefix_fits [] rest a = All-nil Fits
+prefix_fits (e ∷ es) rest a = All-cons Fits e es (All-head Fits e (es ++ rest) a) (prefix_fits es rest (All-tail Fits e (es ++ rest) a))
 
 -- ---- from an account on
 
 abbrev AuditedFrom : Account → List Entry → Type 0
-AuditedFrom l es = (front rest : List Entry) (e : Entry) → es ≡ front ++ e ∷ rest → (k : Account) × (account_from (Some l) front ≡ Some k) × HasNoFault k (looked e)
+AuditedFrom l es = (prefix rest : List Entry) (e : Entry) → es ≡ prefix ++ e ∷ rest → (k : Account) × (account_from (Some l) prefix ≡ Some k) × HasNoFault k (looked e)
 
 -- there is an account after all entries
 account_after : (l : Account) (es : List Entry) → IsSound l → All Fits es → AuditedFrom l es → (m : Account) × (account_from (Some l) es ≡ Some m)
@@ -45,47 +45,47 @@ account_after l (e ∷ es) s fits a =
     step xs = ap (λ o. account_from o xs) next.1
 
     later : AuditedFrom next.0 es
-    later front rest x is = let y = a (e ∷ front) rest x (ap (λ xs. e ∷ xs) is) in (y.0, sym (step front) ∙ y.1, y.2)
+    later prefix rest x is = let y = a (e ∷ prefix) rest x (ap (λ xs. e ∷ xs) is) in (y.0, sym (step prefix) ∙ y.1, y.2)
 
 -- ---- both ways
 
-sound_at : (entries front rest : List Entry) (l : Account) → All Fits entries → entries ≡ front ++ rest → account_of front ≡ Some l → IsSound l
-sound_at entries front rest l fits is e = account_sound front l (front_fits front rest (subst (All Fits) is fits)) e
+sound_at : (entries prefix rest : List Entry) (l : Account) → All Fits entries → entries ≡ prefix ++ rest → account_of prefix ≡ Some l → IsSound l
+sound_at entries prefix rest l fits is e = account_sound prefix l (prefix_fits prefix rest (subst (All Fits) is fits)) e
 
 pub audited_vouched : (entries : List Entry) → All Fits entries → IsAudited entries → IsVouched entries
 audited_vouched entries fits a = record { accounts = accounts; words = words }
   where
-    accounts : (front rest : List Entry) → entries ≡ front ++ rest → (l : Account) × (account_of front ≡ Some l) × IsSound l × IsConflictFree l
-    accounts front [] is =
-        let fit : All Fits front = front_fits front [] (subst (All Fits) is fits) in
-        let later : AuditedFrom no_account front = λ before after x same. a before (after ++ []) x (is ∙ (ap (λ xs. xs ++ []) same ∙ append_assoc before (x ∷ after) [])) in
-        let y = account_after no_account front starts_sound fit later in
-        let s : IsSound y.0 = account_sound front y.0 fit y.1 in
+    accounts : (prefix rest : List Entry) → entries ≡ prefix ++ rest → (l : Account) × (account_of prefix ≡ Some l) × IsSound l × IsConflictFree l
+    accounts prefix [] is =
+        let fit : All Fits prefix = prefix_fits prefix [] (subst (All Fits) is fits) in
+        let later : AuditedFrom no_account prefix = λ before after x same. a before (after ++ []) x (is ∙ (ap (λ xs. xs ++ []) same ∙ append_assoc before (x ∷ after) [])) in
+        let y = account_after no_account prefix starts_sound fit later in
+        let s : IsSound y.0 = account_sound prefix y.0 fit y.1 in
         (y.0, y.1, s, is_conflict_free y.0 s)
-    accounts front (e ∷ rest) is =
-        let y = a front rest e is in
-        let s : IsSound y.0 = sound_at entries front (e ∷ rest) y.0 fits is y.1 in
+    accounts prefix (e ∷ rest) is =
+        let y = a prefix rest e is in
+        let s : IsSound y.0 = sound_at entries prefix (e ∷ rest) y.0 fits is y.1 in
         (y.0, y.1, s, is_conflict_free y.0 s)
 
-    words : (front rest : List Entry) (e : Entry) → entries ≡ front ++ e ∷ rest → (l : Account) × (account_of front ≡ Some l) × ShowsWords l (looked e)
-    words front rest e is =
-        let y = a front rest e is in
-        (y.0, y.1, ((no_fault y.0 e (sound_at entries front (e ∷ rest) y.0 fits is y.1)).0 y.2).1)
+    words : (prefix rest : List Entry) (e : Entry) → entries ≡ prefix ++ e ∷ rest → (l : Account) × (account_of prefix ≡ Some l) × ShowsWords l (looked e)
+    words prefix rest e is =
+        let y = a prefix rest e is in
+        (y.0, y.1, ((no_fault y.0 e (sound_at entries prefix (e ∷ rest) y.0 fits is y.1)).0 y.2).1)
 
 pub vouched_audited : (entries : List Entry) → IsVouched entries → IsAudited entries
-vouched_audited entries v = λ front rest e is. go front rest e is (v.accounts front (e ∷ rest) is) (v.accounts (front ++ e ∷ []) rest (is ∙ sym (append_assoc front (e ∷ []) rest)))
-    (v.words front rest e is)
+vouched_audited entries v = λ prefix rest e is. go prefix rest e is (v.accounts prefix (e ∷ rest) is) (v.accounts (prefix ++ e ∷ []) rest (is ∙ sym (append_assoc prefix (e ∷ []) rest)))
+    (v.words prefix rest e is)
   where
-    go : (front rest : List Entry) (e : Entry) → entries ≡ front ++ e ∷ rest → (l : Account) × (account_of front ≡ Some l) × IsSound l × IsConflictFree l
-        → (m : Account) × (account_of (front ++ e ∷ []) ≡ Some m) × IsSound m × IsConflictFree m → (k : Account) × (account_of front ≡ Some k) × ShowsWords k (looked e)
-        → (l : Account) × (account_of front ≡ Some l) × HasNoFault l (looked e)
-    go front rest e is x y z = (x.0, x.1, (no_fault x.0 e x.2).1 ((y.0, next), subst (λ k. ShowsWords k (looked e)) same z.2))
+    go : (prefix rest : List Entry) (e : Entry) → entries ≡ prefix ++ e ∷ rest → (l : Account) × (account_of prefix ≡ Some l) × IsSound l × IsConflictFree l
+        → (m : Account) × (account_of (prefix ++ e ∷ []) ≡ Some m) × IsSound m × IsConflictFree m → (k : Account) × (account_of prefix ≡ Some k) × ShowsWords k (looked e)
+        → (l : Account) × (account_of prefix ≡ Some l) × HasNoFault l (looked e)
+    go prefix rest e is x y z = (x.0, x.1, (no_fault x.0 e x.2).1 ((y.0, next), subst (λ k. ShowsWords k (looked e)) same z.2))
       where
         same : z.0 ≡ x.0
         same = same_Some z.0 x.0 (sym z.1 ∙ x.1)
 
         next : next_account x.0 e ≡ Some y.0
-        next = ap (λ o. account_from o (e ∷ [])) (sym x.1) ∙ (sym (account_from-append front (e ∷ []) (Some no_account)) ∙ y.1)
+        next = ap (λ o. account_from o (e ∷ [])) (sym x.1) ∙ (sym (account_from-append prefix (e ∷ []) (Some no_account)) ∙ y.1)
 
 pub vouched_exactly : (entries : List Entry) → All Fits entries → IsAudited entries ↔ IsVouched entries
 vouched_exactly entries fits = (audited_vouched entries fits, vouched_audited entries)

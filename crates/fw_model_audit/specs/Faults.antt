@@ -28,7 +28,7 @@ abbrev pub Overlaps : Account → Looked → ℕ → Type 0
 Overlaps l (Asks requester) id = (requester ≡ id) × ((c : ℕ) × (q : Request) × (device_of_id l.latest id ≡ Some c) × (l.outstanding c ≡ Some q))
 Overlaps l _ id = ⊥
 
--- a response comes to which no request stands: none of its requester, or of another node, kind or lock function
+-- a response comes to which no request is outstanding: none of its requester, or of another node, kind or lock function
 abbrev pub IsOrphan : Account → Looked → ℕ → Type 0
 IsOrphan l (Replies r) id = (r.requester ≡ id) × ((q : Request) → IsAnswer l r q → ⊥)
 IsOrphan l _ id = ⊥

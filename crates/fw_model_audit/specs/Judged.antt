@@ -55,7 +55,7 @@ abbrev pub judged_answer : Account → ℕ → ℕ → ℕ → Operation → Opt
 judged_answer l id target address Reads word = judged_quadlet l id target address word
 judged_answer l id target address (Locks function bytes) word = if is_quadlet_swap function bytes then judged_quadlet l id target address word else not_allowed id (watched_offset address)
 
--- a response to the request that stands, if any
+-- a response to the outstanding request, if any
 abbrev pub judged_reply : Account → Response → Option Request → Option AuditFault
 judged_reply l r None = Some (Orphan r.requester)
 judged_reply l r (Some q) =
@@ -93,7 +93,7 @@ abbrev pub no_move : Operation → Option AuditFault
 no_move Reads = None
 no_move (Locks function bytes) = if is_quadlet_swap function bytes then Some (NoMove (quadlet_at bytes 0) (quadlet_at bytes 4)) else None
 
--- the same of the request that stands, if any
+-- the same of the outstanding request, if any
 abbrev pub no_move_of : Option Request → Option AuditFault
 no_move_of None = None
 no_move_of (Some q) = no_move q.operation

@@ -90,7 +90,7 @@ register_shown latest s = register_by latest s.offset (id_in latest s.device)
 
 -- ---- answers
 
--- the response is to the request that stands of its requester, from the node that was asked, and of its kind and lock function
+-- the response is to the outstanding request of its requester, from the node that was asked, and of its kind and lock function
 pub record IsAnswer (l : Account) (r : Response) (q : Request) : Type 0 where
   pub controller : ℕ
   pub device : device_of_id l.latest r.requester ≡ Some controller

@@ -7,7 +7,7 @@ use Rattle.fw_model_controllers.proofs.Common.{LeaveOutput, ReadBandwidthToRelea
 use Rattle.fw_model_controllers.proofs.Common.{Ended, Target, OutputPlug, InputPlug, Channels, BandwidthAvailable}
 use Rattle.fw_model_controllers.proofs.Common.{output_of, input_of, is_listen, StageFits, half_of, target_of, addressee_of, Account, Directory, Job, Stage, IsDirectory}
 use Rattle.std.proofs.Common.{IsSome}
-use Rattle.fw_cmp.specs.Fits.{ConnectionFits}
+use Rattle.fw_cmp_jobs.specs.Fits.{ConnectionFits}
 use Rattle.fw_cmp.specs.Holdings.{IsReached, StageReached}
 use Rattle.fw_model_controllers.specs.Requests.{IsNodeOf, PlugNumberFits}
 use Rattle.fw_model_controllers.proofs.Answers.{mapped}

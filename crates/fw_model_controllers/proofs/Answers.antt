@@ -35,7 +35,7 @@ was_refused l c j s others r ne i = go (eqb r.rcode 0) refl
     go true e = absurd (ne (grind (arith, nat_tests)))
     go false e = i
 
--- what follows if the swap has succeeded, and where the word was another
+-- what follows if the swap has succeeded, and if the word was another
 pub swapped : (l m : Account) (c : ℕ) (j : Job) (s done : Stage) (failed : ℕ → Stage) (others : Others) (t : Target) (r : Reply) (arg : ℕ) → IsComplete l t r
     → (arg ≡ word_of l (register_at t) → IsInStep m c j done false others) → IsInStep l c j (failed (word_of l (register_at t))) false others
     → IsInStep (cond (eqb r.rcode 0 && eqb r.value arg) m l) c j (cond (eqb r.rcode 0) (cond (eqb r.value arg) done (failed r.value)) (refuse j s r.rcode)) false others

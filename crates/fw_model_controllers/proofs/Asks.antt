@@ -2,7 +2,7 @@
 use Rattle.fw_model_controllers.proofs.Common.{PlugAt, ConnectionKind, ◌≡◌, ℕ, ◌+◌, Bool, true, false, ◌&&◌, Option, Some, None}
 use Rattle.fw_model_controllers.proofs.Common.{is_some, length, eqb, cond, refl, ap, subst, sym, ◌∙◌, arith, option_map, nat_tests}
 use Rattle.fw_model_controllers.proofs.Common.{find_to, update, find_to_is, IsFirst, Allocation, Account, Request, asked, output_addressed, Flow}
-use Rattle.fw_model_controllers.proofs.Common.{Slot, Free, Making, Standing, Restoring, Gone, Job, Held, Target}
+use Rattle.fw_model_controllers.proofs.Common.{Slot, Free, Making, Established, Restoring, Gone, Job, HeldResources, Target}
 use Rattle.fw_model_controllers.proofs.Common.{OutputPlug, InputPlug, Stage, Begin, ReadOutput, ReadChannels, SwapChannels}
 use Rattle.fw_model_controllers.proofs.Common.{ReadBandwidth, SwapBandwidth, ConnectOutput, OverlayOutput, ReadInput, ConnectInput}
 use Rattle.fw_model_controllers.proofs.Common.{ReadInputToLeave, LeaveInput, ReadOutputToLeave, LeaveOutput, ReadBandwidthToRelease, RaiseBandwidth}
@@ -111,8 +111,8 @@ asks_step l d j s others t request e at i = record {
 slot_asked : (l : Account) (d : ℕ) (request : Request) (b : Bool) (s : Slot) → SlotInStep l b s → SlotInStep (asked d request l) b s
 slot_asked l d request b Free x = tt
 slot_asked l d request b (Making conn asked overhead) x = tt
-slot_asked l d request true (Standing conn f) x = tt
-slot_asked l d request false (Standing conn f) x = record { output = x.output; input = x.input; manager = x.manager }
+slot_asked l d request true (Established conn f) x = tt
+slot_asked l d request false (Established conn f) x = record { output = x.output; input = x.input; manager = x.manager }
 slot_asked l d request b (Restoring conn f over) x = record { found = x.found; units = x.units; listed = x.listed }
 slot_asked l d request b (Gone conn) x = tt
 
@@ -141,8 +141,8 @@ ended_slot l d c j s new full x none out into says = record {
     go i false e = let other : eqb j.slot i ≡ false = grind (arith, nat_tests) in subst (λ b. SlotInStep l b (slot_at c i)) other (x.slots i)
 
 pub made_ends : (l : Account) (d : ℕ) (c : ControllerState) (j : Job) (f : Flow) → length c.slots ≡ 32 → ControllerInStep l d (asking c j (Made f))
-    → ControllerInStep l d (with_slot (at_rest c) j.slot (Standing j.connection f))
-made_ends l d c j f full x = ended_slot l d c j (Made f) (Standing j.connection f) full x refl (λ kind q. refl) (λ kind q. refl)
+    → ControllerInStep l d (with_slot (at_rest c) j.slot (Established j.connection f))
+made_ends l d c j f full x = ended_slot l d c j (Made f) (Established j.connection f) full x refl (λ kind q. refl) (λ kind q. refl)
     (record { output = x.current.step.knows_flow; input = x.current.step.knows_channel; manager = λ e. x.current.step.manager e refl })
 
 -- what its slot says if it has nothing
@@ -168,7 +168,7 @@ output_ends l d c j s b at full x e out into =
     let gone = no_target OutputPlug (output_of j.connection) e in
     nothing_ends l d c j s b full x (ap (λ o. reservation o (pending_of s)) gone ∙ none_reserved (pending_of s)) (λ kind q. out kind q ∙ no_output_at j at gone kind q) into
   where
-    none_reserved : (h : Option Held) → reservation None h ≡ None
+    none_reserved : (h : Option HeldResources) → reservation None h ≡ None
     none_reserved None = refl
     none_reserved (Some h) = refl
 

@@ -6,8 +6,8 @@ use Rattle.fw_model_controllers.proofs.Common.{ReadOutput, ReadChannels, SwapCha
 use Rattle.fw_model_controllers.proofs.Common.{ReadOutputToLeave, Ended, output_of, input_of, is_listen, restores, pending_of}
 use Rattle.fw_model_controllers.proofs.Common.{has_output, has_input, job_outputs, job_inputs, begin_making, begin_leaving, count_of}
 use Rattle.fw_model_controllers.proofs.Common.{breaking_job, Holding, Holds, has_manager, Others, reservation, holding, units_at, MayReclaim, IsInStep}
-use Rattle.fw_cmp.specs.declared.job.Ending.TheVariants.{NoManager, Absent}
-use Rattle.fw_cmp.specs.Jobs.{absent_of, begin_managed, own_flow, is_undecided}
+use Rattle.fw_cmp_jobs.specs.declared.job.Ending.TheVariants.{NoManager, Absent}
+use Rattle.fw_cmp_jobs.specs.Jobs.{absent_of, begin_managed, own_flow, is_undecided}
 use Rattle.fw_model_controllers.specs.Controllers.{StandsAt}
 use Rattle.fw_model_controllers.proofs.Decisions.{none_at_output, no_output}
 use Rattle.fw_model_controllers.proofs.Goes.{holds_same}

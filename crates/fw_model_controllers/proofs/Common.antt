@@ -13,41 +13,43 @@ pub use Rattle.fw_terms.specs.Tables.{find_to, update, update_plug}
 pub use Rattle.fw_terms.specs.declared.plug.ConnectionKind.{ConnectionKind}
 pub use Rattle.fw_terms.specs.declared.plug.ConnectionKind.TheVariants.{Broadcast, PointToPoint}
 pub use Rattle.fw_terms.specs.declared.plug.PlugAt.{PlugAt}
-pub use Rattle.fw_cmp.specs.Connections.{input_of, is_listen, kind_of, output_of}
-pub use Rattle.fw_cmp.specs.Controllers.{ControllerState, Fits, breaking_job, count_of, job_for, restoring_job, slot_at, with_slot}
-pub use Rattle.fw_cmp.specs.Decisions.{decide_channel, decide_in, decide_out, decide_units, goes_on, input_left, needs, output_joined, restores}
-pub use Rattle.fw_cmp.specs.Fits.{JobFits, StageFits}
+pub use Rattle.fw_cmp_jobs.specs.Connections.{input_of, is_listen, kind_of, output_of}
+pub use Rattle.fw_cmp.specs.Controllers.{ControllerState, Fits, count_of, slot_at, with_slot}
+pub use Rattle.fw_cmp_jobs.specs.Slots.{breaking_job, job_for, restoring_job}
+pub use Rattle.fw_cmp_jobs.specs.Decisions.{decide_channel, decide_in, decide_out, decide_units, goes_on, input_left, needs, output_joined, restores}
+pub use Rattle.fw_cmp_jobs.specs.Fits.{JobFits, StageFits}
 pub use Rattle.fw_cmp.specs.Holdings.{CanGoOn, has_input, has_output, is_at_input, is_at_output, is_current_slot, job_inputs, job_outputs, pending_of, slot_inputs, slot_outputs, stands_at_input}
 pub use Rattle.fw_cmp.specs.Holdings.{stands_at_output}
-pub use Rattle.fw_cmp.specs.Jobs.{begin_leaving, begin_making}
-pub use Rattle.fw_cmp.specs.Plugs.{channel_of, counter_of, half_of, has_broadcast, is_bit, is_full, one_less, remainder_of, shows_connection}
-pub use Rattle.fw_cmp.specs.Requests.{addressee_of, swap_of, target_of}
+pub use Rattle.fw_cmp_jobs.specs.Jobs.{begin_leaving, begin_making}
+pub use Rattle.fw_cmp_jobs.specs.Plugs.{channel_of, counter_of, half_of, has_broadcast, is_bit, is_full, one_less, remainder_of, shows_connection}
+pub use Rattle.fw_cmp_jobs.specs.Requests.{addressee_of, swap_of, target_of}
 pub use Rattle.fw_cmp.specs.Resets.{after_hear}
-pub use Rattle.fw_cmp.specs.Stages.{hear, hear_reply, refuse}
+pub use Rattle.fw_cmp_jobs.specs.Stages.{hear, hear_reply, refuse}
 pub use Rattle.fw_cmp.specs.Turns.{after_answer, after_asking}
-pub use Rattle.fw_cmp.specs.declared.connection.Connection.{Connection}
-pub use Rattle.fw_cmp.specs.declared.connection.Connection.TheVariants.{BroadcastIn, BroadcastOut, PlugToPlug}
-pub use Rattle.fw_cmp.specs.declared.connection.Flow.{Flow}
-pub use Rattle.fw_cmp.specs.declared.connection.Slot.{Slot}
-pub use Rattle.fw_cmp.specs.declared.connection.Slot.TheVariants.{Free, Gone, Making, Restoring, Standing}
+pub use Rattle.fw_cmp_jobs.specs.declared.connection.Connection.{Connection}
+pub use Rattle.fw_cmp_jobs.specs.declared.connection.Connection.TheVariants.{BroadcastIn, BroadcastOut, PlugToPlug}
+pub use Rattle.fw_cmp_jobs.specs.declared.connection.Flow.{Flow}
+pub use Rattle.fw_cmp_jobs.specs.declared.connection.Slot.{Slot}
+pub use Rattle.fw_cmp_jobs.specs.declared.connection.Slot.TheVariants.{Free, Gone, Making, Restoring, Established}
 pub use Rattle.fw_cmp.specs.declared.current.Current.{Current}
 pub use Rattle.fw_cmp.specs.declared.current.Current.TheVariants.{Asking, Hearing, Nothing, Overtaken}
-pub use Rattle.fw_cmp.specs.declared.directory.Directory.{Directory}
-pub use Rattle.fw_cmp.specs.declared.job.Ending.{Ending}
-pub use Rattle.fw_cmp.specs.declared.job.Ending.TheVariants.{Broken, Late, NoPlug}
-pub use Rattle.fw_cmp.specs.declared.job.Held.{Held}
-pub use Rattle.fw_cmp.specs.declared.job.Job.{Job}
-pub use Rattle.fw_cmp.specs.declared.job.Purpose.{Purpose}
-pub use Rattle.fw_cmp.specs.declared.job.Purpose.TheVariants.{Break, Make, Restore}
-pub use Rattle.fw_cmp.specs.declared.job.Then.{Then}
-pub use Rattle.fw_cmp.specs.declared.job.Then.TheVariants.{EndsAs}
-pub use Rattle.fw_cmp.specs.declared.request.Access.{Access}
-pub use Rattle.fw_cmp.specs.declared.request.Target.{Target}
-pub use Rattle.fw_cmp.specs.declared.request.Target.TheVariants.{BandwidthAvailable, Channels, InputPlug, OutputPlug}
-pub use Rattle.fw_cmp.specs.declared.stage.Stage.{Stage}
-pub use Rattle.fw_cmp.specs.declared.stage.Stage.TheVariants.{Begin, ConnectInput, ConnectOutput, Ended, LeaveInput, LeaveOutput, Made, OverlayOutput, RaiseBandwidth, ReadBandwidth}
-pub use Rattle.fw_cmp.specs.declared.stage.Stage.TheVariants.{ReadBandwidthToRelease, ReadChannels, ReadChannelsToRelease, ReadInput, ReadInputToLeave, ReadOutput, ReadOutputToLeave, RestoreChannel}
-pub use Rattle.fw_cmp.specs.declared.stage.Stage.TheVariants.{SwapBandwidth, SwapChannels}
+pub use Rattle.fw_cmp_jobs.specs.declared.directory.Directory.{Directory}
+pub use Rattle.fw_cmp_jobs.specs.declared.job.Ending.{Ending}
+pub use Rattle.fw_cmp_jobs.specs.declared.job.Ending.TheVariants.{Broken, Late, NoPlug}
+pub use Rattle.fw_cmp_jobs.specs.declared.job.HeldResources.{HeldResources}
+pub use Rattle.fw_cmp_jobs.specs.declared.job.Job.{Job}
+pub use Rattle.fw_cmp_jobs.specs.declared.job.Purpose.{Purpose}
+pub use Rattle.fw_cmp_jobs.specs.declared.job.Purpose.TheVariants.{Break, Make, Restore}
+pub use Rattle.fw_cmp_jobs.specs.declared.job.Then.{Then}
+pub use Rattle.fw_cmp_jobs.specs.declared.job.Then.TheVariants.{EndsAs}
+pub use Rattle.fw_cmp_jobs.specs.declared.request.Access.{Access}
+pub use Rattle.fw_cmp_jobs.specs.declared.request.Target.{Target}
+pub use Rattle.fw_cmp_jobs.specs.declared.request.Target.TheVariants.{BandwidthAvailable, Channels, InputPlug, OutputPlug}
+pub use Rattle.fw_cmp_jobs.specs.declared.stage.Stage.{Stage}
+pub use Rattle.fw_cmp_jobs.specs.declared.stage.Stage.TheVariants.{Begin, ConnectInput, ConnectOutput, Ended, LeaveInput, LeaveOutput, Made, OverlayOutput, RaiseBandwidth, ReadBandwidth}
+pub use Rattle.fw_cmp_jobs.specs.declared.stage.Stage.TheVariants.{ReadBandwidthToRelease, ReadChannels, ReadChannelsToRelease, ReadInput, ReadInputToLeave, ReadOutput, ReadOutputToLeave}
+pub use Rattle.fw_cmp_jobs.specs.declared.stage.Stage.TheVariants.{RestoreChannel}
+pub use Rattle.fw_cmp_jobs.specs.declared.stage.Stage.TheVariants.{SwapBandwidth, SwapChannels}
 pub use Rattle.fw_csr.specs.declared.reply.Reply.{Reply}
 pub use Rattle.fw_log_entry.specs.declared.entry.ResetEntry.{ResetEntry}
 pub use Rattle.fw_plug.specs.Words.{Settings, is_connected}

@@ -5,9 +5,9 @@ use Rattle.fw_model_controllers.proofs.Common.{Account, ConnectFirst, ConnectOve
 use Rattle.fw_model_controllers.proofs.Common.{word_of, Job, Stage, ConnectOutput, OverlayOutput, OutputPlug, kind_of}
 use Rattle.fw_model_controllers.proofs.Common.{output_of, is_full, decide_out, output_joined, job_outputs, register_at, at_plug, after_move}
 use Rattle.fw_model_controllers.proofs.Common.{Others, reservation, units_at, sees, IsInStep, IsFlow, HalfStep}
-use Rattle.fw_cmp.specs.Plugs.{one_more, with_channel, with_overhead, overhead_of}
-use Rattle.fw_cmp.specs.Decisions.{first_flow, overlaid_flow}
-use Rattle.fw_cmp.specs.Requests.{first_word}
+use Rattle.fw_cmp_jobs.specs.Plugs.{one_more, with_channel, with_overhead, overhead_of}
+use Rattle.fw_cmp_jobs.specs.Decisions.{first_flow, overlaid_flow}
+use Rattle.fw_cmp_jobs.specs.Requests.{first_word}
 use Rattle.fw_model_controllers.specs.Holding.{one_at}
 use Rattle.fw_model_controllers.proofs.Counts.{room_of_empty}
 use Rattle.fw_model_controllers.proofs.Words.{output_word, output_shows, settings_shown, shows_connected, room_is, output_more, settings_set, units_shown}

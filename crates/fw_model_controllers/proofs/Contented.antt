@@ -1,13 +1,15 @@
 -- Whatever happens, no restoring whose own second runs comes to want.
 use Rattle.fw_model_controllers.proofs.Common.{◌≡◌, ◌≢◌, ℕ, ◌<◌, Bool, true, false, Some, length, cond, eqb, refl, ap}
 use Rattle.fw_model_controllers.proofs.Common.{subst, sym, arith, ◌∙◌, nat_tests, Reply, Account, IsSound, Flow, Slot, Free, Making}
-use Rattle.fw_model_controllers.proofs.Common.{Standing, Restoring, Gone, Current, Nothing, Asking, Hearing, Overtaken, Directory, Job}
+use Rattle.fw_model_controllers.proofs.Common.{Established, Restoring, Gone, Current, Nothing, Asking, Hearing, Overtaken, Directory, Job}
 use Rattle.fw_model_controllers.proofs.Common.{Purpose, Make, Restore, Break, Target, Stage, Begin, Made, Ended}
 use Rattle.fw_model_controllers.proofs.Common.{ControllerState, slot_at, with_slot, job_for, restoring_job, breaking_job, Fits, target_of, after_hear, hear_reply, ControllerInStep, IsAnswer}
 use Rattle.std.proofs.Common.{Ok}
-use Rattle.fw_cmp.specs.declared.outcome.Outcome.TheVariants.{Reset}
-use Rattle.fw_cmp.specs.Resets.{slots_reset, slot_reset, slot_over, overtaken, lost_reset, state_reset, after_reset as controller_reset, after_second as second_over}
-use Rattle.fw_cmp.specs.Starts.{IsMaking, started}
+use Rattle.fw_cmp_jobs.specs.declared.outcome.Outcome.TheVariants.{Reset}
+use Rattle.fw_cmp.specs.Resets.{slots_reset, overtaken, lost_reset, state_reset, after_reset as controller_reset, after_second as second_over}
+use Rattle.fw_cmp_jobs.specs.Slots.{slot_reset, slot_over}
+use Rattle.fw_cmp.specs.Starts.{started}
+use Rattle.fw_cmp_jobs.specs.Slots.{IsMaking}
 use Rattle.fw_model_controllers.specs.Together.{AreInStep, Happens, half_step, turns, hears, given, resets, second, dies, withholds, Becomes, IsGiven, connection, break}
 use Rattle.fw_model_controllers.specs.Wants.{is_own, IsContent}
 use Rattle.fw_model_controllers.proofs.Carried.{hearing}
@@ -23,7 +25,7 @@ use Rattle.fw_model_controllers.proofs.Contents.{turn_content, made_wants}
 own_slot : (k : ℕ) (slot : Slot) (j : Job) → job_for k slot ≡ Some j → is_own slot ≡ true → (f : Flow) × (slot ≡ Restoring j.connection f false)
 own_slot k Free j is own = absurd (grind arith)
 own_slot k (Making conn asked overhead) j is own = absurd (grind arith)
-own_slot k (Standing conn f) j is own = absurd (grind arith)
+own_slot k (Established conn f) j is own = absurd (grind arith)
 own_slot k (Restoring conn f true) j is own = absurd (grind arith)
 own_slot k (Restoring conn f false) j is own = let same : restoring_job k conn f ≡ j = cc in (f, ap (λ (y : Job). Restoring y.connection f false) same)
 own_slot k (Gone conn) j is own = absurd (grind arith)
@@ -38,7 +40,7 @@ hear_content l d c j s t r sound fits x e a h = λ own. let w = own_slot j.slot 
 making_none : (s : Slot) → IsMaking s → is_own s ≡ false
 making_none Free h = absurd h
 making_none (Making conn asked overhead) h = refl
-making_none (Standing conn f) h = absurd h
+making_none (Established conn f) h = absurd h
 making_none (Restoring conn f over) h = absurd h
 making_none (Gone conn) h = absurd h
 
@@ -68,7 +70,7 @@ given_content c e fits (break i none is) h = subst (λ y. IsContent y y.current)
 over_none : (s : Slot) → is_own (slot_over s) ≡ false
 over_none Free = refl
 over_none (Making conn asked overhead) = refl
-over_none (Standing conn f) = refl
+over_none (Established conn f) = refl
 over_none (Restoring conn f over) = refl
 over_none (Gone conn) = refl
 
@@ -96,7 +98,7 @@ interrupted_content Break epoch c j = refl
 reset_own : (k : ℕ) (slot : Slot) (j : Job) → job_for k slot ≡ Some j → j.purpose ≢ Break → is_own (slot_reset slot) ≡ true → is_own slot ≡ true
 reset_own k Free j is no_break own = own
 reset_own k (Making conn asked overhead) j is no_break own = own
-reset_own k (Standing conn f) j is no_break own = let same : breaking_job k conn ≡ j = cc in absurd (no_break (ap (λ (y : Job). y.purpose) (sym same)))
+reset_own k (Established conn f) j is no_break own = let same : breaking_job k conn ≡ j = cc in absurd (no_break (ap (λ (y : Job). y.purpose) (sym same)))
 reset_own k (Restoring conn f over) j is no_break own = own
 reset_own k (Gone conn) j is no_break own = own
 

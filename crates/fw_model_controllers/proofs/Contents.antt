@@ -1,15 +1,17 @@
 -- A turn, and its outcome: a restoring whose own second runs does not come to want.
 use Rattle.fw_model_controllers.proofs.Common.{◌≡◌, ℕ, Bool, true, false, Option, Some, None, cond, refl, subst, sym}
-use Rattle.fw_model_controllers.proofs.Common.{arith, Flow, Slot, Free, Making, Standing, Restoring, Gone, Current, Nothing, Asking, Hearing}
+use Rattle.fw_model_controllers.proofs.Common.{arith, Flow, Slot, Free, Making, Established, Restoring, Gone, Current, Nothing, Asking, Hearing}
 use Rattle.fw_model_controllers.proofs.Common.{Overtaken, Directory, Job, Ending, restores, Access, Stage, Made, Ended, ControllerState, slot_at, job_for, addressee_of, after_asking, after_answer}
 use Rattle.std.proofs.Common.{ltb, slice_get}
-use Rattle.fw_cmp.specs.declared.outcome.Outcome.{Outcome}
-use Rattle.fw_cmp.specs.declared.outcome.Outcome.TheVariants as outcome
-use Rattle.fw_cmp.specs.declared.job.Ending.TheVariants as ending
+use Rattle.fw_cmp_jobs.specs.declared.outcome.Outcome.{Outcome}
+use Rattle.fw_cmp_jobs.specs.declared.outcome.Outcome.TheVariants as outcome
+use Rattle.fw_cmp_jobs.specs.declared.job.Ending.TheVariants as ending
 use Rattle.fw_cmp.specs.declared.outcome.Next.TheVariants.{End, Idle, Waiting as WaitsUntil}
-use Rattle.fw_cmp.specs.Requests.{access_of}
-use Rattle.fw_cmp.specs.Turns.{after_next, made_outcome, outcome_for, outcome_of, asks_or_ends, sending, answer_of, next}
-use Rattle.fw_cmp.specs.Jobs.{job_current, slot_of_task, to_restore, waiting_break, is_empty, takes_task, takes_waiting, takes_next, picked, is_over, resumed_current, going}
+use Rattle.fw_cmp_jobs.specs.Requests.{access_of}
+use Rattle.fw_cmp.specs.Turns.{after_next, asks_or_ends, sending, answer_of, next}
+use Rattle.fw_cmp_jobs.specs.Jobs.{made_outcome, outcome_for, outcome_of}
+use Rattle.fw_cmp.specs.Jobs.{job_current, slot_of_task, to_restore, waiting_break, is_empty, takes_task, takes_waiting, takes_next, picked, resumed_current, going}
+use Rattle.fw_cmp_jobs.specs.Jobs.{is_over}
 use Rattle.fw_model_controllers.specs.Wants.{is_want, is_want_outcome, wants, is_own, IsContent}
 use Rattle.fw_model_controllers.proofs.Turns.{at_rest}
 use Rattle.fw_model_controllers.proofs.Wants.{resumed_wants}
@@ -19,7 +21,7 @@ use Rattle.fw_model_controllers.proofs.Wants.{resumed_wants}
 not_over : (slot : Slot) → is_own slot ≡ true → is_over slot ≡ false
 not_over Free e = refl
 not_over (Making conn asked overhead) e = refl
-not_over (Standing conn f) e = refl
+not_over (Established conn f) e = refl
 not_over (Restoring conn f true) e = absurd (grind arith)
 not_over (Restoring conn f false) e = refl
 not_over (Gone conn) e = refl

@@ -2,7 +2,7 @@
 use Rattle.fw_model_controllers.proofs.Common.{PlugAt, ConnectionKind, ◌≡◌, ℕ, ◌+◌, ◌-◌, ◌^◌, ◌<◌, Bool, true, false, Option}
 use Rattle.fw_model_controllers.proofs.Common.{Some, None, is_some, eqb, leb, cond, refl, ap, arith, ◌&&◌, nat_tests, find_to}
 use Rattle.fw_model_controllers.proofs.Common.{Settings, is_connected, Account, Connection, PlugToPlug, BroadcastOut, BroadcastIn, Flow, Job}
-use Rattle.fw_model_controllers.proofs.Common.{Held, Then, EndsAs, Ending, Broken, Late, Stage, ReadOutput}
+use Rattle.fw_model_controllers.proofs.Common.{HeldResources, Then, EndsAs, Ending, Broken, Late, Stage, ReadOutput}
 use Rattle.fw_model_controllers.proofs.Common.{ReadChannels, SwapChannels, ReadBandwidth, SwapBandwidth, ConnectOutput, OverlayOutput}
 use Rattle.fw_model_controllers.proofs.Common.{ReadInput, ConnectInput, LeaveInput, ReadOutputToLeave, LeaveOutput}
 use Rattle.fw_model_controllers.proofs.Common.{ReadBandwidthToRelease, RaiseBandwidth, ReadChannelsToRelease, RestoreChannel, Made, Ended}
@@ -13,16 +13,16 @@ use Rattle.fw_model_controllers.proofs.Common.{has_output, has_input, job_output
 use Rattle.std.proofs.Common.{pow_pos}
 use Rattle.std.specs.Prelude.{not}
 use Rattle.fw_plug.specs.Words.{units_of}
-use Rattle.fw_cmp.specs.declared.job.Then.TheVariants.{Again}
-use Rattle.fw_cmp.specs.declared.job.Ending.TheVariants.{NoChannel, NoUnits, PlugFull, InputBusy}
-use Rattle.fw_cmp.specs.Connections.{is_point_to_point}
-use Rattle.fw_cmp.specs.Decisions.{give_back, leave_output, is_other, first_half, is_lost, decide_any}
-use Rattle.fw_cmp.specs.Decisions.{listen_flow, decide_listen, decide_point_to_point}
+use Rattle.fw_cmp_jobs.specs.declared.job.Then.TheVariants.{Again}
+use Rattle.fw_cmp_jobs.specs.declared.job.Ending.TheVariants.{NoChannel, NoUnits, PlugFull, InputBusy}
+use Rattle.fw_cmp_jobs.specs.Connections.{is_point_to_point}
+use Rattle.fw_cmp_jobs.specs.Decisions.{give_back, leave_output, is_other, first_half, is_lost, decide_any}
+use Rattle.fw_cmp_jobs.specs.Decisions.{listen_flow, decide_listen, decide_point_to_point}
 use Rattle.fw_model_controllers.specs.InStep.{Knows, KnowsFlow, KnowsChannel, KnowsInput, IsFresh, is_input_stage, again, sees_input}
 
 -- A stage that has this, at these plugs, and rests on no more: that the job may allocate, that its output plug was seen, and
 -- that its input plug was found.
-pub record IsNext (l : Account) (j : Job) (h : Option Held) (out into may seen found : Bool) (t : Stage) : Type 0 where
+pub record IsNext (l : Account) (j : Job) (h : Option HeldResources) (out into may seen found : Bool) (t : Stage) : Type 0 where
   pub pending : pending_of t ≡ h
   pub output : (kind : ConnectionKind) (q : PlugAt) → job_outputs j t kind q ≡ count_of (out && has_output j.connection kind q)
   pub input : (kind : ConnectionKind) (q : PlugAt) → job_inputs j t kind q ≡ count_of (into && has_input j.connection kind q)
@@ -77,7 +77,8 @@ pub on_next : (l : Account) (j : Job) (next : Then) (may seen found : Bool) → 
 on_next l j (EndsAs e) may seen found f = ended_next l j e may seen found
 on_next l j Again may seen found f = read_next l j may seen found (f refl)
 
-pub back_next : (l : Account) (j : Job) (h : Held) (next : Then) (may seen found : Bool) → (again next ≡ true → may ≡ true) → IsNext l j (Some h) false false may seen found (give_back (Some h) next)
+pub back_next : (l : Account) (j : Job) (h : HeldResources) (next : Then) (may seen found : Bool) → (again next ≡ true → may ≡ true)
+    → IsNext l j (Some h) false false may seen found (give_back (Some h) next)
 back_next l j h next may seen found f = go (eqb h.units 0) refl
   where
     go : (b : Bool) → eqb h.units 0 ≡ b → IsNext l j (Some h) false false may seen found (cond b (ReadChannelsToRelease next h.channel) (ReadBandwidthToRelease next h.channel h.units))
@@ -159,7 +160,7 @@ out_next l j w found needs_are = go (is_full (kind_of j.connection) w) (is_conne
     go false false lost = channels_next l j (first_half j.asked) w found needs_are
 
 -- with a reservation
-pub held_next : (l : Account) (j : Job) (h : Held) (w : ℕ) (found : Bool) → ((p : PlugAt) → output_of j.connection ≡ Some p → h.units ≡ units_at (l.settings p).rate j.overhead)
+pub held_next : (l : Account) (j : Job) (h : HeldResources) (w : ℕ) (found : Bool) → ((p : PlugAt) → output_of j.connection ≡ Some p → h.units ≡ units_at (l.settings p).rate j.overhead)
     → IsNext l j (Some h) false false true true found (decide_out j (Some h) w)
 held_next l j h w found units = go (is_full (kind_of j.connection) w) (is_connected w) (is_lost j w)
   where

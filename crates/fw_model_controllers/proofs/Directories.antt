@@ -1,7 +1,7 @@
 -- A directory that agrees with the latest reset entry.
 use Rattle.fw_model_controllers.proofs.Common.{◌≡◌, ◌<◌, ℕ, Option, Some, ap, subst, sym, ◌∙◌, ResetEntry, Account, Directory, IsDirectory}
 use Rattle.std.proofs.Common.{IsTrue}
-use Rattle.fw_cmp.specs.Nodes.{node_of}
+use Rattle.fw_cmp_jobs.specs.Nodes.{node_of}
 use Rattle.fw_model_controllers.specs.Requests.{EachOnce, IsDevice, IsManager, IsNumbering}
 
 once : (r : ResetEntry) (number : ℕ → Option ℕ) → IsNumbering r number → EachOnce (Some r)

@@ -11,7 +11,7 @@ use Rattle.fw_model_controllers.proofs.Common.{remainder_of, target_of, hear, re
 use Rattle.fw_terms.proofs.Tables.{sum_to_le}
 use Rattle.fw_model_account.specs.Account.{total, flow_units}
 use Rattle.fw_model_account.proofs.Allocations.{total_changed}
-use Rattle.fw_cmp.specs.Decisions.{is_other}
+use Rattle.fw_cmp_jobs.specs.Decisions.{is_other}
 use Rattle.fw_model_controllers.specs.Wants.{wants}
 use Rattle.fw_model_controllers.proofs.Answers.{mapped, output_plug}
 use Rattle.fw_model_controllers.proofs.Makes.{held_is, reclaim_is}

@@ -1,18 +1,19 @@
 -- Whatever happens, a controller keeps what it keeps at all times.
 use Rattle.fw_model_controllers.proofs.Common.{◌≡◌, ℕ, ◌^◌, ◌<◌, Bool, true, false, Option, Some, None, cond, refl}
 use Rattle.fw_model_controllers.proofs.Common.{subst, arith, Reply, Connection, PlugToPlug, BroadcastOut, BroadcastIn, Flow, Slot, Free, Making}
-use Rattle.fw_model_controllers.proofs.Common.{Standing, Restoring, Gone, Current, Nothing, Asking, Hearing, Overtaken, Directory, Job}
+use Rattle.fw_model_controllers.proofs.Common.{Established, Restoring, Gone, Current, Nothing, Asking, Hearing, Overtaken, Directory, Job}
 use Rattle.fw_model_controllers.proofs.Common.{Purpose, Make, Restore, Break, Late, Access, Stage, Begin, ReadInput, Ended}
 use Rattle.fw_model_controllers.proofs.Common.{is_listen, ControllerState, slot_at, job_for, breaking_job, Fits, JobFits}
 use Rattle.fw_model_controllers.proofs.Common.{StageFits, after_hear, hear_reply, after_asking, after_answer, begin_making, begin_leaving}
 use Rattle.std.proofs.lemmas.List.Elements.{All-get_or}
-use Rattle.fw_cmp.specs.declared.job.Ending.TheVariants.{Absent}
+use Rattle.fw_cmp_jobs.specs.declared.job.Ending.TheVariants.{Absent}
 use Rattle.fw_cmp.specs.Controllers.{SlotHasJobs, CurrentFits}
-use Rattle.fw_cmp.specs.Decisions.{channel_or, units_or}
-use Rattle.fw_cmp.specs.Fits.{SlotFits, FlowFits, AskedFits, UnitsFit, HasInput}
-use Rattle.fw_cmp.specs.Requests.{access_of}
+use Rattle.fw_cmp_jobs.specs.Decisions.{channel_or, units_or}
+use Rattle.fw_cmp_jobs.specs.Fits.{SlotFits, FlowFits, AskedFits, UnitsFit, HasInput}
+use Rattle.fw_cmp_jobs.specs.Requests.{access_of}
 use Rattle.fw_cmp.specs.Turns.{after_next}
-use Rattle.fw_cmp.specs.Jobs.{absent_of, begin_managed, begin_breaking, begin, begun, own_flow, is_late, resumed, resumed_current, picked, going, ready}
+use Rattle.fw_cmp.specs.Jobs.{resumed_current, picked, going, ready}
+use Rattle.fw_cmp_jobs.specs.Jobs.{absent_of, begin_managed, begin_breaking, begin, begun, own_flow, is_late, resumed}
 use Rattle.fw_cmp.proofs.Picking.{picked_fits}
 use Rattle.fw_cmp.proofs.Going.{going_fits}
 use Rattle.fw_cmp.proofs.Ended.{ended_fits}
@@ -55,7 +56,7 @@ leaving_fits i (BroadcastIn into) f h = (tt, (h.channel, h.units))
 breaking_fits : (k : ℕ) (slot : Slot) (j : Job) → SlotFits slot → job_for k slot ≡ Some j → StageFits j (begin_breaking slot)
 breaking_fits k Free j f e = tt
 breaking_fits k (Making conn asked overhead) j f e = tt
-breaking_fits k (Standing conn g) j f e = let same : breaking_job k conn ≡ j = cc in subst (λ y. StageFits y (begin_leaving conn g)) same (leaving_fits k conn g f.1)
+breaking_fits k (Established conn g) j f e = let same : breaking_job k conn ≡ j = cc in subst (λ y. StageFits y (begin_leaving conn g)) same (leaving_fits k conn g f.1)
 breaking_fits k (Restoring conn g over) j f e = tt
 breaking_fits k (Gone conn) j f e = tt
 

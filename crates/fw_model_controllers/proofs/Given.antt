@@ -1,12 +1,13 @@
 -- A controller that is given a job stays in step, and keeps what it keeps at all times.
 use Rattle.fw_model_controllers.proofs.Common.{◌≡◌, ℕ, ◌<◌, Bool, true, false, Option, Some, None, [], ◌∷◌, length, cond}
 use Rattle.fw_model_controllers.proofs.Common.{refl, ap, subst, sym, ◌∙◌, arith, nat_tests, find_to_is, IsFirst, Account, asked, Slot}
-use Rattle.fw_model_controllers.proofs.Common.{Free, Making, Standing, Restoring, Gone, ControllerState, slot_at, Fits, CanGoOn, Directory, ControllerInStep}
+use Rattle.fw_model_controllers.proofs.Common.{Free, Making, Established, Restoring, Gone, ControllerState, slot_at, Fits, CanGoOn, Directory, ControllerInStep}
 use Rattle.std.proofs.Common.{Ok, Err, ◌++◌}
 use Rattle.fw_cmp.specs.declared.outcome.StartFault.{StartFault}
 use Rattle.fw_cmp.specs.declared.outcome.StartFault.TheVariants.{Busy, NoSuchConnection}
-use Rattle.fw_cmp.specs.Controllers.{is_free}
-use Rattle.fw_cmp.specs.Starts.{free_slot, is_crowded, with_task, start_at, start, IsMaking, started, can_break, break_fault, break_started}
+use Rattle.fw_cmp_jobs.specs.Slots.{is_free}
+use Rattle.fw_cmp.specs.Starts.{free_slot, is_crowded, with_task, start_at, start, started, can_break, break_fault, break_started}
+use Rattle.fw_cmp_jobs.specs.Slots.{IsMaking}
 use Rattle.fw_cmp.proofs.Fitting.{is_free-true, start_fits, can_break_fits}
 use Rattle.fw_cmp.proofs.Jobs.{breaking_task}
 use Rattle.fw_cmp.proofs.GoingOn.{connection_goes_on, break_goes_on}
@@ -37,7 +38,7 @@ making_in_step : (l : Account) (d : ℕ) (c : ControllerState) (i : ℕ) (s : Sl
     → ControllerInStep l d (started (Ok i) s c)
 making_in_step l d c i (Making conn asked overhead) fits lt free h x = made_in_step l d c i conn asked overhead _ fits.slots lt (is_free-true (slot_at c i) free) x
 making_in_step l d c i Free fits lt free h x = absurd h
-making_in_step l d c i (Standing conn f) fits lt free h x = absurd h
+making_in_step l d c i (Established conn f) fits lt free h x = absurd h
 making_in_step l d c i (Restoring conn f over) fits lt free h x = absurd h
 making_in_step l d c i (Gone conn) fits lt free h x = absurd h
 

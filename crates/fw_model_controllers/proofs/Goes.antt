@@ -1,6 +1,6 @@
 -- A controller that stays in step while its job goes on to another stage.
 use Rattle.fw_model_controllers.proofs.Common.{PlugAt, ConnectionKind, ◌≡◌, ℕ, ◌+◌, Bool, true, false, Option, Some, refl, ap}
-use Rattle.fw_model_controllers.proofs.Common.{subst, sym, ◌∙◌, Account, is_output, is_input, Job, Held, Stage, output_of, input_of}
+use Rattle.fw_model_controllers.proofs.Common.{subst, sym, ◌∙◌, Account, is_output, is_input, Job, HeldResources, Stage, output_of, input_of}
 use Rattle.fw_model_controllers.proofs.Common.{pending_of, is_at_output, is_at_input, Holding, Holds, HasReserved, Keeps, has_manager}
 use Rattle.fw_model_controllers.proofs.Common.{Others, reservation, holding, units_at, MayReclaim, allocates, sees, IsInStep}
 use Rattle.std.proofs.Common.{◌||◌}
@@ -33,7 +33,7 @@ pub reclaim_kept : (l m : Account) (p : PlugAt) (j : Job) → Keeps l m → m.re
 reclaim_kept l m p j k runs may = (may.0, may.1, (k.reclaims runs).1 may.0 ∙ (may.2 ∙ ap (λ r. Some (record { plug = p; units = units_at r j.overhead })) (sym (k.rates p))))
 
 -- from account l to m the job goes from stage s, whose request was answered, to stage t
-pub goes : (l m : Account) (c : ℕ) (j : Job) (s t : Stage) (others : Others) (h : Option Held) (out into seen found : Bool) → Keeps l m → m.addressed c ≡ l.addressed c → works s ≡ true
+pub goes : (l m : Account) (c : ℕ) (j : Job) (s t : Stage) (others : Others) (h : Option HeldResources) (out into seen found : Bool) → Keeps l m → m.addressed c ≡ l.addressed c → works s ≡ true
     → IsInStep l c j s true others → (seen ≡ true → (p : PlugAt) → output_of j.connection ≡ Some p → IsSeen l c p)
     → (found ≡ true → (q : PlugAt) → input_of j.connection ≡ Some q → is_input l.latest q ≡ true) → IsNext m j h out into (allocates s) seen found t → Holds m c (holding j t others)
     → IsInStep m c j t false others

@@ -7,9 +7,9 @@ use Rattle.fw_model_controllers.proofs.Common.{ConnectInput, ReadInputToLeave, L
 use Rattle.fw_model_controllers.proofs.Common.{input_of, one_less, channel_of, is_full, shows_connection, decide_in, input_left}
 use Rattle.fw_model_controllers.proofs.Common.{hear_reply, is_at_input, register_at, stands, at_plug, after_move, Others, reservation, IsInStep, HalfStep}
 use Rattle.fw_model_account.specs.Moves.{ConnectInput as ConnectsInput}
-use Rattle.fw_cmp.specs.Plugs.{one_more, with_channel}
-use Rattle.fw_cmp.specs.Decisions.{decide_leave_in}
-use Rattle.fw_cmp.specs.Requests.{input_word as joined_word}
+use Rattle.fw_cmp_jobs.specs.Plugs.{one_more, with_channel}
+use Rattle.fw_cmp_jobs.specs.Decisions.{decide_leave_in}
+use Rattle.fw_cmp_jobs.specs.Requests.{input_word as joined_word}
 use Rattle.fw_model_controllers.proofs.Words.{Shows, input_word, input_shows, channel_shown, shows_connected, shows_own, room_is, input_more, input_less, input_channel_set}
 use Rattle.fw_model_controllers.proofs.Decisions.{FlowIs, in_next, refused_next, made_next, leave_input_next, input_left_next}
 use Rattle.fw_model_controllers.proofs.Goes.{stays}

@@ -1,7 +1,7 @@
 -- What leaves a controller all that it has, and its plugs as they are, leaves it in step.
 use Rattle.fw_model_controllers.proofs.Common.{PlugAt, ConnectionKind, ◌≡◌, ◌≢◌, ℕ, ◌<◌, ◌≤◌, Bool, true, false, Some, length}
 use Rattle.fw_model_controllers.proofs.Common.{refl, ap, subst, sym, ◌∙◌, arith, ◌⊎◌, inl, inr, cases_lt, Account, has_connection}
-use Rattle.fw_model_controllers.proofs.Common.{is_output, IsSound, Connection, Flow, Slot, Free, Making, Standing, Restoring}
+use Rattle.fw_model_controllers.proofs.Common.{is_output, IsSound, Connection, Flow, Slot, Free, Making, Established, Restoring}
 use Rattle.fw_model_controllers.proofs.Common.{Gone, Current, Nothing, Asking, Hearing, Overtaken, kind_of, output_of, input_of}
 use Rattle.fw_model_controllers.proofs.Common.{ControllerState, slot_at, is_current_slot, has_output, has_input, stands_at_output}
 use Rattle.fw_model_controllers.proofs.Common.{stands_at_input, slot_outputs, slot_inputs, connections_of, Keeps, Leaves}
@@ -49,28 +49,30 @@ own_output conn p e = rw e (grind (arith, same_plug_self p, same_kind_self (kind
 own_input : (conn : Connection) (q : PlugAt) → input_of conn ≡ Some q → has_input conn (kind_of conn) q ≡ true
 own_input conn q e = rw e (grind (arith, same_plug_self q, same_kind_self (kind_of conn)))
 
-pub output_there : (l : Account) (d : ℕ) (c : ControllerState) (i : ℕ) (conn : Connection) (f : Flow) (p : PlugAt) → length c.slots ≡ 32 → CurrentInStep l d c c.current → slot_at c i ≡ Standing conn f
+pub output_there : (l : Account) (d : ℕ) (c : ControllerState) (i : ℕ) (conn : Connection) (f : Flow) (p : PlugAt) → length c.slots ≡ 32 → CurrentInStep l d c c.current
+    → slot_at c i ≡ Established conn f
     → is_current_slot c.current i ≡ false → output_of conn ≡ Some p → 0 < connections_of d (kind_of conn) (l.outputs p)
 output_there l d c i conn f p full x at other e = omega (
   arith,
   outputs_among l d c (kind_of conn) p c.current x,
-  one_stands stands_at_output c i (kind_of conn) p (slot_within c i (Standing conn f) full at (λ y. grind arith)) other (rw at (own_output conn p e)),
+  one_stands stands_at_output c i (kind_of conn) p (slot_within c i (Established conn f) full at (λ y. grind arith)) other (rw at (own_output conn p e)),
 )
 
-pub input_there : (l : Account) (d : ℕ) (c : ControllerState) (i : ℕ) (conn : Connection) (f : Flow) (q : PlugAt) → length c.slots ≡ 32 → CurrentInStep l d c c.current → slot_at c i ≡ Standing conn f
+pub input_there : (l : Account) (d : ℕ) (c : ControllerState) (i : ℕ) (conn : Connection) (f : Flow) (q : PlugAt) → length c.slots ≡ 32 → CurrentInStep l d c c.current
+    → slot_at c i ≡ Established conn f
     → is_current_slot c.current i ≡ false → input_of conn ≡ Some q → 0 < connections_of d (kind_of conn) (l.inputs q)
 input_there l d c i conn f q full x at other e = omega (
   arith,
   inputs_among l d c (kind_of conn) q c.current x,
-  one_stands stands_at_input c i (kind_of conn) q (slot_within c i (Standing conn f) full at (λ y. grind arith)) other (rw at (own_input conn q e)),
+  one_stands stands_at_input c i (kind_of conn) q (slot_within c i (Established conn f) full at (λ y. grind arith)) other (rw at (own_input conn q e)),
 )
 
 pub output_connected : (l : Account) (d : ℕ) (c : ControllerState) (i : ℕ) (conn : Connection) (f : Flow) (p : PlugAt) → IsSound l → length c.slots ≡ 32 → CurrentInStep l d c c.current
-    → slot_at c i ≡ Standing conn f → is_current_slot c.current i ≡ false → output_of conn ≡ Some p → has_connection (l.outputs p) ≡ true
+    → slot_at c i ≡ Established conn f → is_current_slot c.current i ≡ false → output_of conn ≡ Some p → has_connection (l.outputs p) ≡ true
 output_connected l d c i conn f p sound full x at other e = connected_by d (kind_of conn) (l.outputs p) (λ k le. (sound.controllers p k le).0) (output_there l d c i conn f p full x at other e)
 
 pub input_connected : (l : Account) (d : ℕ) (c : ControllerState) (i : ℕ) (conn : Connection) (f : Flow) (q : PlugAt) → IsSound l → length c.slots ≡ 32 → CurrentInStep l d c c.current
-    → slot_at c i ≡ Standing conn f → is_current_slot c.current i ≡ false → input_of conn ≡ Some q → has_connection (l.inputs q) ≡ true
+    → slot_at c i ≡ Established conn f → is_current_slot c.current i ≡ false → input_of conn ≡ Some q → has_connection (l.inputs q) ≡ true
 input_connected l d c i conn f q sound full x at other e = connected_by d (kind_of conn) (l.inputs q) (λ k le. (sound.controllers q k le).1) (input_there l d c i conn f q full x at other e)
 
 -- ---- slots
@@ -84,12 +86,12 @@ restore_kept l m conn f over k runs x = record {
 }
 
 pub slot_kept : (l m : Account) (b : Bool) (s : Slot) → Keeps l m → (l.reclaiming ≡ true → m.reclaiming ≡ true)
-    → ((conn : Connection) (f : Flow) (p : PlugAt) → b ≡ false → s ≡ Standing conn f → output_of conn ≡ Some p → has_connection (l.outputs p) ≡ true)
-    → ((conn : Connection) (f : Flow) (q : PlugAt) → b ≡ false → s ≡ Standing conn f → input_of conn ≡ Some q → has_connection (l.inputs q) ≡ true) → SlotInStep l b s → SlotInStep m b s
+    → ((conn : Connection) (f : Flow) (p : PlugAt) → b ≡ false → s ≡ Established conn f → output_of conn ≡ Some p → has_connection (l.outputs p) ≡ true)
+    → ((conn : Connection) (f : Flow) (q : PlugAt) → b ≡ false → s ≡ Established conn f → input_of conn ≡ Some q → has_connection (l.inputs q) ≡ true) → SlotInStep l b s → SlotInStep m b s
 slot_kept l m b Free k runs out into x = tt
 slot_kept l m b (Making conn asked overhead) k runs out into x = tt
-slot_kept l m true (Standing conn f) k runs out into x = tt
-slot_kept l m false (Standing conn f) k runs out into x = record {
+slot_kept l m true (Established conn f) k runs out into x = tt
+slot_kept l m false (Established conn f) k runs out into x = record {
   output = λ p e. subst (λ n. IsFlow n f) (sym (k.settings p (out conn f p refl refl e))) (x.output p e);
   input = λ q e. k.channels q (into conn f q refl refl e) ∙ x.input q e;
   manager = λ e. ap has_manager k.latest ∙ x.manager e;

@@ -13,15 +13,16 @@ use Rattle.fw_model_controllers.proofs.Common.{register_at, IsAnswer}
 use Rattle.std.proofs.Common.{IsSome}
 use Rattle.fw_model_controllers.proofs.Answers.{mapped}
 use Rattle.fw_cmp.specs.Holdings.{StageReached, CurrentReached}
-use Rattle.fw_cmp.specs.Requests.{access_at, access_of, request_of}
+use Rattle.fw_cmp_jobs.specs.Requests.{access_at, access_of, request_of}
 use Rattle.fw_cmp.proofs.Ready.{ready_reached}
 use Rattle.fw_model_controllers.specs.Requests.{request_to, requested_of, requested, Tells, is_sent, procedure_head, request_packet, IsResponse}
 use Rattle.fw_model_controllers.proofs.Carried.{hearing, hear_half}
 use Rattle.fw_model_controllers.proofs.Fits.{ready_fits}
 use Rattle.fw_model_account.specs.Packets.{ended as request_ended}
-use Rattle.fw_cmp.specs.declared.current.Task.{Task}
+use Rattle.fw_cmp.specs.declared.current.WaitingJob.{WaitingJob}
 use Rattle.fw_cmp.specs.Controllers.{IsHeard}
-use Rattle.fw_cmp.specs.Turns.{after_next, outcome_of, sending, asks_or_ends, rests as rests_on, answer_of, next}
+use Rattle.fw_cmp.specs.Turns.{after_next, sending, asks_or_ends, rests as rests_on, answer_of, next}
+use Rattle.fw_cmp_jobs.specs.Jobs.{outcome_of}
 use Rattle.fw_cmp.specs.Jobs.{ready}
 use Rattle.fw_model_controllers.proofs.Turns.{asking}
 use Rattle.fw_model_controllers.proofs.Addressees.{target_is, addressee_there, number_at, node_is}
@@ -70,7 +71,7 @@ asking_tells now dir c j s fits reached = go (target_of j s) refl
     go None e = says_nothing dir (End j.slot (outcome_of now j s)) Nothing refl refl
     go (Some t) e = sends_to dir j s t e (addressee_there dir j s t fits reached e)
 
-rests_tells : (dir : Directory) (ts : List Task) → Tells dir (rests_on dir ts) Nothing
+rests_tells : (dir : Directory) (ts : List WaitingJob) → Tells dir (rests_on dir ts) Nothing
 rests_tells dir [] = says_nothing dir Idle Nothing refl refl
 rests_tells dir (t ∷ ts) = says_nothing dir (WaitsUntil dir.over_at) Nothing refl refl
 

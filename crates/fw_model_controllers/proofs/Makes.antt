@@ -1,13 +1,13 @@
 -- The half steps of a job that allocates a channel and units, and connects its output plug.
 use Rattle.fw_model_controllers.proofs.Common.{PlugAt, ◌≡◌, ℕ, ◌-◌, ◌<◌, Bool, true, false, Option, Some, None, refl}
 use Rattle.fw_model_controllers.proofs.Common.{ap, subst, sym, ◌∙◌, arith, nat_tests, Reply, Pending, Account, remainder, AllocateChannel}
-use Rattle.fw_model_controllers.proofs.Common.{AllocateUnits, Can, after, is_output, IsSound, channel_word, Job, Held}
+use Rattle.fw_model_controllers.proofs.Common.{AllocateUnits, Can, after, is_output, IsSound, channel_word, Job, HeldResources}
 use Rattle.fw_model_controllers.proofs.Common.{NoPlug, Stage, ReadOutput, ReadChannels, SwapChannels, ReadBandwidth, SwapBandwidth}
 use Rattle.fw_model_controllers.proofs.Common.{ConnectOutput, Target, OutputPlug, Channels, BandwidthAvailable, output_of, half_of}
 use Rattle.fw_model_controllers.proofs.Common.{remainder_of, needs, decide_channel, decide_units, decide_out, hear_reply}
 use Rattle.fw_model_controllers.proofs.Common.{pending_of, HasReserved, stands, has_manager, at_plug, after_move, Others, reservation, units_at, MayReclaim, IsInStep, HalfStep}
-use Rattle.fw_cmp.specs.Plugs.{without_bit, units_with}
-use Rattle.fw_cmp.specs.Decisions.{units_or, is_other}
+use Rattle.fw_cmp_jobs.specs.Plugs.{without_bit, units_with}
+use Rattle.fw_cmp_jobs.specs.Decisions.{units_or, is_other}
 use Rattle.fw_model_controllers.specs.InStep.{works}
 use Rattle.fw_model_controllers.proofs.Words.{output_word, units_shown, remainder_shown}
 use Rattle.fw_model_controllers.proofs.Registers.{open_is, bit_cleared, remainder_less}
@@ -117,7 +117,8 @@ read_bandwidth l c j ch w others p r x e = record {
 }
 
 -- what a job holds for its output plug
-pub held_is : (l : Account) (c : ℕ) (j : Job) (s : Stage) (b : Bool) (others : Others) (p : PlugAt) (h : Held) → IsInStep l c j s b others → output_of j.connection ≡ Some p → pending_of s ≡ Some h
+pub held_is : (l : Account) (c : ℕ) (j : Job) (s : Stage) (b : Bool) (others : Others) (p : PlugAt) (h : HeldResources) → IsInStep l c j s b others → output_of j.connection ≡ Some p
+    → pending_of s ≡ Some h
     → (h.channel < 64) × (l.allocations h.channel ≡ Some (record { holder = Pending c p; units = h.units }))
 held_is l c j s b others p h i e held = subst (λ o. HasReserved c o l.allocations) (ap (reservation (output_of j.connection)) held ∙ sym (reserved_is j p h e)) i.holds.reserved
 

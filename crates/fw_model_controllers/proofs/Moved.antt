@@ -3,7 +3,7 @@ use Rattle.fw_model_controllers.proofs.Common.{PlugAt, ConnectionKind, ◌≡◌
 use Rattle.fw_model_controllers.proofs.Common.{refl, ap, subst, sym, ◌∙◌, ◌&&◌, Swap, Reply, Account, Move, AllocateChannel}
 use Rattle.fw_model_controllers.proofs.Common.{AllocateUnits, ConnectFirst, ConnectOverlaid, DisconnectInput, DisconnectOutput, ReleaseUnits, ReleaseChannel}
 use Rattle.fw_model_controllers.proofs.Common.{Can, after, is_output, is_input, IsSound, word_of, Job}
-use Rattle.fw_model_controllers.proofs.Common.{Held, Stage, Target, kind_of, output_of, input_of, JobFits, StageFits}
+use Rattle.fw_model_controllers.proofs.Common.{HeldResources, Stage, Target, kind_of, output_of, input_of, JobFits, StageFits}
 use Rattle.fw_model_controllers.proofs.Common.{pending_of, has_output, has_input, job_outputs, job_inputs, count_of, Holding, IsAnswer}
 use Rattle.fw_model_controllers.proofs.Common.{register_at, succeeds, Others, reservation, holding, allocates, IsInStep}
 use Rattle.std.proofs.Common.{IsTrue}
@@ -50,7 +50,8 @@ pub record IsLeft (h : Holding) (j : Job) (t : Stage) (others : Others) : Type 0
   pub outputs : (kind : ConnectionKind) (q : PlugAt) → h.outputs kind q ≡ others.outputs kind q + job_outputs j t kind q
   pub inputs : (kind : ConnectionKind) (q : PlugAt) → h.inputs kind q ≡ others.inputs kind q + job_inputs j t kind q
 
-pub moved : (l : Account) (c : ℕ) (j : Job) (s t : Stage) (others : Others) (p : PlugAt) (m : Move) (h : Option Held) (out into seen found : Bool) → c < 63 → IsSound l → Can c p m l → works s ≡ true
+pub moved : (l : Account) (c : ℕ) (j : Job) (s t : Stage) (others : Others) (p : PlugAt) (m : Move) (h : Option HeldResources) (out into seen found : Bool) → c < 63 → IsSound l → Can c p m l
+    → works s ≡ true
     → IsInStep l c j s true others → (seen ≡ true → (q : PlugAt) → output_of j.connection ≡ Some q → IsSeen l c q)
     → (found ≡ true → (q : PlugAt) → input_of j.connection ≡ Some q → is_input l.latest q ≡ true) → IsNext (after c p m l) j h out into (allocates s) seen found t
     → IsLeft (holding_after c p m l (holding j s others)) j t others → IsInStep (after c p m l) c j t false others
@@ -59,7 +60,8 @@ moved l c j s t others p m h out into seen found lt sound can working i saw had 
     (holds_same (after c p m l) c (holding_after c p m l (holding j s others)) (holding j t others) (own_move c p m l (holding j s others) lt sound can i.holds) left.reserved left.outputs left.inputs)
 
 -- the reservation of a job
-pub reserved_is : (j : Job) (p : PlugAt) (h : Held) → output_of j.connection ≡ Some p → Some (record { plug = p; channel = h.channel; units = h.units }) ≡ reservation (output_of j.connection) (Some h)
+pub reserved_is : (j : Job) (p : PlugAt) (h : HeldResources) → output_of j.connection ≡ Some p
+    → Some (record { plug = p; channel = h.channel; units = h.units }) ≡ reservation (output_of j.connection) (Some h)
 reserved_is j p h e = ap (λ o. reservation o (Some h)) (sym e)
 
 -- the job's own connection
@@ -70,7 +72,7 @@ pub one_input : (j : Job) (p : PlugAt) → input_of j.connection ≡ Some p → 
 one_input j p e kind q = rw e refl
 
 -- nothing at plugs changes
-pub stays_at_plugs : (l : Account) (j : Job) (s t : Stage) (others : Others) (h : Holding) (held : Option Held) (out into may seen found : Bool) → IsNext l j held out into may seen found t
+pub stays_at_plugs : (l : Account) (j : Job) (s t : Stage) (others : Others) (h : Holding) (held : Option HeldResources) (out into may seen found : Bool) → IsNext l j held out into may seen found t
     → h.reserved ≡ reservation (output_of j.connection) held → ((kind : ConnectionKind) (q : PlugAt) → h.outputs kind q ≡ others.outputs kind q + count_of (out && has_output j.connection kind q))
     → ((kind : ConnectionKind) (q : PlugAt) → h.inputs kind q ≡ others.inputs kind q + count_of (into && has_input j.connection kind q)) → IsLeft h j t others
 stays_at_plugs l j s t others h held out into may seen found n e f g = record {

@@ -2,7 +2,7 @@
 use Rattle.fw_model_controllers.proofs.Common.{◌≡◌, ◌≢◌, ℕ, ◌<◌, ◌≤◌, Bool, true, false, Option, Some, None, List, [], ◌∷◌}
 use Rattle.fw_model_controllers.proofs.Common.{length, cond, refl, ap, subst, sym, ◌∙◌, arith, ◌⊎◌, inl, inr, option_map, nat_tests}
 use Rattle.fw_model_controllers.proofs.Common.{cases_lt, find_to_is, IsFirst, ResetEntry, output_addressed, Access, Target, JobFits, StageFits, CanGoOn, target_of, swap_of, addressee_of, has_manager}
-use Rattle.fw_model_controllers.proofs.Common.{outstanding_of, Account, Request, asked, Slot, Free, Making, Standing, Restoring, Gone}
+use Rattle.fw_model_controllers.proofs.Common.{outstanding_of, Account, Request, asked, Slot, Free, Making, Established, Restoring, Gone}
 use Rattle.fw_model_controllers.proofs.Common.{Current, Nothing, Asking, Hearing, Overtaken, Directory, Job, Make, Restore}
 use Rattle.fw_model_controllers.proofs.Common.{Break, Stage, ControllerState, slot_at, job_for, restoring_job, breaking_job, Fits, after_asking, after_answer, ControllerInStep, IsDirectory}
 use Rattle.std.proofs.Common.{IsSome}
@@ -12,15 +12,16 @@ use Rattle.std.proofs.lemmas.List.Elements.{All-get_or}
 use Rattle.std.proofs.lemmas.List.Quantifiers.{position-Some}
 use Rattle.std.proofs.lemmas.Option.{slice_get-get_or}
 use Rattle.fw_cmp.specs.Holdings.{StageReached, CurrentReached}
-use Rattle.fw_cmp.specs.Requests.{access_at}
+use Rattle.fw_cmp_jobs.specs.Requests.{access_at}
 use Rattle.fw_cmp.proofs.Ready.{ready_reached}
 use Rattle.fw_model_controllers.specs.Registers.{plug_addressed}
 use Rattle.fw_model_controllers.specs.Requests.{IsManager, request_to, requested_of, requested}
 use Rattle.fw_model_controllers.proofs.Carried.{hearing}
 use Rattle.fw_model_controllers.proofs.Fits.{ready_fits}
 use Rattle.fw_model_controllers.proofs.Requests.{plug_is}
-use Rattle.fw_cmp.specs.declared.current.Task.{Task}
-use Rattle.fw_cmp.specs.Controllers.{is_restoring, making_job, IsHeard}
+use Rattle.fw_cmp.specs.declared.current.WaitingJob.{WaitingJob}
+use Rattle.fw_cmp.specs.Controllers.{IsHeard}
+use Rattle.fw_cmp_jobs.specs.Slots.{is_restoring, making_job}
 use Rattle.fw_cmp.specs.Jobs.{job_current, takes_slot, slot_of_task, takes_task, to_restore, is_break, waiting_break, is_empty}
 use Rattle.fw_cmp.specs.Jobs.{takes_making, takes_waiting, takes_next, picked, resumed_current, going, ready}
 use Rattle.fw_cmp.proofs.Jobs.{makes_removed, breaks_removed}
@@ -45,7 +46,7 @@ manager_told l now dir told n e = managed l.latest n (told.manager n e)
 job_slot : (k : ℕ) (slot : Slot) (j : Job) → job_for k slot ≡ Some j → j.slot ≡ k
 job_slot k Free j is = absurd (grind arith)
 job_slot k (Making conn asked overhead) j is = let same : making_job k conn asked overhead ≡ j = cc in ap (λ (y : Job). y.slot) (sym same)
-job_slot k (Standing conn f) j is = let same : breaking_job k conn ≡ j = cc in ap (λ (y : Job). y.slot) (sym same)
+job_slot k (Established conn f) j is = let same : breaking_job k conn ≡ j = cc in ap (λ (y : Job). y.slot) (sym same)
 job_slot k (Restoring conn f over) j is = let same : restoring_job k conn f ≡ j = cc in ap (λ (y : Job). y.slot) (sym same)
 job_slot k (Gone conn) j is = let same : breaking_job k conn ≡ j = cc in ap (λ (y : Job). y.slot) (sym same)
 
@@ -67,20 +68,20 @@ slot_turn l d c dir k x told lt calm = go (job_for k (slot_at c k)) refl
 restoring_calm : (l : Account) (k : ℕ) (slot : Slot) → is_restoring slot ≡ true → IsCalm l k slot
 restoring_calm l k Free e j is f = absurd (grind arith)
 restoring_calm l k (Making conn asked overhead) e j is f = absurd (grind arith)
-restoring_calm l k (Standing conn g) e j is f = absurd (grind arith)
+restoring_calm l k (Established conn g) e j is f = absurd (grind arith)
 restoring_calm l k (Restoring conn g over) e j is f = let same : restoring_job k conn g ≡ j = cc in let no_ : Restore ≡ Make = ap (λ (y : Job). y.purpose) same ∙ f in absurd (grind arith)
 restoring_calm l k (Gone conn) e j is f = absurd (grind arith)
 
 breaking_calm : (l : Account) (k : ℕ) (slot : Slot) → Suits true slot → IsCalm l k slot
 breaking_calm l k Free e j is f = absurd e
 breaking_calm l k (Making conn asked overhead) e j is f = absurd e
-breaking_calm l k (Standing conn g) e j is f = let same : breaking_job k conn ≡ j = cc in let no_ : Break ≡ Make = ap (λ (y : Job). y.purpose) same ∙ f in absurd (grind arith)
+breaking_calm l k (Established conn g) e j is f = let same : breaking_job k conn ≡ j = cc in let no_ : Break ≡ Make = ap (λ (y : Job). y.purpose) same ∙ f in absurd (grind arith)
 breaking_calm l k (Restoring conn g over) e j is f = absurd e
 breaking_calm l k (Gone conn) e j is f = let same : breaking_job k conn ≡ j = cc in let no_ : Break ≡ Make = ap (λ (y : Job). y.purpose) same ∙ f in absurd (grind arith)
 
 -- ---- waiting jobs
 
-no_task : Task
+no_task : WaitingJob
 no_task = task_of 0 false
 
 task_turn : (l : Account) (d : ℕ) (c : ControllerState) (dir : Directory) (p : ℕ) → ControllerInStep l d (at_rest c) → IsTold l dir → Fits (at_rest c) → p < length c.waiting
@@ -88,7 +89,7 @@ task_turn : (l : Account) (d : ℕ) (c : ControllerState) (dir : Directory) (p :
 task_turn l d c dir p x told fits lt calm =
     subst (λ n. ControllerInStep l d (going dir (takes_slot (at_rest (record c { waiting = remove c.waiting p })) n))) (sym (ap slot_of_task (slice_get-get_or c.waiting p no_task lt)))
     (slot_turn l d (record c { waiting = remove c.waiting p }) dir (get_or c.waiting p no_task).slot (waiting_in_step l d (at_rest c) (remove c.waiting p) x) told
-    (All-get_or (λ (t : Task). t.slot < 32) c.waiting p no_task lt fits.waiting) calm)
+    (All-get_or (λ (t : WaitingJob). t.slot < 32) c.waiting p no_task lt fits.waiting) calm)
 
 -- no connection is to be restored
 abbrev pub NoneToRestore : ControllerState → Type 0
@@ -98,15 +99,15 @@ NoneToRestore c = (i : ℕ) → is_restoring (slot_at c i) ≡ false
 break_suits : (c : ControllerState) (p : ℕ) → Fits (at_rest c) → NoneToRestore c → p < length c.waiting → (get_or c.waiting p no_task).breaks ≡ true
     → Suits true (slot_at c (get_or c.waiting p no_task).slot)
 break_suits c p fits none lt e =
-    let t : Task = get_or c.waiting p no_task in
+    let t : WaitingJob = get_or c.waiting p no_task in
     subst (λ b. Suits b (slot_at c t.slot)) e (suits t.breaks t.slot c.waiting (slot_at c t.slot) (omega (arith, makes_removed c.waiting p t.slot no_task lt))
     (omega (arith, breaks_removed c.waiting p t.slot no_task lt)) (none t.slot) (fits.jobs t.slot))
 
-making_turn : (l : Account) (d now : ℕ) (c : ControllerState) (dir : Directory) → ControllerInStep l d (at_rest c) → IsDirectory l now dir → Fits (at_rest c) → (ts : List Task) → c.waiting ≡ ts
+making_turn : (l : Account) (d now : ℕ) (c : ControllerState) (dir : Directory) → ControllerInStep l d (at_rest c) → IsDirectory l now dir → Fits (at_rest c) → (ts : List WaitingJob) → c.waiting ≡ ts
     → ControllerInStep l d (going dir (takes_making now dir (at_rest c)))
 making_turn l d now c dir x told fits ts e = go (is_empty c.waiting) refl (ltb now dir.over_at) refl
   where
-    some : is_empty c.waiting ≡ false → (us : List Task) → c.waiting ≡ us → 0 < length c.waiting
+    some : is_empty c.waiting ≡ false → (us : List WaitingJob) → c.waiting ≡ us → 0 < length c.waiting
     some f [] g = let no_ : is_empty [] ≡ false = ap is_empty (sym g) ∙ f in absurd (grind arith)
     some f (t ∷ us) g = rw g (omega arith)
 

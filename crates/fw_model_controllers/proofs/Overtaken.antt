@@ -1,14 +1,15 @@
 -- Whatever its current job is at, a bus reset keeps a controller in step.
 use Rattle.fw_model_controllers.proofs.Common.{◌≡◌, ◌≢◌, ℕ, ◌<◌, Bool, true, false, Some, length, eqb, cond, refl}
 use Rattle.fw_model_controllers.proofs.Common.{ap, subst, sym, ◌∙◌, arith, nat_tests, ResetEntry, Account, after_reset, IsSound, Flow, Slot}
-use Rattle.fw_model_controllers.proofs.Common.{Free, Making, Standing, Restoring, Gone, Current, Nothing, Asking, Hearing, Overtaken}
+use Rattle.fw_model_controllers.proofs.Common.{Free, Making, Established, Restoring, Gone, Current, Nothing, Asking, Hearing, Overtaken}
 use Rattle.fw_model_controllers.proofs.Common.{Job, Purpose, Make, Restore, Break, Ending, Stage, Begin, Made, Ended}
 use Rattle.fw_model_controllers.proofs.Common.{ControllerState, slot_at, with_slot, job_for, restoring_job, breaking_job, is_current_slot, Others, IsInStep, SlotInStep, ControllerInStep}
-use Rattle.fw_cmp.specs.declared.outcome.Outcome.{Outcome}
-use Rattle.fw_cmp.specs.declared.outcome.Outcome.TheVariants.{Reset}
-use Rattle.fw_cmp.specs.Controllers.{making_job}
-use Rattle.fw_cmp.specs.Resets.{slot_reset, slots_reset, interrupted, decided, overtaken, lost_reset, state_reset, after_reset as reset}
-use Rattle.fw_cmp.specs.Turns.{made_outcome}
+use Rattle.fw_cmp_jobs.specs.declared.outcome.Outcome.{Outcome}
+use Rattle.fw_cmp_jobs.specs.declared.outcome.Outcome.TheVariants.{Reset}
+use Rattle.fw_cmp_jobs.specs.Slots.{making_job}
+use Rattle.fw_cmp.specs.Resets.{slots_reset, interrupted, decided, overtaken, lost_reset, state_reset, after_reset as reset}
+use Rattle.fw_cmp_jobs.specs.Slots.{slot_reset}
+use Rattle.fw_cmp_jobs.specs.Jobs.{made_outcome}
 use Rattle.fw_model_controllers.proofs.Slots.{slot_set, slot_here}
 use Rattle.fw_model_controllers.proofs.Spared.{own_output_connected}
 use Rattle.fw_model_controllers.proofs.Kept.{output_connected}
@@ -21,28 +22,28 @@ use Rattle.fw_model_controllers.proofs.Resets.{Grows, is_standing, slot_told, ow
 not_standing : (k : ℕ) (slot : Slot) (j : Job) → job_for k slot ≡ Some j → j.purpose ≢ Break → is_standing slot ≡ false
 not_standing k Free j is ne = refl
 not_standing k (Making conn asked overhead) j is ne = refl
-not_standing k (Standing conn f) j is ne = let same : breaking_job k conn ≡ j = cc in absurd (ne (ap (λ (y : Job). y.purpose) (sym same)))
+not_standing k (Established conn f) j is ne = let same : breaking_job k conn ≡ j = cc in absurd (ne (ap (λ (y : Job). y.purpose) (sym same)))
 not_standing k (Restoring conn f over) j is ne = refl
 not_standing k (Gone conn) j is ne = refl
 
 job_reset : (k : ℕ) (slot : Slot) → is_standing slot ≡ false → job_for k (slot_reset slot) ≡ job_for k slot
 job_reset k Free e = refl
 job_reset k (Making conn asked overhead) e = refl
-job_reset k (Standing conn f) e = absurd (grind arith)
+job_reset k (Established conn f) e = absurd (grind arith)
 job_reset k (Restoring conn f over) e = refl
 job_reset k (Gone conn) e = refl
 
 breaking_is : (k : ℕ) (slot : Slot) (j : Job) → job_for k slot ≡ Some j → j.purpose ≡ Break → breaking_job k j.connection ≡ j
 breaking_is k Free j is e = absurd (grind arith)
 breaking_is k (Making conn asked overhead) j is e = let same : making_job k conn asked overhead ≡ j = cc in let no_ : Make ≡ Break = ap (λ (y : Job). y.purpose) same ∙ e in absurd (grind arith)
-breaking_is k (Standing conn f) j is e = let same : breaking_job k conn ≡ j = cc in ap (λ (y : Job). breaking_job k y.connection) (sym same) ∙ same
+breaking_is k (Established conn f) j is e = let same : breaking_job k conn ≡ j = cc in ap (λ (y : Job). breaking_job k y.connection) (sym same) ∙ same
 breaking_is k (Restoring conn f over) j is e = let same : restoring_job k conn f ≡ j = cc in let no_ : Restore ≡ Break = ap (λ (y : Job). y.purpose) same ∙ e in absurd (grind arith)
 breaking_is k (Gone conn) j is e = let same : breaking_job k conn ≡ j = cc in ap (λ (y : Job). breaking_job k y.connection) (sym same) ∙ same
 
 units_reset : (r : ResetEntry) (l : Account) (k : ℕ) (slot : Slot) (j : Job) → Grows l r → SlotInStep l true slot → job_for k slot ≡ Some j → UnitsAre (after_reset r l) j
 units_reset r l k Free j grows x is = absurd (grind arith)
 units_reset r l k (Making conn asked overhead) j grows x is = let same : making_job k conn asked overhead ≡ j = cc in subst (UnitsAre (after_reset r l)) same (λ p u e f. absurd (grind arith))
-units_reset r l k (Standing conn f) j grows x is = let same : breaking_job k conn ≡ j = cc in subst (UnitsAre (after_reset r l)) same (λ p u e f. absurd (grind arith))
+units_reset r l k (Established conn f) j grows x is = let same : breaking_job k conn ≡ j = cc in subst (UnitsAre (after_reset r l)) same (λ p u e f. absurd (grind arith))
 units_reset r l k (Restoring conn f over) j grows x is = let same : restoring_job k conn f ≡ j = cc in
     subst (UnitsAre (after_reset r l)) same (restoring_units (after_reset r l) k conn f over (restoring_reset r l conn f over grows x))
 units_reset r l k (Gone conn) j grows x is = let same : breaking_job k conn ≡ j = cc in subst (UnitsAre (after_reset r l)) same (λ p u e f. absurd (grind arith))
@@ -112,7 +113,7 @@ interrupted_done r l d epoch c j a = go j.purpose refl
         reset_done r l d c (Asking j Begin) (kept_left r l c j Begin (Asking j Begin) a ne (begins refl (rw e refl))) (told_kept r l c j a ne)
     go Break e = free_done r l d c j (Reset epoch) a
 
--- a job that is decided, whether its request stands or not
+-- a job that is decided, whether its request is outstanding or not
 decided_done : (r : ResetEntry) (l : Account) (d : ℕ) (c : ControllerState) (j : Job) (end : Ending) (current : Current)
     → ((k : ControllerState) → JobLeft (after_reset r l) (record k { current = current }) j (Ended end) → CurrentLeft (after_reset r l) (record k { current = current }) current) → AtReset r l c j
     → ControllerInStep (after_reset r l) d (slots_reset (decided (record c { current = current }) j))

@@ -7,7 +7,7 @@ use Rattle.fw_words.specs.Quadlet.{field}
 use Rattle.fw_model_account.proofs.Moves.{total_changed}
 use Rattle.fw_model_account.proofs.Open.{opens, taken, same_open, not_withheld}
 use Rattle.fw_model_account.proofs.Words.{free_bit, word_without}
-use Rattle.fw_cmp.specs.Plugs.{with_bit, without_bit}
+use Rattle.fw_cmp_jobs.specs.Plugs.{with_bit, without_bit}
 
 bit_shows : (b : Bool) (w i : ℕ) → field w i i ≡ flag b → is_bit w i ≡ b
 bit_shows true w i e = grind (arith, nat_tests)

@@ -10,8 +10,8 @@ use Rattle.fw_model_controllers.proofs.Common.{half_of, one_less, shows_connecti
 use Rattle.fw_model_controllers.proofs.Common.{at_plug, after_move, Others, reservation, IsInStep, HalfStep}
 use Rattle.fw_model_account.specs.Account.{counter}
 use Rattle.fw_model_account.proofs.Connections.{fewer_connections}
-use Rattle.fw_cmp.specs.Plugs.{with_bit}
-use Rattle.fw_cmp.specs.Decisions.{decide_leave_out, output_left, decide_raise}
+use Rattle.fw_cmp_jobs.specs.Plugs.{with_bit}
+use Rattle.fw_cmp_jobs.specs.Decisions.{decide_leave_out, output_left, decide_raise}
 use Rattle.fw_model_controllers.specs.Holding.{plug_reservation}
 use Rattle.fw_model_controllers.specs.InStep.{again}
 use Rattle.fw_model_controllers.proofs.Words.{output_word, output_shows, shows_connected, shows_own, output_less, remainder_shown}

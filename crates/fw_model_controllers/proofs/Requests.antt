@@ -27,7 +27,7 @@ use Rattle.fw_model_account.proofs.Accesses.{after_read_request, after_lock_requ
 use Rattle.fw_model_account.proofs.Bounds.{word_below}
 use Rattle.fw_model_account.proofs.Places.{device_at_id, register_at_address, bandwidth_at, channels_high_at, channels_low_at}
 use Rattle.fw_model_account.proofs.Places.{output_at, input_at, addresses_output, addresses_no_input, addresses_no_manager}
-use Rattle.fw_cmp.specs.Requests.{offset_of}
+use Rattle.fw_cmp_jobs.specs.Requests.{offset_of}
 use Rattle.fw_words.specs.Swaps.{swap_bytes}
 use Rattle.fw_model_controllers.specs.InStep.{IsRegister}
 use Rattle.fw_model_controllers.specs.Moves.{move_of}

@@ -2,13 +2,14 @@
 use Rattle.fw_model_controllers.proofs.Common.{PlugAt, ConnectionKind, ◌≡◌, ℕ, ◌<◌, Bool, true, false, Option, Some, None}
 use Rattle.fw_model_controllers.proofs.Common.{is_some, cond, refl, ap, subst, sym, ◌∙◌, arith, ResetEntry, Settings, Account}
 use Rattle.fw_model_controllers.proofs.Common.{has_connection, after_reset, is_output, IsSound, Connection, Flow, Slot, Free, Making}
-use Rattle.fw_model_controllers.proofs.Common.{Standing, Restoring, Gone, Current, Nothing, Asking, Hearing, Overtaken, Job}
+use Rattle.fw_model_controllers.proofs.Common.{Established, Restoring, Gone, Current, Nothing, Asking, Hearing, Overtaken, Job}
 use Rattle.fw_model_controllers.proofs.Common.{Ending, Stage, Begin, Ended, output_of, ControllerState, slot_at, job_for}
 use Rattle.fw_model_controllers.proofs.Common.{restores, is_current_slot, stands_at_output, stands_at_input, Holds, Others, units_at}
 use Rattle.fw_model_controllers.proofs.Common.{IsFlow, IsInStep, slots_alone, IsToRestore, SlotInStep, CurrentInStep, ControllerInStep}
 use Rattle.fw_model_account.specs.Account.{talks}
 use Rattle.fw_model_account.proofs.Events.{reset_reclaimable}
-use Rattle.fw_cmp.specs.Resets.{slot_reset, slots_reset}
+use Rattle.fw_cmp.specs.Resets.{slots_reset}
+use Rattle.fw_cmp_jobs.specs.Slots.{slot_reset}
 use Rattle.fw_model_controllers.proofs.Slots.{slot_mapped, counts_none}
 use Rattle.fw_model_controllers.proofs.Begins.{alone, UnitsAre, ended_step, begin_step}
 use Rattle.fw_model_controllers.proofs.Events.{reset_holds}
@@ -59,15 +60,15 @@ restoring_reset r l conn f over grows x = record {
 
 -- whether a connection stands, or stood
 abbrev pub is_standing : Slot → Bool
-is_standing (Standing conn f) = true
+is_standing (Established conn f) = true
 is_standing _ = false
 
 pub slot_told : (r : ResetEntry) (l : Account) (s : Slot) → IsSound l → Grows l r
-    → ((conn : Connection) (f : Flow) (p : PlugAt) → s ≡ Standing conn f → output_of conn ≡ Some p → has_connection (l.outputs p) ≡ true) → SlotInStep l false s
+    → ((conn : Connection) (f : Flow) (p : PlugAt) → s ≡ Established conn f → output_of conn ≡ Some p → has_connection (l.outputs p) ≡ true) → SlotInStep l false s
     → SlotInStep (after_reset r l) false (slot_reset s)
 slot_told r l Free s grows connected x = tt
 slot_told r l (Making conn asked overhead) s grows connected x = tt
-slot_told r l (Standing conn f) s grows connected x = standing_reset r l conn f s grows x.output (λ p e. connected conn f p refl e)
+slot_told r l (Established conn f) s grows connected x = standing_reset r l conn f s grows x.output (λ p e. connected conn f p refl e)
 slot_told r l (Restoring conn f over) s grows connected x = restoring_reset r l conn f over grows x
 slot_told r l (Gone conn) s grows connected x = tt
 
@@ -75,7 +76,7 @@ slot_told r l (Gone conn) s grows connected x = tt
 pub own_told : (l : Account) (s : Slot) → is_standing s ≡ false → SlotInStep l true s → SlotInStep l false s
 own_told l Free e x = tt
 own_told l (Making conn asked overhead) e x = tt
-own_told l (Standing conn f) e x = absurd (grind arith)
+own_told l (Established conn f) e x = absurd (grind arith)
 own_told l (Restoring conn f over) e x = x
 own_told l (Gone conn) e x = tt
 
@@ -83,21 +84,21 @@ own_told l (Gone conn) e x = tt
 reset_weaker : (l : Account) (b : Bool) (s : Slot) → SlotInStep l false (slot_reset s) → SlotInStep l b (slot_reset s)
 reset_weaker l b Free x = tt
 reset_weaker l b (Making conn asked overhead) x = tt
-reset_weaker l b (Standing conn f) x = x
+reset_weaker l b (Established conn f) x = x
 reset_weaker l b (Restoring conn f over) x = x
 reset_weaker l b (Gone conn) x = tt
 
 none_stands_out : (s : Slot) (kind : ConnectionKind) (q : PlugAt) → stands_at_output (slot_reset s) kind q ≡ false
 none_stands_out Free kind q = refl
 none_stands_out (Making conn asked overhead) kind q = refl
-none_stands_out (Standing conn f) kind q = refl
+none_stands_out (Established conn f) kind q = refl
 none_stands_out (Restoring conn f over) kind q = refl
 none_stands_out (Gone conn) kind q = refl
 
 none_stands_in : (s : Slot) (kind : ConnectionKind) (q : PlugAt) → stands_at_input (slot_reset s) kind q ≡ false
 none_stands_in Free kind q = refl
 none_stands_in (Making conn asked overhead) kind q = refl
-none_stands_in (Standing conn f) kind q = refl
+none_stands_in (Established conn f) kind q = refl
 none_stands_in (Restoring conn f over) kind q = refl
 none_stands_in (Gone conn) kind q = refl
 

@@ -2,15 +2,16 @@
 use Rattle.fw_model_controllers.proofs.Common.{PlugAt, ConnectionKind, ◌≡◌, ℕ, ◌<◌, ◌≤◌, Bool, true, false, not, ◌&&◌, Option, Some}
 use Rattle.fw_model_controllers.proofs.Common.{List, length, eqb, cond, refl, ap, subst, sym, ◌∙◌, arith, ◌⊎◌, inl, inr}
 use Rattle.fw_model_controllers.proofs.Common.{nat_tests, cases_lt, Account, after_second, IsSound, Connection, Slot, Free, Making}
-use Rattle.fw_model_controllers.proofs.Common.{Standing, Restoring, Gone, Current, Nothing, Asking, Hearing, Overtaken, Job}
+use Rattle.fw_model_controllers.proofs.Common.{Established, Restoring, Gone, Current, Nothing, Asking, Hearing, Overtaken, Job}
 use Rattle.fw_model_controllers.proofs.Common.{Stage, ControllerState, slot_at, with_slot, job_for, count_of, is_current_slot}
 use Rattle.fw_model_controllers.proofs.Common.{stands_at_output, stands_at_input, slot_outputs, slot_inputs, Holds, Others, holding}
 use Rattle.fw_model_controllers.proofs.Common.{IsInStep, others_of, slots_alone, SlotInStep, CurrentInStep, ControllerInStep}
 use Rattle.std.proofs.Common.{get_or, replicate}
 use Rattle.std.proofs.lemmas.List.{get_or_past, get_or-replicate}
-use Rattle.fw_cmp.specs.declared.current.Task.{Task}
+use Rattle.fw_cmp.specs.declared.current.WaitingJob.{WaitingJob}
 use Rattle.fw_cmp.specs.Controllers.{first_state}
-use Rattle.fw_cmp.specs.Resets.{slot_over, after_second as second_over}
+use Rattle.fw_cmp.specs.Resets.{after_second as second_over}
+use Rattle.fw_cmp_jobs.specs.Slots.{slot_over}
 use Rattle.fw_model_controllers.specs.Holding.{no_holding}
 use Rattle.fw_model_controllers.proofs.Goes.{holds_same}
 use Rattle.fw_model_controllers.proofs.Slots.{Stands, slot_set, slot_mapped, counts_none, counts_same}
@@ -62,29 +63,29 @@ alike_current l d c e (Overtaken i o) a f x = holds_same l d (slots_alone c) (sl
 stands_over_out : (s : Slot) (kind : ConnectionKind) (q : PlugAt) → stands_at_output s kind q ≡ stands_at_output (slot_over s) kind q
 stands_over_out Free kind q = refl
 stands_over_out (Making conn asked overhead) kind q = refl
-stands_over_out (Standing conn f) kind q = refl
+stands_over_out (Established conn f) kind q = refl
 stands_over_out (Restoring conn f over) kind q = refl
 stands_over_out (Gone conn) kind q = refl
 
 stands_over_in : (s : Slot) (kind : ConnectionKind) (q : PlugAt) → stands_at_input s kind q ≡ stands_at_input (slot_over s) kind q
 stands_over_in Free kind q = refl
 stands_over_in (Making conn asked overhead) kind q = refl
-stands_over_in (Standing conn f) kind q = refl
+stands_over_in (Established conn f) kind q = refl
 stands_over_in (Restoring conn f over) kind q = refl
 stands_over_in (Gone conn) kind q = refl
 
 job_over : (k : ℕ) (s : Slot) → job_for k (slot_over s) ≡ job_for k s
 job_over k Free = refl
 job_over k (Making conn asked overhead) = refl
-job_over k (Standing conn f) = refl
+job_over k (Established conn f) = refl
 job_over k (Restoring conn f over) = refl
 job_over k (Gone conn) = refl
 
 slot_told_over : (l : Account) (b : Bool) (s : Slot) → SlotInStep l b s → SlotInStep (after_second l) b (slot_over s)
 slot_told_over l b Free x = tt
 slot_told_over l b (Making conn asked overhead) x = tt
-slot_told_over l true (Standing conn f) x = tt
-slot_told_over l false (Standing conn f) x = record { output = x.output; input = x.input; manager = x.manager }
+slot_told_over l true (Established conn f) x = tt
+slot_told_over l false (Established conn f) x = record { output = x.output; input = x.input; manager = x.manager }
 slot_told_over l b (Restoring conn f over) x = record { found = x.found; units = x.units; listed = λ p e own. absurd (grind arith) }
 slot_told_over l b (Gone conn) x = tt
 
@@ -150,7 +151,7 @@ not_current l d c i (Hearing j s) free x = go (eqb j.slot i) refl
 not_current l d c i (Overtaken k o) free x = refl
 
 -- what a connection that is to be made says in a slot that was free
-pub made_in_step : (l : Account) (d : ℕ) (c : ControllerState) (i : ℕ) (conn : Connection) (asked : Option ℕ) (overhead : ℕ) (ts : List Task) → length c.slots ≡ 32 → i < 32 → slot_at c i ≡ Free
+pub made_in_step : (l : Account) (d : ℕ) (c : ControllerState) (i : ℕ) (conn : Connection) (asked : Option ℕ) (overhead : ℕ) (ts : List WaitingJob) → length c.slots ≡ 32 → i < 32 → slot_at c i ≡ Free
     → ControllerInStep l d c → ControllerInStep l d (record (with_slot c i (Making conn asked overhead)) { waiting = ts })
 made_in_step l d c i conn asked overhead ts full lt free x = record {
   current = alike_current l d c e c.current alike (λ j here is. ap (job_for j.slot) (apart j here) ∙ is) x.current;
@@ -191,7 +192,7 @@ made_in_step l d c i conn asked overhead ts full lt free x = record {
     }
 
 -- jobs that wait say nothing of what a controller has
-pub waiting_in_step : (l : Account) (d : ℕ) (c : ControllerState) (ts : List Task) → ControllerInStep l d c → ControllerInStep l d (record c { waiting = ts })
+pub waiting_in_step : (l : Account) (d : ℕ) (c : ControllerState) (ts : List WaitingJob) → ControllerInStep l d c → ControllerInStep l d (record c { waiting = ts })
 waiting_in_step l d c ts x = record {
   current = alike_current l d c (record c { waiting = ts }) c.current (record { outputs = λ kind q. refl; inputs = λ kind q. refl }) (λ j e is. is) x.current;
   slots = x.slots;

@@ -2,7 +2,7 @@
 use Rattle.fw_model_controllers.proofs.Common.{◌≡◌, ℕ, ◌+◌, ◌-◌, ◌^◌, ◌<◌, ◌≤◌, Bool, true, false, not, ◌&&◌, Option, Some}
 use Rattle.fw_model_controllers.proofs.Common.{None, eqb, leb, cond, refl, subst, sym, arith, inl, inr, nat_tests, find_to, find_to_is}
 use Rattle.fw_model_controllers.proofs.Common.{IsFirst, Reply, is_connected, Connection, PlugToPlug, BroadcastOut, BroadcastIn, Flow, Job}
-use Rattle.fw_model_controllers.proofs.Common.{Held, Then, EndsAs, Ending, Broken, NoPlug, Late, Stage, Begin}
+use Rattle.fw_model_controllers.proofs.Common.{HeldResources, Then, EndsAs, Ending, Broken, NoPlug, Late, Stage, Begin}
 use Rattle.fw_model_controllers.proofs.Common.{ReadOutput, ReadChannels, SwapChannels, ReadBandwidth, SwapBandwidth, ConnectOutput}
 use Rattle.fw_model_controllers.proofs.Common.{OverlayOutput, ReadInput, ConnectInput, ReadInputToLeave, LeaveInput}
 use Rattle.fw_model_controllers.proofs.Common.{ReadOutputToLeave, LeaveOutput, ReadBandwidthToRelease, RaiseBandwidth, ReadChannelsToRelease, RestoreChannel}
@@ -15,14 +15,14 @@ use Rattle.fw_words.specs.Quadlet.{field}
 use Rattle.fw_plug.specs.Units.{payload_quadlets}
 use Rattle.std.proofs.Math.Pow.{pow_mono}
 use Rattle.std.proofs.Math.Nat.{mul-le-mul}
-use Rattle.fw_cmp.specs.declared.job.Then.TheVariants.{Again}
-use Rattle.fw_cmp.specs.declared.job.Ending.TheVariants.{NoChannel, NoUnits, PlugFull, InputBusy}
-use Rattle.fw_cmp.specs.Connections.{is_point_to_point}
-use Rattle.fw_cmp.specs.Plugs.{overhead_of, units_with}
-use Rattle.fw_cmp.specs.Decisions.{give_back, leave_output, first_half, is_lost, decide_connected, decide_free}
-use Rattle.fw_cmp.specs.Decisions.{decide_any, first_flow, overlaid_flow, channel_or, listen_flow}
-use Rattle.fw_cmp.specs.Decisions.{decide_listen, decide_point_to_point, decide_leave_in, decide_leave_out, output_left, decide_raise}
-use Rattle.fw_cmp.specs.Fits.{FlowFits, AskedFits, IsHalf, AskedWithin, HasOutput, HasInput, ResourcesFit, HeldFits}
+use Rattle.fw_cmp_jobs.specs.declared.job.Then.TheVariants.{Again}
+use Rattle.fw_cmp_jobs.specs.declared.job.Ending.TheVariants.{NoChannel, NoUnits, PlugFull, InputBusy}
+use Rattle.fw_cmp_jobs.specs.Connections.{is_point_to_point}
+use Rattle.fw_cmp_jobs.specs.Plugs.{overhead_of, units_with}
+use Rattle.fw_cmp_jobs.specs.Decisions.{give_back, leave_output, first_half, is_lost, decide_connected, decide_free}
+use Rattle.fw_cmp_jobs.specs.Decisions.{decide_any, first_flow, overlaid_flow, channel_or, listen_flow}
+use Rattle.fw_cmp_jobs.specs.Decisions.{decide_listen, decide_point_to_point, decide_leave_in, decide_leave_out, output_left, decide_raise}
+use Rattle.fw_cmp_jobs.specs.Fits.{FlowFits, AskedFits, IsHalf, AskedWithin, HasOutput, HasInput, ResourcesFit, HeldFits}
 
 -- one of two stages
 either : (j : Job) (b : Bool) (s t : Stage) → StageFits j s → StageFits j t → StageFits j (cond b s t)
@@ -35,7 +35,7 @@ on_fits : (j : Job) (next : Then) → HasOutput j.connection → StageFits j (go
 on_fits j (EndsAs e) out = tt
 on_fits j Again out = out
 
-back_fits : (j : Job) (h : Option Held) (next : Then) → HasOutput j.connection → HeldFits h → StageFits j (give_back h next)
+back_fits : (j : Job) (h : Option HeldResources) (next : Then) → HasOutput j.connection → HeldFits h → StageFits j (give_back h next)
 back_fits j None next out f = on_fits j next out
 back_fits j (Some h) next out f = either j (eqb h.units 0) (ReadChannelsToRelease next h.channel) (ReadBandwidthToRelease next h.channel h.units) (out, f.0) (out, f)
 
@@ -59,14 +59,14 @@ asked_within : (o : Option ℕ) → AskedFits o → AskedWithin o (first_half o)
 asked_within None f = tt
 asked_within (Some ch) f = (grind (arith, nat_tests), grind (arith, nat_tests))
 
-out_fits : (j : Job) (h : Option Held) (w : ℕ) → JobFits j → HasOutput j.connection → HeldFits h → w < 2 ^ 32 → StageFits j (decide_out j h w)
+out_fits : (j : Job) (h : Option HeldResources) (w : ℕ) → JobFits j → HasOutput j.connection → HeldFits h → w < 2 ^ 32 → StageFits j (decide_out j h w)
 out_fits j h w job out f lt = go (is_full (kind_of j.connection) w) refl (is_connected w) refl
   where
-    connected_fits : (h : Option Held) → HeldFits h → is_connected w ≡ true → is_full (kind_of j.connection) w ≡ false → StageFits j (decide_connected j h w)
+    connected_fits : (h : Option HeldResources) → HeldFits h → is_connected w ≡ true → is_full (kind_of j.connection) w ≡ false → StageFits j (decide_connected j h w)
     connected_fits None f g e = either j (is_lost j w) (Ended Late) (OverlayOutput w) tt (out, lt, g, e)
     connected_fits (Some k) f g e = back_fits j (Some k) (cond (is_lost j w) (EndsAs Late) Again) out f
 
-    free_fits : (h : Option Held) → HeldFits h → is_connected w ≡ false → StageFits j (decide_free j h w)
+    free_fits : (h : Option HeldResources) → HeldFits h → is_connected w ≡ false → StageFits j (decide_free j h w)
     free_fits None f g = (out, first_half_is j.asked, asked_within j.asked job.asked, (lt, g))
     free_fits (Some k) f g = (out, f, (lt, g))
 

@@ -5,7 +5,7 @@ use Rattle.fw_model_controllers.proofs.Common.{DisconnectInput, DisconnectOutput
 use Rattle.fw_model_controllers.proofs.Common.{Nothing, Asking, Hearing, Overtaken, Directory, Job, Purpose, Make}
 use Rattle.fw_model_controllers.proofs.Common.{Restore, Break, Stage, Begin, Made, Ended, ControllerState, with_slot, outstanding_of}
 use Rattle.fw_model_account.specs.Moves.{ConnectInput}
-use Rattle.fw_cmp.specs.declared.outcome.Outcome.TheVariants.{Reset}
+use Rattle.fw_cmp_jobs.specs.declared.outcome.Outcome.TheVariants.{Reset}
 use Rattle.fw_cmp.specs.Controllers.{IsHeard}
 use Rattle.fw_cmp.specs.Resets.{interrupted, decided, overtaken, lost_reset, state_reset, after_reset as controller_reset}
 use Rattle.fw_model_controllers.specs.Together.{IsGiven, connection, break}

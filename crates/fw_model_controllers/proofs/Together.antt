@@ -2,7 +2,7 @@
 use Rattle.fw_model_controllers.proofs.Common.{PlugAt, ConnectionKind, PointToPoint, Broadcast, ◌≡◌, ◌≢◌, ℕ, ◌+◌, ◌-◌, ◌^◌, ◌<◌, Bool, true}
 use Rattle.fw_model_controllers.proofs.Common.{false, Some, None, refl, ap, subst, sym, ◌∙◌, arith, ◌⊎◌, inl, inr}
 use Rattle.fw_model_controllers.proofs.Common.{cases_eq, word_of, Reply, ResetEntry, Account, is_open, after_reset, after_second, asked}
-use Rattle.fw_model_controllers.proofs.Common.{ended, IsSound, Connection, Flow, Standing, Restoring, Current, Nothing}
+use Rattle.fw_model_controllers.proofs.Common.{ended, IsSound, Connection, Flow, Established, Restoring, Current, Nothing}
 use Rattle.fw_model_controllers.proofs.Common.{Asking, Hearing, Overtaken, Job, Target, Stage, output_of, OutputPlug}
 use Rattle.fw_model_controllers.proofs.Common.{InputPlug, Channels, BandwidthAvailable, ControllerState, slot_at, Fits, is_current_slot}
 use Rattle.fw_model_controllers.proofs.Common.{CanGoOn, target_of, after_hear, connections_of, Holds, Keeps, Leaves, register_at, stands, IsAnswer, carried_out, IsToRestore, CurrentInStep, SlotInStep}
@@ -205,11 +205,12 @@ pub settled : (dir : Directory) (l : Account) (controllers : ℕ → ControllerS
 settled dir l controllers x is = (flows_alone l x.sound).0 (λ d. no_pending l d (controllers d) (x.each d) (is.idle d))
 
 -- a connection that stands, and is not being broken
-stands_at : (l : Account) (b : Bool) (conn : Connection) (f : Flow) → b ≡ false → SlotInStep l b (Standing conn f) → StandsAt l conn f
+stands_at : (l : Account) (b : Bool) (conn : Connection) (f : Flow) → b ≡ false → SlotInStep l b (Established conn f) → StandsAt l conn f
 stands_at l true conn f e x = absurd (grind arith)
 stands_at l false conn f e x = x
 
-pub whole : (l : Account) (d : ℕ) (c : ControllerState) (i : ℕ) (conn : Connection) (f : Flow) → Fits c → ControllerInStep l d c → slot_at c i ≡ Standing conn f → is_current_slot c.current i ≡ false
+pub whole : (l : Account) (d : ℕ) (c : ControllerState) (i : ℕ) (conn : Connection) (f : Flow) → Fits c → ControllerInStep l d c → slot_at c i ≡ Established conn f
+    → is_current_slot c.current i ≡ false
     → IsWhole l d conn f
 whole l d c i conn f fits x at other =
     let says : StandsAt l conn f = stands_at l (is_current_slot c.current i) conn f other (subst (SlotInStep l (is_current_slot c.current i)) at (x.slots i)) in

@@ -1,13 +1,13 @@
 -- A controller that takes a job, or goes on with its job, stays in step.
 use Rattle.fw_model_controllers.proofs.Common.{PlugAt, ConnectionKind, ◌≡◌, ℕ, ◌+◌, ◌<◌, Bool, true, false, ◌&&◌, Some, eqb, cond}
 use Rattle.fw_model_controllers.proofs.Common.{refl, ap, subst, sym, ◌∙◌, arith, Account, Connection, Flow, Slot, Free, Making}
-use Rattle.fw_model_controllers.proofs.Common.{Standing, Restoring, Gone, Nothing, Asking, Directory, Job, Make, Broken}
+use Rattle.fw_model_controllers.proofs.Common.{Established, Restoring, Gone, Nothing, Asking, Directory, Job, Make, Broken}
 use Rattle.fw_model_controllers.proofs.Common.{Late, Stage, Begin, Ended, output_of, ControllerState, slot_at, count_of, restoring_job}
 use Rattle.fw_model_controllers.proofs.Common.{breaking_job, job_for, restores, is_current_slot, stands_at_output, stands_at_input}
 use Rattle.fw_model_controllers.proofs.Common.{slot_outputs, slot_inputs, begin_making, begin_leaving, Holds, has_manager}
 use Rattle.fw_model_controllers.proofs.Common.{Others, MayReclaim, IsInStep, others_of, slots_alone, IsToRestore, SlotInStep, ControllerInStep}
-use Rattle.fw_cmp.specs.Controllers.{making_job}
-use Rattle.fw_cmp.specs.Jobs.{is_late, resumed}
+use Rattle.fw_cmp_jobs.specs.Slots.{making_job}
+use Rattle.fw_cmp_jobs.specs.Jobs.{is_late, resumed}
 use Rattle.fw_model_controllers.proofs.Goes.{holds_same}
 use Rattle.fw_model_controllers.proofs.Slots.{counts_begun}
 use Rattle.fw_model_controllers.proofs.Begins.{alone, UnitsAre, ended_step, begins_making, begins_leaving, undecided_alone}
@@ -20,8 +20,8 @@ IsTold l dir = (n : ℕ) → dir.manager ≡ Some n → has_manager l.latest ≡
 slot_weaker : (l : Account) (b : Bool) (s : Slot) → SlotInStep l false s → SlotInStep l b s
 slot_weaker l b Free x = tt
 slot_weaker l b (Making conn asked overhead) x = tt
-slot_weaker l true (Standing conn f) x = tt
-slot_weaker l false (Standing conn f) x = x
+slot_weaker l true (Established conn f) x = tt
+slot_weaker l false (Established conn f) x = x
 slot_weaker l b (Restoring conn f over) x = x
 slot_weaker l b (Gone conn) x = tt
 
@@ -73,9 +73,9 @@ begins_at l d c dir k (Making conn asked overhead) j x told lt at is calm =
     (begins_making l d (making_job k conn asked overhead) (others_of (asking c (making_job k conn asked overhead) (begin_making dir (making_job k conn asked overhead)))) dir
     (alone_is l d c (making_job k conn asked overhead) (begin_making dir (making_job k conn asked overhead)) x lt (λ kind q. rw at refl) (λ kind q. rw at refl)) (λ p u e f. absurd (grind arith))
     (λ p e runs. let quiet : l.reclaiming ≡ false = calm (ap (λ (y : Job). y.purpose) (sym same)) in absurd (grind arith)) told))
-begins_at l d c dir k (Standing conn f) j x told lt at is calm =
+begins_at l d c dir k (Established conn f) j x told lt at is calm =
     let same : breaking_job k conn ≡ j = cc in
-    subst (λ y. ControllerInStep l d (asking c y (resumed dir (Standing conn f) y Begin))) same
+    subst (λ y. ControllerInStep l d (asking c y (resumed dir (Established conn f) y Begin))) same
     (taken l d c k (breaking_job k conn) (begin_leaving conn f) x refl (ap (job_for k) at) lt
     (begins_leaving l d k conn f (slots_alone (at_rest c)) (others_of (asking c (breaking_job k conn) (begin_leaving conn f))) (subst (SlotInStep l false) at (x.slots k)) x.current refl
     (λ kind q. counts_begun stands_at_output (at_rest c) (breaking_job k conn) (begin_leaving conn f) kind q refl lt
@@ -104,7 +104,7 @@ is_restoring_job : (k : ℕ) (slot : Slot) (j : Job) → job_for k slot ≡ Some
 is_restoring_job k Free j is r = absurd (grind arith)
 is_restoring_job k (Making conn asked overhead) j is r = let same : making_job k conn asked overhead ≡ j = cc in
     let no_ : restores (making_job k conn asked overhead) ≡ true = subst (λ y. restores y ≡ true) (sym same) r in absurd (grind arith)
-is_restoring_job k (Standing conn f) j is r = let same : breaking_job k conn ≡ j = cc in let no_ : restores (breaking_job k conn) ≡ true = subst (λ y. restores y ≡ true) (sym same) r in
+is_restoring_job k (Established conn f) j is r = let same : breaking_job k conn ≡ j = cc in let no_ : restores (breaking_job k conn) ≡ true = subst (λ y. restores y ≡ true) (sym same) r in
     absurd (grind arith)
 is_restoring_job k (Restoring conn f over) j is r = (conn, f, over, refl, cc)
 is_restoring_job k (Gone conn) j is r = let same : breaking_job k conn ≡ j = cc in let no_ : restores (breaking_job k conn) ≡ true = subst (λ y. restores y ≡ true) (sym same) r in absurd (grind arith)

@@ -1,22 +1,22 @@
 -- What a decision leads to: never to want, if the word shows the units and the channel of the job.
 use Rattle.fw_model_controllers.proofs.Common.{◌≡◌, ℕ, ◌+◌, leb, Bool, true, false, not, ◌&&◌, Option, Some, None, eqb}
-use Rattle.fw_model_controllers.proofs.Common.{cond, refl, arith, ◌-◌, find_to, is_connected, Connection, Ending, NoPlug, Held, Job, Then}
+use Rattle.fw_model_controllers.proofs.Common.{cond, refl, arith, ◌-◌, find_to, is_connected, Connection, Ending, NoPlug, HeldResources, Job, Then}
 use Rattle.fw_model_controllers.proofs.Common.{EndsAs, Stage, Begin, ReadOutput, ReadChannels, SwapChannels, ReadBandwidth}
 use Rattle.fw_model_controllers.proofs.Common.{SwapBandwidth, ConnectOutput, OverlayOutput, ReadInput, ConnectInput, ReadInputToLeave}
 use Rattle.fw_model_controllers.proofs.Common.{LeaveInput, ReadOutputToLeave, LeaveOutput, ReadBandwidthToRelease, RaiseBandwidth, ReadChannelsToRelease}
 use Rattle.fw_model_controllers.proofs.Common.{RestoreChannel, Made, Ended, kind_of, is_listen, restores}
 use Rattle.fw_model_controllers.proofs.Common.{goes_on, decide_out, decide_channel, decide_units, needs, output_joined, decide_in, input_left, has_broadcast, counter_of, channel_of, half_of, is_bit}
 use Rattle.fw_model_controllers.proofs.Common.{shows_connection, one_less, remainder_of, PlugToPlug, BroadcastOut, BroadcastIn, Slot, Free}
-use Rattle.fw_model_controllers.proofs.Common.{Making, Standing, Restoring, Gone, Directory, Purpose, Make, Restore}
+use Rattle.fw_model_controllers.proofs.Common.{Making, Established, Restoring, Gone, Directory, Purpose, Make, Restore}
 use Rattle.fw_model_controllers.proofs.Common.{Break, begin_making, begin_leaving, hear, refuse}
 use Rattle.std.specs.Prelude.{⊤}
-use Rattle.fw_cmp.specs.declared.connection.Flow.{Flow as ConnectionFlow}
-use Rattle.fw_cmp.specs.declared.job.Ending.TheVariants.{Absent, PlugFull, InputBusy}
-use Rattle.fw_cmp.specs.declared.job.Then.TheVariants.{Again}
-use Rattle.fw_cmp.specs.Connections.{is_point_to_point}
-use Rattle.fw_cmp.specs.Decisions.{is_lost, give_back, leave_output, decide_connected, decide_free, decide_any}
-use Rattle.fw_cmp.specs.Decisions.{decide_listen, decide_point_to_point, listen_flow, decide_leave_in, decide_leave_out, output_left, decide_raise}
-use Rattle.fw_cmp.specs.Jobs.{own_flow, absent_of, begin_managed, begin_present, begin_breaking, is_over, is_late, begun, resumed}
+use Rattle.fw_cmp_jobs.specs.declared.connection.Flow.{Flow as ConnectionFlow}
+use Rattle.fw_cmp_jobs.specs.declared.job.Ending.TheVariants.{Absent, PlugFull, InputBusy}
+use Rattle.fw_cmp_jobs.specs.declared.job.Then.TheVariants.{Again}
+use Rattle.fw_cmp_jobs.specs.Connections.{is_point_to_point}
+use Rattle.fw_cmp_jobs.specs.Decisions.{is_lost, give_back, leave_output, decide_connected, decide_free, decide_any}
+use Rattle.fw_cmp_jobs.specs.Decisions.{decide_listen, decide_point_to_point, listen_flow, decide_leave_in, decide_leave_out, output_left, decide_raise}
+use Rattle.fw_cmp_jobs.specs.Jobs.{own_flow, absent_of, begin_managed, begin_present, begin_breaking, is_over, is_late, begun, resumed}
 use Rattle.fw_model_controllers.specs.Wants.{is_want, leads_to_want, wants}
 
 -- ---- what a decision leads to
@@ -29,7 +29,7 @@ on_wants : (next : Then) → leads_to_want next ≡ false → wants (goes_on nex
 on_wants (EndsAs e) q = q
 on_wants Again q = refl
 
-back_wants : (held : Option Held) (next : Then) → leads_to_want next ≡ false → wants (give_back held next) ≡ false
+back_wants : (held : Option HeldResources) (next : Then) → leads_to_want next ≡ false → wants (give_back held next) ≡ false
 back_wants None next q = on_wants next q
 back_wants (Some h) next q = either (eqb h.units 0) _ _ q q
 
@@ -48,10 +48,10 @@ channel_wants j (Some ch) base w v = either (is_bit v (ch - base)) _ _ refl (eit
 abbrev pub IsKept : Job → ℕ → Type 0
 IsKept j v = is_connected v ≡ true → is_lost j v ≡ false
 
-out_wants : (j : Job) (held : Option Held) (v : ℕ) → IsKept j v → wants (decide_out j held v) ≡ false
+out_wants : (j : Job) (held : Option HeldResources) (v : ℕ) → IsKept j v → wants (decide_out j held v) ≡ false
 out_wants j held v kept = either _ _ _ (back_wants held (EndsAs (PlugFull v)) refl) (by_connection held (is_connected v) refl)
   where
-    by_connection : (h : Option Held) (b : Bool) → is_connected v ≡ b → wants (cond b (decide_connected j h v) (decide_free j h v)) ≡ false
+    by_connection : (h : Option HeldResources) (b : Bool) → is_connected v ≡ b → wants (cond b (decide_connected j h v) (decide_free j h v)) ≡ false
     by_connection None true e = rw (kept e) refl
     by_connection (Some h) true e = rw (kept e) (back_wants (Some h) Again refl)
     by_connection None false e = refl
@@ -158,7 +158,7 @@ leaving_wants (BroadcastOut out) f = refl
 leaving_wants (BroadcastIn into) f = refl
 
 breaking_wants : (slot : Slot) → wants (begin_breaking slot) ≡ false
-breaking_wants (Standing conn f) = leaving_wants conn f
+breaking_wants (Established conn f) = leaving_wants conn f
 breaking_wants Free = refl
 breaking_wants (Making conn asked overhead) = refl
 breaking_wants (Restoring conn f over) = refl

@@ -10,7 +10,7 @@ use Rattle.fw_plug.proofs.Words.{fields_of_word, in_fields_of_word}
 use Rattle.fw_model_account.specs.Account.{Owner, Connections, counter, is_there}
 use Rattle.fw_model_account.specs.Moves.{HasRoom}
 use Rattle.fw_model_account.proofs.Connections.{counter_changed}
-use Rattle.fw_cmp.specs.Plugs.{overhead_of, one_more, with_channel, with_overhead, units_with}
+use Rattle.fw_cmp_jobs.specs.Plugs.{overhead_of, one_more, with_channel, with_overhead, units_with}
 
 -- ---- what a word shows
 

@@ -4,19 +4,20 @@ use Rattle.fw_terms.specs.declared.plug.PlugAt.{PlugAt}
 use Rattle.fw_model_account.specs.Account.{Account, Request}
 use Rattle.fw_model_account.specs.Packets.{asked}
 use Rattle.fw_model_account.specs.Network.{is_output}
-use Rattle.fw_cmp.specs.declared.connection.Connection.{Connection}
-use Rattle.fw_cmp.specs.declared.connection.Flow.{Flow}
-use Rattle.fw_cmp.specs.declared.connection.Slot.{Slot}
-use Rattle.fw_cmp.specs.declared.connection.Slot.TheVariants.{Free, Making, Standing, Restoring, Gone}
+use Rattle.fw_cmp_jobs.specs.declared.connection.Connection.{Connection}
+use Rattle.fw_cmp_jobs.specs.declared.connection.Flow.{Flow}
+use Rattle.fw_cmp_jobs.specs.declared.connection.Slot.{Slot}
+use Rattle.fw_cmp_jobs.specs.declared.connection.Slot.TheVariants.{Free, Making, Established, Restoring, Gone}
 use Rattle.fw_cmp.specs.declared.current.Current.{Current}
 use Rattle.fw_cmp.specs.declared.current.Current.TheVariants.{Nothing, Asking, Hearing, Overtaken}
-use Rattle.fw_cmp.specs.declared.directory.Directory.{Directory}
-use Rattle.fw_cmp.specs.declared.job.Job.{Job}
-use Rattle.fw_cmp.specs.declared.stage.Stage.{Stage}
-use Rattle.fw_cmp.specs.Nodes.{node_of}
+use Rattle.fw_cmp_jobs.specs.declared.directory.Directory.{Directory}
+use Rattle.fw_cmp_jobs.specs.declared.job.Job.{Job}
+use Rattle.fw_cmp_jobs.specs.declared.stage.Stage.{Stage}
+use Rattle.fw_cmp_jobs.specs.Nodes.{node_of}
 use Rattle.fw_cmp.specs.Turns.{after_next}
-use Rattle.fw_cmp.specs.Connections.{output_of, input_of, is_listen}
-use Rattle.fw_cmp.specs.Controllers.{ControllerState, slot_at, job_for}
+use Rattle.fw_cmp_jobs.specs.Connections.{output_of, input_of, is_listen}
+use Rattle.fw_cmp.specs.Controllers.{ControllerState, slot_at}
+use Rattle.fw_cmp_jobs.specs.Slots.{job_for}
 use Rattle.fw_cmp.specs.Holdings.{pending_at, addressed_by, is_current_slot, slot_outputs, slot_inputs, outputs_held, inputs_held}
 use Rattle.fw_model_controllers.specs.Holding.{Holding, Holds}
 use Rattle.fw_model_controllers.specs.Registers.{has_manager}
@@ -56,8 +57,8 @@ pub record IsToRestore (l : Account) (conn : Connection) (f : Flow) (over : Bool
 abbrev pub SlotInStep : Account → Bool → Slot → Type 0
 SlotInStep l current Free = ⊤
 SlotInStep l current (Making conn asked overhead) = ⊤
-SlotInStep l true (Standing conn f) = ⊤
-SlotInStep l false (Standing conn f) = StandsAt l conn f
+SlotInStep l true (Established conn f) = ⊤
+SlotInStep l false (Established conn f) = StandsAt l conn f
 SlotInStep l current (Restoring conn f over) = IsToRestore l conn f over
 SlotInStep l current (Gone conn) = ⊤
 

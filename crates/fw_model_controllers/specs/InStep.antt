@@ -9,21 +9,21 @@ use Rattle.fw_model_account.specs.Network.{is_output, is_input}
 use Rattle.fw_model_account.specs.Decode.{IsMove}
 use Rattle.fw_model_account.specs.Moves.{Move}
 use Rattle.fw_model_account.specs.Words.{Register, BandwidthAvailable, ChannelsAvailable, OutputPlug, InputPlug}
-use Rattle.fw_cmp.specs.declared.connection.Flow.{Flow}
-use Rattle.fw_cmp.specs.declared.job.Job.{Job}
-use Rattle.fw_cmp.specs.declared.job.Held.{Held}
-use Rattle.fw_cmp.specs.declared.job.Then.{Then}
-use Rattle.fw_cmp.specs.declared.job.Then.TheVariants.{EndsAs, Again}
-use Rattle.fw_cmp.specs.declared.stage.Stage.{Stage}
-use Rattle.fw_cmp.specs.declared.stage.Stage.TheVariants.{Begin, ReadOutput, ReadChannels, SwapChannels, ReadBandwidth, SwapBandwidth, ConnectOutput}
-use Rattle.fw_cmp.specs.declared.stage.Stage.TheVariants.{OverlayOutput, ReadInput, ConnectInput, ReadInputToLeave, LeaveInput, ReadOutputToLeave, LeaveOutput}
-use Rattle.fw_cmp.specs.declared.stage.Stage.TheVariants.{ReadBandwidthToRelease, RaiseBandwidth, ReadChannelsToRelease, RestoreChannel, Made, Ended}
-use Rattle.fw_cmp.specs.declared.request.Target.{Target}
-use Rattle.fw_cmp.specs.Connections.{output_of, input_of, is_listen}
-use Rattle.fw_cmp.specs.Plugs.{channel_of}
-use Rattle.fw_cmp.specs.Decisions.{restores, needs, is_other}
-use Rattle.fw_cmp.specs.Stages.{hear_reply}
-use Rattle.fw_cmp.specs.Requests.{swap_of}
+use Rattle.fw_cmp_jobs.specs.declared.connection.Flow.{Flow}
+use Rattle.fw_cmp_jobs.specs.declared.job.Job.{Job}
+use Rattle.fw_cmp_jobs.specs.declared.job.HeldResources.{HeldResources}
+use Rattle.fw_cmp_jobs.specs.declared.job.Then.{Then}
+use Rattle.fw_cmp_jobs.specs.declared.job.Then.TheVariants.{EndsAs, Again}
+use Rattle.fw_cmp_jobs.specs.declared.stage.Stage.{Stage}
+use Rattle.fw_cmp_jobs.specs.declared.stage.Stage.TheVariants.{Begin, ReadOutput, ReadChannels, SwapChannels, ReadBandwidth, SwapBandwidth, ConnectOutput}
+use Rattle.fw_cmp_jobs.specs.declared.stage.Stage.TheVariants.{OverlayOutput, ReadInput, ConnectInput, ReadInputToLeave, LeaveInput, ReadOutputToLeave, LeaveOutput}
+use Rattle.fw_cmp_jobs.specs.declared.stage.Stage.TheVariants.{ReadBandwidthToRelease, RaiseBandwidth, ReadChannelsToRelease, RestoreChannel, Made, Ended}
+use Rattle.fw_cmp_jobs.specs.declared.request.Target.{Target}
+use Rattle.fw_cmp_jobs.specs.Connections.{output_of, input_of, is_listen}
+use Rattle.fw_cmp_jobs.specs.Plugs.{channel_of}
+use Rattle.fw_cmp_jobs.specs.Decisions.{restores, needs, is_other}
+use Rattle.fw_cmp_jobs.specs.Stages.{hear_reply}
+use Rattle.fw_cmp_jobs.specs.Requests.{swap_of}
 use Rattle.fw_cmp.specs.Holdings.{pending_of, job_outputs, job_inputs}
 use Rattle.fw_model_controllers.specs.Holding.{Reservation, Holding, Counts, Holds}
 use Rattle.fw_model_controllers.specs.Registers.{register_at, has_manager, succeeds}
@@ -37,7 +37,7 @@ pub record Others : Type 0 where
   pub inputs : Counts
 
 -- what is allocated for the output plug of a job and stands at no plug
-abbrev pub reservation : Option PlugAt → Option Held → Option Reservation
+abbrev pub reservation : Option PlugAt → Option HeldResources → Option Reservation
 reservation plug None = None
 reservation None (Some h) = None
 reservation (Some p) (Some h) = Some (record { plug = p; channel = h.channel; units = h.units })

@@ -15,29 +15,29 @@ use Rattle.fw_model_account.specs.Listing.{IsAllocatedForFlows}
 use Rattle.fw_model_account.specs.Moves.{Move, Can, after}
 use Rattle.fw_model_account.specs.Sound.{IsSound}
 use Rattle.fw_model_account.specs.Words.{Register, word_of}
-use Rattle.fw_cmp.specs.declared.connection.Connection.{Connection}
-use Rattle.fw_cmp.specs.declared.connection.Flow.{Flow}
-use Rattle.fw_cmp.specs.declared.connection.Slot.TheVariants.{Standing, Restoring}
+use Rattle.fw_cmp_jobs.specs.declared.connection.Connection.{Connection}
+use Rattle.fw_cmp_jobs.specs.declared.connection.Flow.{Flow}
+use Rattle.fw_cmp_jobs.specs.declared.connection.Slot.TheVariants.{Established, Restoring}
 use Rattle.fw_cmp.specs.declared.current.Current.TheVariants.{Hearing}
-use Rattle.fw_cmp.specs.declared.directory.Directory.{Directory}
-use Rattle.fw_cmp.specs.declared.job.Job.{Job}
-use Rattle.fw_cmp.specs.declared.request.Access.{Access}
-use Rattle.fw_cmp.specs.declared.request.Target.{Target}
-use Rattle.fw_cmp.specs.declared.stage.Stage.{Stage}
+use Rattle.fw_cmp_jobs.specs.declared.directory.Directory.{Directory}
+use Rattle.fw_cmp_jobs.specs.declared.job.Job.{Job}
+use Rattle.fw_cmp_jobs.specs.declared.request.Access.{Access}
+use Rattle.fw_cmp_jobs.specs.declared.request.Target.{Target}
+use Rattle.fw_cmp_jobs.specs.declared.stage.Stage.{Stage}
 use Rattle.fw_cmp.specs.Controllers.{ControllerState, first_state, slot_at, IsHeard, Fits}
-use Rattle.fw_cmp.specs.Fits.{JobFits, StageFits}
+use Rattle.fw_cmp_jobs.specs.Fits.{JobFits, StageFits}
 use Rattle.fw_cmp.specs.Holdings.{is_current_slot, CanGoOn}
-use Rattle.fw_cmp.specs.Requests.{target_of, swap_of, access_of, addressee_of}
+use Rattle.fw_cmp_jobs.specs.Requests.{target_of, swap_of, access_of, addressee_of}
 use Rattle.fw_cmp.specs.Turns.{next, after_next}
-use Rattle.fw_cmp.specs.Nodes.{node_of}
-use Rattle.fw_cmp.specs.Stages.{hear_reply}
-use Rattle.fw_cmp.specs.Connections.{output_of}
+use Rattle.fw_cmp_jobs.specs.Nodes.{node_of}
+use Rattle.fw_cmp_jobs.specs.Stages.{hear_reply}
+use Rattle.fw_cmp_jobs.specs.Connections.{output_of}
 use Rattle.fw_model_controllers.specs.Holding.{Holding, Holds, holding_after, Keeps, Leaves}
 use Rattle.fw_model_controllers.specs.Registers.{IsAnswer, register_at, IsRequestAt}
 use Rattle.fw_model_controllers.specs.Moves.{carried_out}
 use Rattle.fw_model_controllers.specs.Requests.{EachOnce, IsNumbering, IsNodeOf, PlugNumberFits, Awaits, Tells, procedure_head, request_packet, request_to, IsResponse}
 use Rattle.fw_model_controllers.specs.Wants.{wants, is_own, is_want_outcome, IsContent}
-use Rattle.fw_cmp.specs.declared.outcome.Outcome.{Outcome}
+use Rattle.fw_cmp_jobs.specs.declared.outcome.Outcome.{Outcome}
 use Rattle.fw_cmp.specs.declared.outcome.Next.TheVariants.{End}
 use Rattle.fw_model_controllers.specs.InStep.{Others, IsInStep, HalfStep, IsRegister}
 use Rattle.fw_model_controllers.specs.Controllers.{holding_of, ControllerInStep, IsDirectory, TurnInStep}
@@ -182,4 +182,4 @@ SettledAllocationsAreFlows =
 abbrev pub StandingConnectionsAreWhole : Type 0
 StandingConnectionsAreWhole =
     (l : Account) (d : ℕ) (c : ControllerState) (i : ℕ) (conn : Connection) (f : Flow) → Fits c → ControllerInStep l d c
-    → slot_at c i ≡ Standing conn f → IsFalse (is_current_slot c.current i) → IsWhole l d conn f
+    → slot_at c i ≡ Established conn f → IsFalse (is_current_slot c.current i) → IsWhole l d conn f

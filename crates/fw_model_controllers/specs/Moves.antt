@@ -4,11 +4,11 @@ use Rattle.fw_terms.specs.declared.plug.PlugAt.{PlugAt}
 use Rattle.fw_csr.specs.declared.reply.Reply.{Reply}
 use Rattle.fw_model_account.specs.Account.{Account}
 use Rattle.fw_model_account.specs.Moves.{Move, AllocateChannel, AllocateUnits, ConnectFirst, ConnectOverlaid, ConnectInput, DisconnectInput, DisconnectOutput, ReleaseUnits, ReleaseChannel, after}
-use Rattle.fw_cmp.specs.declared.job.Job.{Job}
-use Rattle.fw_cmp.specs.declared.stage.Stage.{Stage}
-use Rattle.fw_cmp.specs.declared.stage.Stage.TheVariants as stage
-use Rattle.fw_cmp.specs.Connections.{kind_of, output_of, input_of}
-use Rattle.fw_cmp.specs.Requests.{swap_of}
+use Rattle.fw_cmp_jobs.specs.declared.job.Job.{Job}
+use Rattle.fw_cmp_jobs.specs.declared.stage.Stage.{Stage}
+use Rattle.fw_cmp_jobs.specs.declared.stage.Stage.TheVariants as stage
+use Rattle.fw_cmp_jobs.specs.Connections.{kind_of, output_of, input_of}
+use Rattle.fw_cmp_jobs.specs.Requests.{swap_of}
 use Rattle.fw_model_controllers.specs.Registers.{succeeds}
 
 -- a move at a plug, if the connection has that plug

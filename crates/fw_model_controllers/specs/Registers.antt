@@ -7,8 +7,8 @@ use Rattle.fw_log_entry.specs.declared.entry.ResetEntry.{ResetEntry}
 use Rattle.fw_model_account.specs.Account.{Account, Request}
 use Rattle.fw_model_account.specs.Network.{is_output, is_input}
 use Rattle.fw_model_account.specs.Words.{Register, BandwidthAvailable, ChannelsAvailable, OutputPlug, InputPlug, word_of, register_of, output_addressed}
-use Rattle.fw_cmp.specs.declared.request.Target.{Target}
-use Rattle.fw_cmp.specs.declared.request.Target.TheVariants as target
+use Rattle.fw_cmp_jobs.specs.declared.request.Target.{Target}
+use Rattle.fw_cmp_jobs.specs.declared.request.Target.TheVariants as target
 
 -- the register of the account that a request is for
 abbrev pub register_at : Target → Register

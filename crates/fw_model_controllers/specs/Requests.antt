@@ -18,14 +18,14 @@ use Rattle.fw_model_controllers.specs.Registers.{register_at, stands, IsAnswer}
 use Rattle.fw_log_entry.specs.Network.{first_id, row_of_node}
 use Rattle.fw_cmp.specs.declared.current.Current.{Current}
 use Rattle.fw_cmp.specs.declared.current.Current.TheVariants.{Nothing, Asking, Hearing, Overtaken}
-use Rattle.fw_cmp.specs.declared.directory.Directory.{Directory}
-use Rattle.fw_cmp.specs.declared.request.Access.{Access}
-use Rattle.fw_cmp.specs.declared.request.Target.{Target}
-use Rattle.fw_cmp.specs.declared.request.Target.TheVariants.{OutputPlug, InputPlug, Channels, BandwidthAvailable}
+use Rattle.fw_cmp_jobs.specs.declared.directory.Directory.{Directory}
+use Rattle.fw_cmp_jobs.specs.declared.request.Access.{Access}
+use Rattle.fw_cmp_jobs.specs.declared.request.Target.{Target}
+use Rattle.fw_cmp_jobs.specs.declared.request.Target.TheVariants.{OutputPlug, InputPlug, Channels, BandwidthAvailable}
 use Rattle.fw_cmp.specs.declared.outcome.Next.{Next}
 use Rattle.fw_cmp.specs.declared.outcome.Next.TheVariants.{Send}
 use Rattle.fw_csr.specs.declared.request.Request.{Request as CsrRequest}
-use Rattle.fw_cmp.specs.Requests.{offset_of, access_of, addressee_of, request_of}
+use Rattle.fw_cmp_jobs.specs.Requests.{offset_of, access_of, addressee_of, request_of}
 use Rattle.fw_words.specs.Swaps.{swap_bytes}
 use Rattle.fw_words.specs.declared.swap.TheConstants.{COMPARE_SWAP}
 

@@ -9,19 +9,21 @@ use Rattle.fw_log_entry.specs.Network.{IsNetwork}
 use Rattle.fw_model_account.specs.Network.{is_output}
 use Rattle.fw_model_account.specs.Packets.{asked, ended}
 use Rattle.fw_model_account.specs.Sound.{IsSound}
-use Rattle.fw_cmp.specs.declared.connection.Connection.{Connection}
-use Rattle.fw_cmp.specs.declared.connection.Flow.{Flow}
-use Rattle.fw_cmp.specs.declared.connection.Slot.{Slot}
+use Rattle.fw_cmp_jobs.specs.declared.connection.Connection.{Connection}
+use Rattle.fw_cmp_jobs.specs.declared.connection.Flow.{Flow}
+use Rattle.fw_cmp_jobs.specs.declared.connection.Slot.{Slot}
 use Rattle.fw_cmp.specs.declared.current.Current.TheVariants.{Nothing, Hearing}
-use Rattle.fw_cmp.specs.declared.directory.Directory.{Directory}
-use Rattle.fw_cmp.specs.declared.job.Job.{Job}
-use Rattle.fw_cmp.specs.declared.request.Target.{Target}
-use Rattle.fw_cmp.specs.declared.stage.Stage.{Stage}
-use Rattle.fw_cmp.specs.Connections.{kind_of, output_of, input_of}
-use Rattle.fw_cmp.specs.Controllers.{ControllerState, first_state, slot_at, is_restoring, IsHeard, Fits}
-use Rattle.fw_cmp.specs.Fits.{SlotFits}
-use Rattle.fw_cmp.specs.Starts.{IsMaking, start, started, break_fault, break_started}
-use Rattle.fw_cmp.specs.Requests.{target_of}
+use Rattle.fw_cmp_jobs.specs.declared.directory.Directory.{Directory}
+use Rattle.fw_cmp_jobs.specs.declared.job.Job.{Job}
+use Rattle.fw_cmp_jobs.specs.declared.request.Target.{Target}
+use Rattle.fw_cmp_jobs.specs.declared.stage.Stage.{Stage}
+use Rattle.fw_cmp_jobs.specs.Connections.{kind_of, output_of, input_of}
+use Rattle.fw_cmp.specs.Controllers.{ControllerState, first_state, slot_at, IsHeard, Fits}
+use Rattle.fw_cmp_jobs.specs.Slots.{is_restoring}
+use Rattle.fw_cmp_jobs.specs.Fits.{SlotFits}
+use Rattle.fw_cmp.specs.Starts.{start, started, break_fault, break_started}
+use Rattle.fw_cmp_jobs.specs.Slots.{IsMaking}
+use Rattle.fw_cmp_jobs.specs.Requests.{target_of}
 use Rattle.fw_cmp.specs.Resets.{after_hear, state_reset as controller_reset, after_second as second_over}
 use Rattle.fw_cmp.specs.Turns.{after_next}
 use Rattle.fw_model_controllers.specs.Holding.{connections_of}

@@ -1,18 +1,18 @@
 -- What a job that restores a connection in its own second never ends by: want of units, and another channel at its output plug.
 use Rattle.std.specs.Prelude.{Bool, true, false, not, IsTrue, IsFalse, ⊤}
-use Rattle.fw_cmp.specs.declared.connection.Slot.{Slot}
-use Rattle.fw_cmp.specs.declared.connection.Slot.TheVariants.{Restoring}
+use Rattle.fw_cmp_jobs.specs.declared.connection.Slot.{Slot}
+use Rattle.fw_cmp_jobs.specs.declared.connection.Slot.TheVariants.{Restoring}
 use Rattle.fw_cmp.specs.declared.current.Current.{Current}
 use Rattle.fw_cmp.specs.declared.current.Current.TheVariants.{Nothing, Asking, Hearing, Overtaken}
 use Rattle.fw_cmp.specs.Controllers.{ControllerState, slot_at}
-use Rattle.fw_cmp.specs.declared.job.Ending.{Ending}
-use Rattle.fw_cmp.specs.declared.job.Ending.TheVariants.{NoUnits, Late}
-use Rattle.fw_cmp.specs.declared.outcome.Outcome.{Outcome}
-use Rattle.fw_cmp.specs.declared.outcome.Outcome.TheVariants as outcome
-use Rattle.fw_cmp.specs.declared.job.Then.{Then}
-use Rattle.fw_cmp.specs.declared.job.Then.TheVariants.{EndsAs, Again}
-use Rattle.fw_cmp.specs.declared.stage.Stage.{Stage}
-use Rattle.fw_cmp.specs.declared.stage.Stage.TheVariants.{ReadOutputToLeave, LeaveOutput, ReadBandwidthToRelease, RaiseBandwidth, ReadChannelsToRelease, RestoreChannel, Ended}
+use Rattle.fw_cmp_jobs.specs.declared.job.Ending.{Ending}
+use Rattle.fw_cmp_jobs.specs.declared.job.Ending.TheVariants.{NoUnits, Late}
+use Rattle.fw_cmp_jobs.specs.declared.outcome.Outcome.{Outcome}
+use Rattle.fw_cmp_jobs.specs.declared.outcome.Outcome.TheVariants as outcome
+use Rattle.fw_cmp_jobs.specs.declared.job.Then.{Then}
+use Rattle.fw_cmp_jobs.specs.declared.job.Then.TheVariants.{EndsAs, Again}
+use Rattle.fw_cmp_jobs.specs.declared.stage.Stage.{Stage}
+use Rattle.fw_cmp_jobs.specs.declared.stage.Stage.TheVariants.{ReadOutputToLeave, LeaveOutput, ReadBandwidthToRelease, RaiseBandwidth, ReadChannelsToRelease, RestoreChannel, Ended}
 
 -- a job ends for want of units, or comes too late
 abbrev pub is_want : Ending → Bool

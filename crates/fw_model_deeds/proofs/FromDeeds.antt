@@ -7,14 +7,15 @@ use Rattle.fw_tree.specs.Topology.{Topology, IsJoined}
 use Rattle.fw_order.specs.declared.limits.TheConstants.{MOST_HALF_STEPS}
 use Rattle.fw_model_run.specs.Actions.{Action, Withhold, AddDevice, AddCable, ResetBus, StartConnection, StartBreak, HalfStep, Rest, Unsettled, Pass, EndSecond}
 use Rattle.fw_model_run.specs.Actions.{Die, CarryOut, Lose, TellLoss, Start, Ask, Answer, ShowWord, SendCommand, SendFrame, Receive, InsertTape, EjectTape}
-use Rattle.fw_model_run.specs.Actions.{StartCycle, SendPacket, BecomeCandidate, Contend, TieReel, KeepBlock, Finish, Step, Steps}
-use Rattle.fw_model_run.specs.Afterwards.{Declares, Joins, Takes, with_topology}
+use Rattle.fw_model_run.specs.Actions.{StartCycle, SendPacket, BecomeCandidate, Contend, TieReel, KeepBlock, Finish}
+use Rattle.fw_model_run.specs.Afterwards.{with_topology}
 use Rattle.fw_model_run.specs.HalfSteps.{is_waiting}
 use Rattle.fw_model_run.specs.State.{State, is_deaf, is_living, is_on}
-use Rattle.fw_model_deeds.specs.BusDeeds.{declaring_beside, joining_ends, with_declared}
-use Rattle.fw_model_deeds.specs.ControllerDeeds.{stepping_as}
-use Rattle.fw_model_deeds.specs.Deeds.{Does, DoesAll}
-use Rattle.fw_model_deeds.proofs.Done.{Done}
+use Rattle.fw_model_run.specs.BusDeeds.{declaring_beside, joining_ends, with_declared}
+use Rattle.fw_model_run.specs.ControllerDeeds.{stepping_as}
+use Rattle.fw_model_run.specs.Deeds.{Transition, Transitions}
+use Rattle.fw_model_deeds.specs.Relation.{Declares, Joins, Takes, TakePlace, TakesPlace}
+use Rattle.fw_model_run.proofs.Done.{Done}
 
 -- ---- what the state decides first
 
@@ -44,7 +45,7 @@ stepped true false s d out t x =
 
 -- ---- each action
 
-pub deed_is_step : (s : State) (a : Action) (out : List Timed) (t : State) → Does s a out t → Step s a out t
+pub deed_is_step : (s : State) (a : Action) (out : List Timed) (t : State) → Transition s a out t → TakesPlace s a out t
 deed_is_step s Withhold out t f = (f.waits, (f.may.early, f.may.once, f.out_is, f.state_is))
 deed_is_step s (AddDevice name kind ports speed) out t f =
     (f.waits, declared s.declared.names s name kind ports speed out t (record { found = f.found; may = f.may; out_is = f.out_is; state_is = f.state_is }))
@@ -121,6 +122,6 @@ deed_is_step s (TieReel d) out t f = (f.waits, (f.may.declared, f.may.deck, f.ma
 deed_is_step s (KeepBlock block) out t f = (f.waits, (f.out_is, f.state_is))
 deed_is_step s Finish out t f = (f.waits, (f.out_is, f.state_is))
 
-pub deeds_are_steps : (s : State) (actions : List Action) (out : List Timed) (t : State) → DoesAll s actions out t → Steps s actions out t
+pub deeds_are_steps : (s : State) (actions : List Action) (out : List Timed) (t : State) → Transitions s actions out t → TakePlace s actions out t
 deeds_are_steps s [] out t f = f
 deeds_are_steps s (a ∷ actions) out t f = (f.0, f.1, f.2, deed_is_step s a f.0 f.2 f.3, f.4, deeds_are_steps f.2 actions f.1 t f.5)

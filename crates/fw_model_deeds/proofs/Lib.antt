@@ -1,5 +1,3 @@
-pub mod Done
 pub mod ToDeeds
 pub mod FromDeeds
 pub mod Decided
-pub mod OneFound

@@ -6,14 +6,15 @@ use Rattle.fw_tree.specs.declared.facts.End.{End}
 use Rattle.fw_tree.specs.Topology.{Topology, IsJoined}
 use Rattle.fw_model_run.specs.Actions.{Action, Withhold, AddDevice, AddCable, ResetBus, StartConnection, StartBreak, HalfStep, Rest, Unsettled, Pass, EndSecond}
 use Rattle.fw_model_run.specs.Actions.{Die, CarryOut, Lose, TellLoss, Start, Ask, Answer, ShowWord, SendCommand, SendFrame, Receive, InsertTape, EjectTape}
-use Rattle.fw_model_run.specs.Actions.{StartCycle, SendPacket, BecomeCandidate, Contend, TieReel, KeepBlock, Finish, Step, Steps}
-use Rattle.fw_model_run.specs.Afterwards.{Begins, Declares, Joins, Takes, with_topology}
+use Rattle.fw_model_run.specs.Actions.{StartCycle, SendPacket, BecomeCandidate, Contend, TieReel, KeepBlock, Finish}
+use Rattle.fw_model_run.specs.Afterwards.{with_topology}
 use Rattle.fw_model_run.specs.HalfSteps.{is_waiting}
 use Rattle.fw_model_run.specs.State.{State, is_deaf, is_on}
-use Rattle.fw_model_deeds.specs.BusDeeds.{MayBeginReset, MayDeclare, declaring_beside, joining_ends, with_declared}
-use Rattle.fw_model_deeds.specs.ControllerDeeds.{MayStep, stepping_as}
-use Rattle.fw_model_deeds.specs.Deeds.{Does, DoesAll}
-use Rattle.fw_model_deeds.proofs.Done.{Done}
+use Rattle.fw_model_run.specs.BusDeeds.{MayBeginReset, MayDeclare, declaring_beside, joining_ends, with_declared}
+use Rattle.fw_model_run.specs.ControllerDeeds.{MayStep, stepping_as}
+use Rattle.fw_model_run.specs.Deeds.{Transition, Transitions}
+use Rattle.fw_model_deeds.specs.Relation.{Begins, Declares, Joins, Takes, TakePlace, TakesPlace}
+use Rattle.fw_model_run.proofs.Done.{Done}
 
 -- ---- what the state decides first
 
@@ -43,7 +44,7 @@ stepped true false s d out t may f =
 
 -- ---- each action
 
-pub step_is_deed : (s : State) (a : Action) (out : List Timed) (t : State) → Step s a out t → Does s a out t
+pub step_is_deed : (s : State) (a : Action) (out : List Timed) (t : State) → TakesPlace s a out t → Transition s a out t
 step_is_deed s Withhold out t f = record { found = tt; waits = f.0; may = record { early = f.1.0; once = f.1.1 }; out_is = f.1.2; state_is = f.1.3 }
 step_is_deed s (AddDevice name kind ports speed) out t f =
     let may : MayDeclare s ports speed = record { room = f.1.0; least = f.1.1; most = f.1.2; rate = f.1.3 } in
@@ -111,6 +112,6 @@ step_is_deed s (TieReel d) out t f = record { found = tt; waits = f.0; may = rec
 step_is_deed s (KeepBlock block) out t f = record { found = tt; waits = f.0; may = tt; out_is = f.1.0; state_is = f.1.1 }
 step_is_deed s Finish out t f = record { found = tt; waits = f.0; may = tt; out_is = f.1.0; state_is = f.1.1 }
 
-pub steps_are_deeds : (s : State) (actions : List Action) (out : List Timed) (t : State) → Steps s actions out t → DoesAll s actions out t
+pub steps_are_deeds : (s : State) (actions : List Action) (out : List Timed) (t : State) → TakePlace s actions out t → Transitions s actions out t
 steps_are_deeds s [] out t f = f
 steps_are_deeds s (a ∷ actions) out t f = (f.0, f.1, f.2, step_is_deed s a f.0 f.2 f.3, f.4, steps_are_deeds f.2 actions f.1 t f.5)

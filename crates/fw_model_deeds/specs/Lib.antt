@@ -1,9 +1,1 @@
-pub mod Deed
-pub mod Found
-pub mod BusDeeds
-pub mod ControllerDeeds
-pub mod TransactionDeeds
-pub mod CycleDeeds
-pub mod ReelDeeds
-pub mod Deeds
-pub mod Orders
+pub mod Relation

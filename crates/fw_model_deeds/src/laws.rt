@@ -3,34 +3,35 @@
 ghost use Rattle.std.specs.Prelude.{◌≡◌, List, Some};
 ghost use Rattle.fw_log_entry.specs.declared.entry.Timed.{Timed};
 ghost use Rattle.fw_order.specs.declared.order.Order.{Order};
-ghost use Rattle.fw_model_run.specs.Actions.{Action, Step, Steps};
+ghost use Rattle.fw_model_run.specs.Actions.{Action};
 ghost use Rattle.fw_model_run.specs.Carrying.{Carries};
+ghost use Rattle.fw_model_run.specs.Deeds.{Transition, Transitions, awaited, deed};
+ghost use Rattle.fw_model_run.specs.Found.{Found};
 ghost use Rattle.fw_model_run.specs.Good.{IsGood};
+ghost use Rattle.fw_model_run.specs.Orders.{actions_of};
 ghost use Rattle.fw_model_run.specs.State.{State};
-ghost use Rattle.fw_model_deeds.specs.Deeds.{Does, DoesAll, awaited, deed};
-ghost use Rattle.fw_model_deeds.specs.Found.{Found};
-ghost use Rattle.fw_model_deeds.specs.Orders.{actions_of};
+ghost use Rattle.fw_model_deeds.specs.Relation.{TakePlace, TakesPlace};
 
 /// An action is what its deed says: when it may be done, what it writes and in which cycle, and the state after it; and so are actions one
 /// after another. It is so in every state, whether a run comes to it or not.
 pub fn actions_are_deeds()
-    ensures deed { (s : State) (a : Action) (out : List Timed) (t : State) → Step s a out t → Does s a out t }
-    ensures step { (s : State) (a : Action) (out : List Timed) (t : State) → Does s a out t → Step s a out t }
-    ensures deeds { (s : State) (actions : List Action) (out : List Timed) (t : State) → Steps s actions out t → DoesAll s actions out t }
-    ensures steps { (s : State) (actions : List Action) (out : List Timed) (t : State) → DoesAll s actions out t → Steps s actions out t }
+    ensures deed { (s : State) (a : Action) (out : List Timed) (t : State) → TakesPlace s a out t → Transition s a out t }
+    ensures step { (s : State) (a : Action) (out : List Timed) (t : State) → Transition s a out t → TakesPlace s a out t }
+    ensures deeds { (s : State) (actions : List Action) (out : List Timed) (t : State) → TakePlace s actions out t → Transitions s actions out t }
+    ensures steps { (s : State) (actions : List Action) (out : List Timed) (t : State) → Transitions s actions out t → TakePlace s actions out t }
 {}
 
 /// In a good state an action finds one thing, so the state and the action alone decide what is written and what state follows.
 pub fn good_states_decide_deeds()
     ensures found { (s : State) (a : Action) (f g : Found s a) → IsGood s → s.transaction ≡ awaited s a f → s.transaction ≡ awaited s a g
         → (deed s a f).may → (deed s a g).may → f ≡ g }
-    ensures result { (s t u : State) (a : Action) (out other : List Timed) → IsGood s → Does s a out t → Does s a other u → (out ≡ other) × (t ≡ u) }
+    ensures result { (s t u : State) (a : Action) (out other : List Timed) → IsGood s → Transition s a out t → Transition s a other u → (out ≡ other) × (t ≡ u) }
 {}
 
 /// An order whose actions the state decides does just these, in every state: all that it does are they, and they are all that it does.
 pub fn decided_orders_are_their_actions()
     ensures actions { (s : State) (o : Order) (decided actions : List Action) (out : List Timed) (t : State) → actions_of s o ≡ Some decided
-        → Carries s o actions out t → (actions ≡ decided) × DoesAll s decided out t }
+        → Carries s o actions out t → (actions ≡ decided) × Transitions s decided out t }
     ensures carried { (s : State) (o : Order) (decided : List Action) (out : List Timed) (t : State) → actions_of s o ≡ Some decided
-        → DoesAll s decided out t → Carries s o decided out t }
+        → Transitions s decided out t → Carries s o decided out t }
 {}

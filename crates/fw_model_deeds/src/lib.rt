@@ -1,5 +1,5 @@
-//! What each action of a run may, writes and leaves, as one definition by cases on the action, and the actions of the orders whose list the
-//! state decides, as a function. Laws say that both are what `Step` and `Carries` of fw_model_run say, in every state. No code.
+//! What each action of a run does, as a relation, and the actions of the orders whose list the state decides, as a function. Laws say that
+//! both are what `Step` and `Carries` of fw_model_run say, in every state. No code.
 #![tactic(auto)]
 
 mod laws;

@@ -1,12 +1,12 @@
 -- A controller after a bus reset, and after the end of a reclaim second.
 use Rattle.fw_model_reclaim.proofs.Common.{PlugAt, ◌≡◌, inl, inr, ℕ, ◌<◌, Bool, true, false, Option, Some, None, length, is_some, refl, sym, ap, subst, ◌∙◌, arith, ResetEntry, Account, has_connection}
 use Rattle.fw_model_reclaim.proofs.Common.{account_reset, IsSound, Connection, PlugToPlug, BroadcastOut, BroadcastIn, Flow, Slot, Free}
-use Rattle.fw_model_reclaim.proofs.Common.{Making, Standing, Restoring, Gone, Current, Nothing, Asking, Hearing}
+use Rattle.fw_model_reclaim.proofs.Common.{Making, Established, Restoring, Gone, Current, Nothing, Asking, Hearing}
 use Rattle.fw_model_reclaim.proofs.Common.{Overtaken, Ending, Job, Purpose, Make, Restore, Break, Stage, Begin}
 use Rattle.fw_model_reclaim.proofs.Common.{Made, Ended, kind_of, output_of, input_of, ControllerState, slot_at, with_slot, overtaken}
 use Rattle.fw_model_reclaim.proofs.Common.{current_reset, lost_reset, slot_reset, after_reset, after_lost_reset, state_reset, IsAtSlot, KeepsFlow, IsRestorable, Restores, MatchesFor, CourseFor}
 use Rattle.fw_model_reclaim.proofs.Common.{CurrentMatches, CurrentCourse, IsAtWork, Output, Input}
-use Rattle.fw_cmp.specs.declared.outcome.Outcome.TheVariants.{Reset}
+use Rattle.fw_cmp_jobs.specs.declared.outcome.Outcome.TheVariants.{Reset}
 use Rattle.fw_cmp.specs.Holdings.{outputs_held, inputs_held, current_outputs, current_inputs}
 use Rattle.fw_cmp.specs.Resets.{decided, slots_reset}
 use Rattle.fw_model_reclaim.proofs.Slots.{slot_set_same, slot_mapped}
@@ -73,7 +73,7 @@ decided_current c j Make = refl
 decided_current c j Restore = refl
 decided_current c j Break = refl
 
--- the same, for the job whose request stands or not
+-- the same, for the job whose request is outstanding or not
 working_goes : (epoch : ℕ) (c : ControllerState) (j : Job) (s : Stage) → j.slot < length c.slots → MatchesFor j.purpose j (slot_at c j.slot) → ((e : Ending) → s ≡ Ended e → NotLost c j)
     → ((e : Ending) → s ≡ Ended e → IsAtWork c.current j (Ended e)) → GoesOn (slots_reset (overtaken epoch c j s)) (overtaken epoch c j s).current
 working_goes epoch c j (Made f) lt m ok at = (tt, tt)
@@ -107,10 +107,10 @@ made_input c j f q at e = let one : current_inputs c.current (kind_of j.connecti
     go (inl is) = ap (λ x. current_inputs x (kind_of j.connection) q) is ∙ rw (input_has j.connection q e) refl
     go (inr is) = ap (λ x. current_inputs x (kind_of j.connection) q) is ∙ rw (input_has j.connection q e) refl
 
-never_standing : (x : Slot) (conn : Connection) (f : Flow) → slot_reset x ≡ Standing conn f → ⊥
+never_standing : (x : Slot) (conn : Connection) (f : Flow) → slot_reset x ≡ Established conn f → ⊥
 never_standing Free conn f e = grind arith
 never_standing (Making k a o) conn f e = grind arith
-never_standing (Standing k g) conn f e = grind arith
+never_standing (Established k g) conn f e = grind arith
 never_standing (Restoring k g o) conn f e = grind arith
 never_standing (Gone k) conn f e = grind arith
 
@@ -155,7 +155,7 @@ connected_restorable l r d c conn f h out into k = stood_restorable l r conn f h
 origin_restorable : (l : Account) (r : ResetEntry) (d : ℕ) (c : ControllerState) (i : ℕ) (conn : Connection) (f : Flow) → MeetsReset l r d c → Origin c i conn f
     → IsRestorable (account_reset r l) conn f
 origin_restorable l r d c i conn f h (Stood stood idle) =
-    let lt = within c i (Standing conn f) h.slots stood (standing_used conn f) in
+    let lt = within c i (Established conn f) h.slots stood (standing_used conn f) in
     connected_restorable l r d c conn f h (λ p e. has_at_output l d c (kind_of conn) p h.sound (h.seated Output (kind_of conn) p) (output_counted c i conn f p lt stood idle e))
     (λ q e. has_at_input l d c (kind_of conn) q h.sound (h.seated Input (kind_of conn) q) (input_counted c i conn f q lt stood idle e)) (h.restores.standing i conn f stood idle)
 origin_restorable l r d c i conn f h (WasOwn was) = let own = h.restores.restoring i conn f was in stays_own l r conn f (begun_in_second l h.sound own.second) h.grows own

@@ -27,7 +27,7 @@ use Rattle.fw_model_account.proofs.Connections.{had_connection}
 use Rattle.fw_model_account.proofs.Deaths.{orphaned_has}
 use Rattle.fw_model_account.proofs.Open.{talks_apart}
 use Rattle.fw_model_account.proofs.Resets.{no_connection_at_first}
-use Rattle.fw_cmp.specs.declared.request.Target.TheVariants as target
+use Rattle.fw_cmp_jobs.specs.declared.request.Target.TheVariants as target
 use Rattle.fw_model_controllers.specs.Moves.{at_plug, move_of}
 use Rattle.fw_model_controllers.proofs.Registers.{open_shown}
 use Rattle.fw_model_controllers.proofs.Words.{output_shows, settings_shown, input_shows, channel_shown, shows_connected}

@@ -9,14 +9,14 @@ use Rattle.fw_model_reclaim.proofs.Common.{decide_leave_out, output_left, decide
 use Rattle.std.proofs.Common.{leb, true≢false}
 use Rattle.fw_terms.specs.Tables.{find_to}
 use Rattle.fw_terms.proofs.Tables.{find_to_is, IsFirst}
-use Rattle.fw_cmp.specs.declared.job.Held.{Held}
-use Rattle.fw_cmp.specs.declared.job.Ending.TheVariants.{Broken, NoChannel, NoUnits, PlugFull, InputBusy, NoPlug, Late}
-use Rattle.fw_cmp.specs.Connections.{is_point_to_point}
-use Rattle.fw_cmp.specs.Plugs.{counter_of, has_broadcast, is_full, shows_connection, remainder_of, one_less}
-use Rattle.fw_cmp.specs.Decisions.{give_back, leave_output, is_lost, decide_connected, decide_free, decide_out, decide_any}
-use Rattle.fw_cmp.specs.Decisions.{decide_channel, needs, first_flow, output_joined, channel_or, listen_flow, decide_listen}
-use Rattle.fw_cmp.specs.Decisions.{decide_point_to_point, input_left, decide_leave_in}
-use Rattle.fw_cmp.specs.Fits.{IsHalf, AskedWithin}
+use Rattle.fw_cmp_jobs.specs.declared.job.HeldResources.{HeldResources}
+use Rattle.fw_cmp_jobs.specs.declared.job.Ending.TheVariants.{Broken, NoChannel, NoUnits, PlugFull, InputBusy, NoPlug, Late}
+use Rattle.fw_cmp_jobs.specs.Connections.{is_point_to_point}
+use Rattle.fw_cmp_jobs.specs.Plugs.{counter_of, has_broadcast, is_full, shows_connection, remainder_of, one_less}
+use Rattle.fw_cmp_jobs.specs.Decisions.{give_back, leave_output, is_lost, decide_connected, decide_free, decide_out, decide_any}
+use Rattle.fw_cmp_jobs.specs.Decisions.{decide_channel, needs, first_flow, output_joined, channel_or, listen_flow, decide_listen}
+use Rattle.fw_cmp_jobs.specs.Decisions.{decide_point_to_point, input_left, decide_leave_in}
+use Rattle.fw_cmp_jobs.specs.Fits.{IsHalf, AskedWithin}
 use Rattle.fw_model_reclaim.specs.Avoids.{JobAvoids, StageAvoids}
 
 -- one of two stages
@@ -30,7 +30,7 @@ on_avoids : (ch : ℕ) (next : Then) → StageAvoids ch (goes_on next)
 on_avoids ch (EndsAs e) = tt
 on_avoids ch Again = tt
 
-back_avoids : (ch : ℕ) (h : Option Held) (next : Then) → StageAvoids ch (give_back h next)
+back_avoids : (ch : ℕ) (h : Option HeldResources) (next : Then) → StageAvoids ch (give_back h next)
 back_avoids ch None next = on_avoids ch next
 back_avoids ch (Some h) next = either ch (eqb h.units 0) (ReadChannelsToRelease next h.channel) (ReadBandwidthToRelease next h.channel h.units) tt tt
 
@@ -40,18 +40,18 @@ leave_avoids ch conn e f = either ch (is_listen conn) (Ended e) (ReadOutputToLea
 -- ---- the output plug
 
 -- what is held is of another channel
-abbrev HeldAvoids : ℕ → Option Held → Type 0
+abbrev HeldAvoids : ℕ → Option HeldResources → Type 0
 HeldAvoids ch None = Unit {0}
 HeldAvoids ch (Some h) = h.channel ≢ ch
 
-out_avoids : (ch : ℕ) (j : Job) (h : Option Held) (w : ℕ) → HeldAvoids ch h → (is_connected w ≡ true → channel_of w ≢ ch) → StageAvoids ch (decide_out j h w)
+out_avoids : (ch : ℕ) (j : Job) (h : Option HeldResources) (w : ℕ) → HeldAvoids ch h → (is_connected w ≡ true → channel_of w ≢ ch) → StageAvoids ch (decide_out j h w)
 out_avoids ch j h w other shown = go (is_full (kind_of j.connection) w) (is_connected w) refl
   where
-    connected : (h : Option Held) → is_connected w ≡ true → StageAvoids ch (decide_connected j h w)
+    connected : (h : Option HeldResources) → is_connected w ≡ true → StageAvoids ch (decide_connected j h w)
     connected None e = either ch (is_lost j w) (Ended Late) (OverlayOutput w) tt (shown e)
     connected (Some k) e = back_avoids ch (Some k) (cond (is_lost j w) (EndsAs Late) Again)
 
-    free : (h : Option Held) → HeldAvoids ch h → StageAvoids ch (decide_free j h w)
+    free : (h : Option HeldResources) → HeldAvoids ch h → StageAvoids ch (decide_free j h w)
     free None f = tt
     free (Some k) f = f
 

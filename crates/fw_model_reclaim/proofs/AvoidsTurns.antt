@@ -2,18 +2,20 @@
 use Rattle.fw_model_reclaim.proofs.Common.{◌≡◌, ◌≢◌, ◌⊎◌, inl, inr, ℕ, ◌<◌, ◌≤◌, Bool, true, false, Option, Some, None, List}
 use Rattle.fw_model_reclaim.proofs.Common.{[], ◌∷◌, length, get_or, refl, sym, ap, subst, ◌∙◌, cond, eqb, ltb, ◌&&◌, arith}
 use Rattle.fw_model_reclaim.proofs.Common.{Ok, cases_eq, cases_lt, nat_tests, Reply, Connection, PlugToPlug, BroadcastOut, BroadcastIn}
-use Rattle.fw_model_reclaim.proofs.Common.{Flow, Slot, Free, Making, Standing, Restoring, Gone, Current, Nothing}
-use Rattle.fw_model_reclaim.proofs.Common.{Asking, Hearing, Overtaken, Task, Directory, Job, Purpose, Make, Restore, Break, StartFault, Access, Stage, Begin, ReadInput, Made, Ended, is_listen}
+use Rattle.fw_model_reclaim.proofs.Common.{Flow, Slot, Free, Making, Established, Restoring, Gone, Current, Nothing}
+use Rattle.fw_model_reclaim.proofs.Common.{Asking, Hearing, Overtaken, WaitingJob, Directory, Job, Purpose, Make, Restore, Break, StartFault, Access, Stage, Begin, ReadInput, Made, Ended, is_listen}
 use Rattle.fw_model_reclaim.proofs.Common.{ControllerState, first_state, slot_at, with_slot, break_waits, restores, StageFits}
 use Rattle.fw_model_reclaim.proofs.Common.{access_of, heard, after_hear, overtaken, current_reset, lost_reset, slot_reset}
 use Rattle.fw_model_reclaim.proofs.Common.{after_reset, after_lost_reset, state_reset, hear, refuse, started, break_started, break_fault, with_task, slot_after, after_asking, after_answer, after_next}
 use Rattle.fw_model_reclaim.proofs.Common.{takes_next, to_restore, begin_managed, begin_present, begun, resumed}
 use Rattle.std.proofs.Common.{map}
 use Rattle.std.proofs.lemmas.List.{set_past}
-use Rattle.fw_cmp.specs.declared.job.Ending.TheVariants as ending
-use Rattle.fw_cmp.specs.Resets.{slot_over, after_second}
-use Rattle.fw_cmp.specs.Jobs.{current_for, takes_task, takes_waiting, waiting_break, is_empty, own_flow, absent_of}
-use Rattle.fw_cmp.specs.Jobs.{begin_leaving, begin_breaking, begin, is_late}
+use Rattle.fw_cmp_jobs.specs.declared.job.Ending.TheVariants as ending
+use Rattle.fw_cmp.specs.Resets.{after_second}
+use Rattle.fw_cmp_jobs.specs.Slots.{slot_over}
+use Rattle.fw_cmp.specs.Jobs.{current_for, takes_task, takes_waiting, waiting_break, is_empty}
+use Rattle.fw_cmp_jobs.specs.Jobs.{own_flow, absent_of}
+use Rattle.fw_cmp_jobs.specs.Jobs.{begin_leaving, begin_breaking, begin, is_late}
 use Rattle.fw_model_reclaim.specs.Avoids.{SlotAvoids, StageAvoids, JobAvoids, CurrentAvoids, Avoids}
 use Rattle.fw_model_reclaim.proofs.AfterReset.{interrupted_for, decided_for}
 use Rattle.fw_model_reclaim.proofs.AvoidsHeard.{ShowsOther, hear_avoids, refuse_avoids}
@@ -37,7 +39,7 @@ slots_set ch c k x own before i = go (cases_eq i k) (cases_lt k (length c.slots)
 begins_avoids : (ch i : ℕ) (x : Slot) → 63 ≢ ch → SlotAvoids ch x → CurrentAvoids ch (current_for i x)
 begins_avoids ch i Free last a = tt
 begins_avoids ch i (Making conn asked overhead) last a = (a, tt)
-begins_avoids ch i (Standing conn f) last a = (λ listens. last, tt)
+begins_avoids ch i (Established conn f) last a = (λ listens. last, tt)
 begins_avoids ch i (Restoring conn f over) last a = (λ listens. a, tt)
 begins_avoids ch i (Gone conn) last a = (λ listens. last, tt)
 
@@ -51,7 +53,7 @@ picked_avoids ch now d c last a = first (to_restore c)
     begins true = a
     begins false = takes 0
 
-    waits : (w : List Task) → Avoids ch (cond (is_empty w) c (cond (ltb now d.over_at) c (takes_task c 0)))
+    waits : (w : List WaitingJob) → Avoids ch (cond (is_empty w) c (cond (ltb now d.over_at) c (takes_task c 0)))
     waits [] = a
     waits (t ∷ ts) = begins (ltb now d.over_at)
 
@@ -82,7 +84,7 @@ leaving_avoids ch (BroadcastOut out) f = tt
 leaving_avoids ch (BroadcastIn into) f = tt
 
 breaking_avoids : (ch : ℕ) (x : Slot) → StageAvoids ch (begin_breaking x)
-breaking_avoids ch (Standing conn f) = leaving_avoids ch conn f
+breaking_avoids ch (Established conn f) = leaving_avoids ch conn f
 breaking_avoids ch _ = tt
 
 begin_avoids : (ch : ℕ) (d : Directory) (x : Slot) (j : Job) → JobAvoids ch j → StageAvoids ch (begin d x j)
@@ -174,14 +176,14 @@ slots_mapped ch c f free keeps a = record { slots = λ i. subst (SlotAvoids ch) 
 slot_reset_avoids : (ch : ℕ) (x : Slot) → SlotAvoids ch x → SlotAvoids ch (slot_reset x)
 slot_reset_avoids ch Free a = tt
 slot_reset_avoids ch (Making conn asked overhead) a = a
-slot_reset_avoids ch (Standing conn f) a = a
+slot_reset_avoids ch (Established conn f) a = a
 slot_reset_avoids ch (Restoring conn f over) a = a
 slot_reset_avoids ch (Gone conn) a = tt
 
 slot_over_avoids : (ch : ℕ) (x : Slot) → SlotAvoids ch x → SlotAvoids ch (slot_over x)
 slot_over_avoids ch Free a = tt
 slot_over_avoids ch (Making conn asked overhead) a = a
-slot_over_avoids ch (Standing conn f) a = a
+slot_over_avoids ch (Established conn f) a = a
 slot_over_avoids ch (Restoring conn f over) a = a
 slot_over_avoids ch (Gone conn) a = tt
 

@@ -1,12 +1,32 @@
 -- How a job begins, or goes on, in a reclaim second.
 use Rattle.fw_model_reclaim.proofs.Common.{PlugAt, ◌≡◌, ◌⊎◌, inl, inr, ℕ, Bool, true, false, Option, Some, None, is_some, refl, sym, ap, subst, ◌∙◌, arith, cond, restoring_job, Connection, PlugToPlug}
-use Rattle.fw_model_reclaim.proofs.Common.{BroadcastOut, BroadcastIn, Flow, Slot, Free, Making, Standing, Restoring, Gone, Directory, Job, Purpose, Make, Restore, Break, Stage, Begin, ReadInput, Made}
+use Rattle.fw_model_reclaim.proofs.Common.{
+  BroadcastOut,
+  BroadcastIn,
+  Flow,
+  Slot,
+  Free,
+  Making,
+  Established,
+  Restoring,
+  Gone,
+  Directory,
+  Job,
+  Purpose,
+  Make,
+  Restore,
+  Break,
+  Stage,
+  Begin,
+  ReadInput,
+  Made,
+}
 use Rattle.fw_model_reclaim.proofs.Common.{Ended, output_of, input_of, is_listen, restores, IsReached, begin_managed, begin_present}
 use Rattle.fw_model_reclaim.proofs.Common.{begun, resumed, MatchesFor, CourseFor, IsOnCourse, is_ended, is_still}
 use Rattle.fw_model_reclaim.proofs.Common.{is_leaving}
-use Rattle.fw_cmp.specs.declared.job.Ending.TheVariants.{Late, Absent, Broken}
-use Rattle.fw_cmp.specs.Nodes.{node_of}
-use Rattle.fw_cmp.specs.Jobs.{without_node, absent_of, begin_making, begin_leaving, begin_breaking, begin, is_over, is_late, own_flow}
+use Rattle.fw_cmp_jobs.specs.declared.job.Ending.TheVariants.{Late, Absent, Broken}
+use Rattle.fw_cmp_jobs.specs.Nodes.{node_of}
+use Rattle.fw_cmp_jobs.specs.Jobs.{without_node, absent_of, begin_making, begin_leaving, begin_breaking, begin, is_over, is_late, own_flow}
 
 -- ---- a restoring
 
@@ -72,7 +92,7 @@ leaves (BroadcastIn into) f = refl
 breaking_leaves : (slot : Slot) → is_leaving (begin_breaking slot) ≡ true
 breaking_leaves Free = refl
 breaking_leaves (Making conn asked overhead) = refl
-breaking_leaves (Standing conn f) = leaves conn f
+breaking_leaves (Established conn f) = leaves conn f
 breaking_leaves (Restoring conn f over) = refl
 breaking_leaves (Gone conn) = refl
 
@@ -150,7 +170,7 @@ begin_unmade d slot j f e = go j.purpose e
     breaking_unmade : (x : Slot) → begin_breaking x ≡ Made f → ⊥
     breaking_unmade Free e = grind arith
     breaking_unmade (Making conn asked overhead) e = grind arith
-    breaking_unmade (Standing conn g) e = leaving_unmade conn g e
+    breaking_unmade (Established conn g) e = leaving_unmade conn g e
     breaking_unmade (Restoring conn g over) e = grind arith
     breaking_unmade (Gone conn) e = grind arith
 

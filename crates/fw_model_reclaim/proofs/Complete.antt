@@ -1,10 +1,11 @@
 -- A whole connection stands in its slot, or was just made, if no break of it is current.
 use Rattle.fw_model_reclaim.proofs.Common.{PlugAt, ◌≡◌, ◌⊎◌, inl, inr, ℕ, Bool, true, false, Some, refl, sym, ap, subst, ◌∙◌, arith, cond, nat_tests, Account, Connection, PlugToPlug, BroadcastOut}
-use Rattle.fw_model_reclaim.proofs.Common.{BroadcastIn, Flow, Slot, Standing, Current, Nothing, Asking, Hearing, Overtaken, Job, Purpose, Make, Restore, Break, Stage, ReadInput, ConnectInput}
+use Rattle.fw_model_reclaim.proofs.Common.{BroadcastIn, Flow, Slot, Established, Current, Nothing, Asking, Hearing, Overtaken, Job, Purpose, Make, Restore, Break, Stage, ReadInput, ConnectInput}
 use Rattle.fw_model_reclaim.proofs.Common.{ReadInputToLeave, LeaveInput, ReadOutputToLeave, LeaveOutput, Made, output_of, input_of}
 use Rattle.fw_model_reclaim.proofs.Common.{ControllerState, slot_at, StageFits, HasInput, is_current_slot, IsFlow}
 use Rattle.fw_model_reclaim.proofs.Common.{is_at, KeepsFlow, MatchesFor, CurrentMatches, Side, Output, Input, IsComplete, Stands, IsUnbroken, World, CanReclaim, IsAtWork}
-use Rattle.fw_cmp.specs.Controllers.{is_break_at, break_runs}
+use Rattle.fw_cmp.specs.Controllers.{break_runs}
+use Rattle.fw_cmp_jobs.specs.Slots.{is_break_at}
 use Rattle.fw_cmp.specs.Holdings.{is_at_output, is_at_input}
 use Rattle.fw_model_reclaim.specs.Makings.{is_making_stage, MakesFor, CurrentMakes}
 use Rattle.fw_model_reclaim.specs.Whole.{connection_in, is_standing, is_job_at, is_there, IsWhole, IsMade}
@@ -73,8 +74,8 @@ pub record IsFound (w : World) (c i : ℕ) (conn : Connection) (f : Flow) : Type
   pub complete : IsComplete (w.controllers c) i conn flow
   pub agrees : AreAlike conn f flow
 
-standing_is : (x : Slot) (conn : Connection) → is_standing x ≡ true → connection_in x ≡ Some conn → (f : Flow) × (x ≡ Standing conn f)
-standing_is (Standing k f) conn e same = (f, ap (λ y. Standing y f) (grind (arith, same)))
+standing_is : (x : Slot) (conn : Connection) → is_standing x ≡ true → connection_in x ≡ Some conn → (f : Flow) × (x ≡ Established conn f)
+standing_is (Established k f) conn e same = (f, ap (λ y. Established y f) (grind (arith, same)))
 standing_is _ conn e same = absurd (grind (arith, e))
 
 matched : (why : Purpose) (j : Job) (x : Slot) → MatchesFor why j x → connection_in x ≡ Some j.connection

@@ -10,11 +10,11 @@ use Rattle.std.specs.Prelude.{⊤}
 use Rattle.fw_plug.specs.Words.{Settings, flag}
 use Rattle.fw_model_account.specs.Account.{Pending, Connections, is_there, remainder}
 use Rattle.fw_model_account.proofs.Reclaims.{units_fit}
-use Rattle.fw_cmp.specs.declared.job.Held.{Held}
-use Rattle.fw_cmp.specs.declared.job.Ending.TheVariants.{NoUnits}
-use Rattle.fw_cmp.specs.Connections.{is_point_to_point}
-use Rattle.fw_cmp.specs.Plugs.{is_full, has_broadcast, counter_of, remainder_of, overhead_of, units_with}
-use Rattle.fw_cmp.specs.Decisions.{decide_out, decide_connected, decide_free, decide_channel, is_lost, output_joined}
+use Rattle.fw_cmp_jobs.specs.declared.job.HeldResources.{HeldResources}
+use Rattle.fw_cmp_jobs.specs.declared.job.Ending.TheVariants.{NoUnits}
+use Rattle.fw_cmp_jobs.specs.Connections.{is_point_to_point}
+use Rattle.fw_cmp_jobs.specs.Plugs.{is_full, has_broadcast, counter_of, remainder_of, overhead_of, units_with}
+use Rattle.fw_cmp_jobs.specs.Decisions.{decide_out, decide_connected, decide_free, decide_channel, is_lost, output_joined}
 use Rattle.fw_model_controllers.specs.InStep.{units_at}
 use Rattle.fw_model_controllers.proofs.Words.{Shows, output_word, input_word, output_shows, settings_shown, input_shows, channel_shown, shows_connected, remainder_shown, units_shown}
 
@@ -45,7 +45,7 @@ unconnected l c p ch u s is held = go (has_connection (l.outputs p)) refl
     go true e = let own = s.allocated p e in grind (arith, own, held, is)
 
 -- the restoring holds nothing, or the channel and the units of its flow
-abbrev pub HoldsFlow : Account → ℕ → PlugAt → Flow → Option Held → Type 0
+abbrev pub HoldsFlow : Account → ℕ → PlugAt → Flow → Option HeldResources → Type 0
 HoldsFlow l c p f None = ⊤
 HoldsFlow l c p f (Some h) = (h.channel ≡ f.channel) × (h.units ≡ f.units) × (l.allocations f.channel ≡ Some (record { holder = Pending c p; units = f.units }))
 
@@ -59,21 +59,21 @@ whichever f true x y first second = first refl
 whichever f false x y first second = second refl
 
 -- a word of the output plug with the channel of the flow
-decided_output : (i : ℕ) (conn : Connection) (f : Flow) (held : Option Held) (w : ℕ) → is_full (kind_of conn) w ≡ false → channel_of w ≡ f.channel
-    → ((h : Held) → held ≡ Some h → (h.channel ≡ f.channel) × (h.units ≡ f.units) × (is_connected w ≡ false)) → IsOnCourse f (decide_out (restoring_job i conn f) held w)
+decided_output : (i : ℕ) (conn : Connection) (f : Flow) (held : Option HeldResources) (w : ℕ) → is_full (kind_of conn) w ≡ false → channel_of w ≡ f.channel
+    → ((h : HeldResources) → held ≡ Some h → (h.channel ≡ f.channel) × (h.units ≡ f.units) × (is_connected w ≡ false)) → IsOnCourse f (decide_out (restoring_job i conn f) held w)
 decided_output i conn f held w room channel holds = otherwise f _ _ _ room (whichever f (is_connected w) _ _ (connected held holds) (free held holds))
   where
-    connected : (held : Option Held) → ((h : Held) → held ≡ Some h → (h.channel ≡ f.channel) × (h.units ≡ f.units) × (is_connected w ≡ false)) → is_connected w ≡ true
+    connected : (held : Option HeldResources) → ((h : HeldResources) → held ≡ Some h → (h.channel ≡ f.channel) × (h.units ≡ f.units) × (is_connected w ≡ false)) → is_connected w ≡ true
         → IsOnCourse f (decide_connected (restoring_job i conn f) held w)
     connected None hf e = otherwise f (is_lost (restoring_job i conn f) w) _ _ (grind (arith, nat_tests, channel)) tt
     connected (Some h) hf e = absurd (grind (arith, e, (hf h refl).2))
 
-    free : (held : Option Held) → ((h : Held) → held ≡ Some h → (h.channel ≡ f.channel) × (h.units ≡ f.units) × (is_connected w ≡ false)) → is_connected w ≡ false
+    free : (held : Option HeldResources) → ((h : HeldResources) → held ≡ Some h → (h.channel ≡ f.channel) × (h.units ≡ f.units) × (is_connected w ≡ false)) → is_connected w ≡ false
         → IsOnCourse f (decide_free (restoring_job i conn f) held w)
     free None hf e = tt
     free (Some h) hf e = ((hf h refl).0, (hf h refl).1)
 
-pub course_output : (l : Account) (c : ℕ) (p : PlugAt) (i : ℕ) (conn : Connection) (f : Flow) (held : Option Held) → AtOutput l p f → HoldsFlow l c p f held
+pub course_output : (l : Account) (c : ℕ) (p : PlugAt) (i : ℕ) (conn : Connection) (f : Flow) (held : Option HeldResources) → AtOutput l p f → HoldsFlow l c p f held
     → number_of (kind_of conn) (l.outputs p) < most (kind_of conn) → IsOnCourse f (decide_out (restoring_job i conn f) held (output_word (l.outputs p) (l.settings p)))
 course_output l c p i conn f held at holds room = decided_output i conn f held (output_word (l.outputs p) (l.settings p)) (not_full (kind_of conn) _ (l.outputs p) shows room) channel
     (keeps held holds)
@@ -84,7 +84,8 @@ course_output l c p i conn f held at holds room = decided_output i conn f held (
     channel : channel_of (output_word (l.outputs p) (l.settings p)) ≡ f.channel
     channel = ap (λ (k : Settings). k.channel) (settings_shown (l.outputs p) (l.settings p) (at.sound.counts p).0 (at.sound.settings_fit p at.there)) ∙ at.flow.channel
 
-    keeps : (o : Option Held) → HoldsFlow l c p f o → (h : Held) → o ≡ Some h → (h.channel ≡ f.channel) × (h.units ≡ f.units) × (is_connected (output_word (l.outputs p) (l.settings p)) ≡ false)
+    keeps : (o : Option HeldResources) → HoldsFlow l c p f o → (h : HeldResources) → o ≡ Some h → (h.channel ≡ f.channel) × (h.units ≡ f.units)
+        × (is_connected (output_word (l.outputs p) (l.settings p)) ≡ false)
     keeps None hf h e = absurd (grind arith)
     keeps (Some g) hf h e = (grind (arith, hf.0), grind (arith, hf.1), shows_connected _ (l.outputs p) shows ∙ unconnected l c p f.channel f.units at.sound at.flow.channel hf.2)
 

@@ -4,7 +4,7 @@ use Rattle.fw_model_reclaim.proofs.Common.{Break, Then, EndsAs, Again, Ending, T
 use Rattle.fw_model_reclaim.proofs.Common.{RaiseBandwidth, ReadChannelsToRelease, RestoreChannel, Ended, is_listen, goes_on, decide_leave_out}
 use Rattle.fw_model_reclaim.proofs.Common.{output_left, decide_raise, hear, hear_reply, refuse, IsAnswer}
 use Rattle.fw_model_reclaim.proofs.Common.{MatchesFor, CourseFor, IsOnCourse, is_ended, is_still, is_leaving}
-use Rattle.fw_cmp.specs.Decisions.{input_left, decide_leave_in}
+use Rattle.fw_cmp_jobs.specs.Decisions.{input_left, decide_leave_in}
 use Rattle.fw_model_reclaim.specs.Restores.{is_final}
 use Rattle.fw_model_reclaim.proofs.Heard.{heard, Asked}
 use Rattle.fw_model_reclaim.specs.Rooms.{IsRestoring}

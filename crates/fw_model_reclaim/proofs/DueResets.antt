@@ -1,7 +1,7 @@
 -- A bus reset makes nothing more due to a controller, and the end of the reclaim second does not.
 use Rattle.fw_model_reclaim.proofs.Common.{PlugAt, ConnectionKind, ◌≡◌, ◌≢◌, ◌⊎◌, inl, inr, ℕ, ◌<◌, ◌≤◌, Bool, true}
 use Rattle.fw_model_reclaim.proofs.Common.{false, length, refl, sym, ap, subst, ◌∙◌, arith, cases_eq, nat_tests, Connection, Flow}
-use Rattle.fw_model_reclaim.proofs.Common.{Slot, Free, Making, Standing, Restoring, Gone, Current, Nothing, Asking, Hearing, Overtaken}
+use Rattle.fw_model_reclaim.proofs.Common.{Slot, Free, Making, Established, Restoring, Gone, Current, Nothing, Asking, Hearing, Overtaken}
 use Rattle.fw_model_reclaim.proofs.Common.{Ending, Job, Purpose, Make, Restore, Break, Stage, Begin, Made, Ended}
 use Rattle.fw_model_reclaim.proofs.Common.{ControllerState, slot_at, count_of, is_current_slot, overtaken, current_reset, lost_reset}
 use Rattle.fw_model_reclaim.proofs.Common.{slot_reset, after_reset, after_lost_reset, state_reset, Side, Output}
@@ -20,12 +20,12 @@ use Rattle.fw_model_reclaim.proofs.Slots.{slot_set_same, slot_mapped}
 reset_share : (side : Side) (x : Slot) (kind : ConnectionKind) (q : PlugAt) → resting side (slot_reset x) kind q ≤ resting side x kind q
 reset_share Output Free kind q = omega arith
 reset_share Output (Making conn asked overhead) kind q = omega arith
-reset_share Output (Standing conn f) kind q = omega arith
+reset_share Output (Established conn f) kind q = omega arith
 reset_share Output (Restoring conn f over) kind q = omega arith
 reset_share Output (Gone conn) kind q = omega arith
 reset_share Input Free kind q = omega arith
 reset_share Input (Making conn asked overhead) kind q = omega arith
-reset_share Input (Standing conn f) kind q = omega arith
+reset_share Input (Established conn f) kind q = omega arith
 reset_share Input (Restoring conn f over) kind q = omega arith
 reset_share Input (Gone conn) kind q = omega arith
 

@@ -1,6 +1,6 @@
 -- No step of a controller makes more due to it in a reclaim second, and no bus reset does.
 use Rattle.fw_model_reclaim.proofs.Common.{PlugAt, ConnectionKind, ◌≡◌, ◌≢◌, ◌⊎◌, inl, inr, ℕ, ◌<◌, ◌≤◌, Bool, true, false, ◌&&◌, refl, sym, ap, subst, ◌∙◌, arith, cond, cases_eq, nat_tests, Reply}
-use Rattle.fw_model_reclaim.proofs.Common.{Connection, Flow, Slot, Free, Standing, Restoring, Gone, Current, Asking}
+use Rattle.fw_model_reclaim.proofs.Common.{Connection, Flow, Slot, Free, Established, Restoring, Gone, Current, Asking}
 use Rattle.fw_model_reclaim.proofs.Common.{Hearing, Job, Stage, Made, ControllerState, slot_at, break_waits, count_of, restores}
 use Rattle.fw_model_reclaim.proofs.Common.{slot_after, is_current_slot, heard, after_hear, hear_reply, Side, Output, Input, IsAtSlot, due_to, slot_due, has_plug}
 use Rattle.fw_model_reclaim.proofs.Due.{resting, working, due_less, due_resting, due_asking, due_hearing}
@@ -46,7 +46,7 @@ due_heard c j s r side kind q e lt less = due_less c (after_hear c r) side kind 
 
 -- ---- a turn
 
-pub stands_share : (side : Side) (conn : Connection) (f : Flow) (kind : ConnectionKind) (q : PlugAt) → resting side (Standing conn f) kind q ≡ count_of (has_plug side conn kind q)
+pub stands_share : (side : Side) (conn : Connection) (f : Flow) (kind : ConnectionKind) (q : PlugAt) → resting side (Established conn f) kind q ≡ count_of (has_plug side conn kind q)
 stands_share Output conn f kind q = omega arith
 stands_share Input conn f kind q = omega arith
 

@@ -6,11 +6,11 @@ use Rattle.fw_model_reclaim.proofs.Common.{ReadInput, ConnectInput, ReadInputToL
 use Rattle.fw_model_reclaim.proofs.Common.{RestoreChannel, Made, Ended, output_of, input_of, StageFits, HasInput, IsReached}
 use Rattle.fw_model_reclaim.proofs.Common.{target_of, access_of, begin_managed, begin_present, begun, resumed, IsOnCourse}
 use Rattle.std.specs.Option.{option_map}
-use Rattle.fw_cmp.specs.declared.request.Target.TheVariants.{OutputPlug, InputPlug}
-use Rattle.fw_cmp.specs.declared.job.Ending.TheVariants.{Absent}
-use Rattle.fw_cmp.specs.Fits.{HasOutput}
-use Rattle.fw_cmp.specs.Requests.{swap_of, access_at}
-use Rattle.fw_cmp.specs.Jobs.{begin_making}
+use Rattle.fw_cmp_jobs.specs.declared.request.Target.TheVariants.{OutputPlug, InputPlug}
+use Rattle.fw_cmp_jobs.specs.declared.job.Ending.TheVariants.{Absent}
+use Rattle.fw_cmp_jobs.specs.Fits.{HasOutput}
+use Rattle.fw_cmp_jobs.specs.Requests.{swap_of, access_at}
+use Rattle.fw_cmp_jobs.specs.Jobs.{begin_making}
 use Rattle.fw_model_reclaim.proofs.Begins.{nobody_absent, not_late, never_late}
 use Rattle.fw_model_reclaim.proofs.Heard.{output_there, input_there}
 

@@ -1,30 +1,31 @@
--- A controller at the end of a reclaim second, at its start, and where a job is asked for.
+-- A controller at the end of a reclaim second, at its start, and if a job is asked for.
 use Rattle.fw_model_reclaim.proofs.Common.{◌≡◌, ◌≢◌, ◌⊎◌, inl, inr, ℕ, ◌<◌, ◌≤◌, get_or, Bool, true, false, Option}
 use Rattle.fw_model_reclaim.proofs.Common.{Some, None, length, refl, sym, ap, subst, ◌∙◌, arith, Ok, cases_eq, cases_lt, Account}
-use Rattle.fw_model_reclaim.proofs.Common.{Connection, Flow, Slot, Free, Making, Standing, Restoring, Gone, Current, Nothing}
+use Rattle.fw_model_reclaim.proofs.Common.{Connection, Flow, Slot, Free, Making, Established, Restoring, Gone, Current, Nothing}
 use Rattle.fw_model_reclaim.proofs.Common.{Asking, Hearing, Overtaken, Job, Purpose, Make, Restore, Break, ControllerState}
 use Rattle.fw_model_reclaim.proofs.Common.{first_state, slot_at, with_slot, is_making, is_current_slot, started, break_started, break_fault, with_task, StartFault, KeepsFlow, IsRestorable, Restores}
 use Rattle.fw_model_reclaim.proofs.Common.{MatchesFor, CourseFor, CurrentMatches, CurrentCourse}
 use Rattle.std.proofs.Common.{replicate}
 use Rattle.std.proofs.lemmas.List.{get_or-replicate, get_or_past}
 use Rattle.fw_model_account.specs.Events.{after_second as account_second}
-use Rattle.fw_cmp.specs.Resets.{slot_over, after_second}
+use Rattle.fw_cmp.specs.Resets.{after_second}
+use Rattle.fw_cmp_jobs.specs.Slots.{slot_over}
 use Rattle.fw_model_reclaim.proofs.Nexts.{used}
 use Rattle.fw_model_reclaim.proofs.Slots.{slot_set_same, slot_set_other, slot_mapped}
 
 -- ---- the end of a reclaim second
 
-over_standing : (x : Slot) (conn : Connection) (f : Flow) → slot_over x ≡ Standing conn f → x ≡ Standing conn f
+over_standing : (x : Slot) (conn : Connection) (f : Flow) → slot_over x ≡ Established conn f → x ≡ Established conn f
 over_standing Free conn f e = absurd (grind arith)
 over_standing (Making k a o) conn f e = absurd (grind arith)
-over_standing (Standing k g) conn f e = e
+over_standing (Established k g) conn f e = e
 over_standing (Restoring k g o) conn f e = absurd (grind arith)
 over_standing (Gone k) conn f e = absurd (grind arith)
 
 over_restoring : (x : Slot) (conn : Connection) (f : Flow) → slot_over x ≡ Restoring conn f false → ⊥
 over_restoring Free conn f e = grind arith
 over_restoring (Making k a o) conn f e = grind arith
-over_restoring (Standing k g) conn f e = grind arith
+over_restoring (Established k g) conn f e = grind arith
 over_restoring (Restoring k g o) conn f e = grind arith
 over_restoring (Gone k) conn f e = grind arith
 
@@ -56,7 +57,7 @@ restores_second l c r = record {
 
 -- ---- a new connection is asked for
 
-unlike_making : (x : Slot) → is_making x ≡ true → (((conn : Connection) (f : Flow) → x ≡ Standing conn f → ⊥) × ((conn : Connection) (f : Flow) (over : Bool) → x ≡ Restoring conn f over → ⊥))
+unlike_making : (x : Slot) → is_making x ≡ true → (((conn : Connection) (f : Flow) → x ≡ Established conn f → ⊥) × ((conn : Connection) (f : Flow) (over : Bool) → x ≡ Restoring conn f over → ⊥))
 unlike_making (Making conn asked overhead) e = (λ k f is. grind (arith, is), λ k f o is. grind (arith, is))
 unlike_making _ e = absurd (grind arith)
 
@@ -72,7 +73,7 @@ restores_started l c i x few lt free making r = record {
     own : (k : ℕ) → k ≡ i → slot_at (with_slot c i x) k ≡ x
     own k e = ap (slot_at (with_slot c i x)) e ∙ slot_set_same c i x (omega arith)
 
-    standing : (k : ℕ) (conn : Connection) (f : Flow) → slot_at (with_slot c i x) k ≡ Standing conn f → is_current_slot c.current k ≡ false → (k ≡ i) ⊎ (k ≢ i) → KeepsFlow l conn f
+    standing : (k : ℕ) (conn : Connection) (f : Flow) → slot_at (with_slot c i x) k ≡ Established conn f → is_current_slot c.current k ≡ false → (k ≡ i) ⊎ (k ≢ i) → KeepsFlow l conn f
     standing k conn f e idle (inl is) = absurd ((unlike_making x making).0 conn f (sym (own k is) ∙ e))
     standing k conn f e idle (inr ne) = r.standing k conn f (sym (slot_set_other c i k x ne) ∙ e) idle
 
@@ -108,7 +109,7 @@ free_slots i = go (cases_lt i 32)
 pub restores_first : (l : Account) → Restores l first_state
 restores_first l = record {
   matches = tt;
-  standing = λ i conn f e idle. let no_slot : Free ≡ Standing conn f = sym (free_slots i) ∙ e in absurd (grind (arith, no_slot));
+  standing = λ i conn f e idle. let no_slot : Free ≡ Established conn f = sym (free_slots i) ∙ e in absurd (grind (arith, no_slot));
   restoring = λ i conn f e. let no_slot : Free ≡ Restoring conn f false = sym (free_slots i) ∙ e in absurd (grind (arith, no_slot));
   course = λ runs. tt;
 }

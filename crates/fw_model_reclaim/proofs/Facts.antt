@@ -7,9 +7,10 @@ use Rattle.std.proofs.Common.{◌||◌}
 use Rattle.std.proofs.lemmas.List.Sums.{get_or-le-sum_by}
 use Rattle.std.proofs.lemmas.Option.{slice_get_within, get_or_from_slice_get}
 use Rattle.fw_words.specs.declared.swap.Swap.{Swap}
-use Rattle.fw_cmp.specs.Controllers.{Fits as ControllerFits, CurrentFits, is_breakable, is_gone}
+use Rattle.fw_cmp.specs.Controllers.{Fits as ControllerFits, CurrentFits}
+use Rattle.fw_cmp_jobs.specs.Slots.{is_breakable, is_gone}
 use Rattle.fw_cmp.specs.Holdings.{pending_of}
-use Rattle.fw_cmp.specs.Requests.{swap_of}
+use Rattle.fw_cmp_jobs.specs.Requests.{swap_of}
 use Rattle.fw_model_controllers.specs.Controllers.{ControllerInStep, CurrentInStep, JobInStep, others_of}
 use Rattle.fw_model_controllers.specs.Holding.{HasReserved}
 use Rattle.fw_model_controllers.specs.InStep.{reservation, HalfStep}

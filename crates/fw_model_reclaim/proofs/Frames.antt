@@ -2,7 +2,7 @@
 use Rattle.fw_model_reclaim.proofs.Common.{PlugAt, ConnectionKind, PointToPoint, Broadcast, ◌≡◌, ◌≢◌, ◌⊎◌, inl, inr, ℕ, ◌<◌, ◌≤◌}
 use Rattle.fw_model_reclaim.proofs.Common.{true, false, Some, length, refl, sym, ap, subst, ◌∙◌, arith, not, ◌&&◌}
 use Rattle.fw_model_reclaim.proofs.Common.{cases_lt, Account, has_connection, is_output, is_input, IsSound, Connection, Flow}
-use Rattle.fw_model_reclaim.proofs.Common.{Slot, Free, Standing, kind_of, output_of, input_of, ControllerState, slot_at}
+use Rattle.fw_model_reclaim.proofs.Common.{Slot, Free, Established, kind_of, output_of, input_of, ControllerState, slot_at}
 use Rattle.fw_model_reclaim.proofs.Common.{count_of, is_current_slot, connections_of, IsFlow, has_manager, KeepsFlow, IsRestorable, LeavesPlugs}
 use Rattle.std.specs.Prelude.{IsTrue}
 use Rattle.std.proofs.lemmas.List.{get_or_past}
@@ -33,14 +33,15 @@ pub input_has : (conn : Connection) (q : PlugAt) → input_of conn ≡ Some q �
 input_has conn q e = let plug : is_plug (input_of conn) q ≡ true = rw e (same_plug_self q) in grind (arith, plug, same_kind_self (kind_of conn))
 
 -- one that stands in a slot that is not the current job's
-pub output_counted : (c : ControllerState) (i : ℕ) (conn : Connection) (f : Flow) (p : PlugAt) → i < 32 → slot_at c i ≡ Standing conn f → is_current_slot c.current i ≡ false → output_of conn ≡ Some p
+pub output_counted : (c : ControllerState) (i : ℕ) (conn : Connection) (f : Flow) (p : PlugAt) → i < 32 → slot_at c i ≡ Established conn f → is_current_slot c.current i ≡ false
+    → output_of conn ≡ Some p
     → 0 < outputs_held c (kind_of conn) p
 output_counted c i conn f p lt e idle has =
     let one : count_of (not (is_current_slot c.current i) && stands_at_output (slot_at c i) (kind_of conn) p) ≡ 1 = rw (idle, e, output_has conn p has) refl in
     let at = sum_to_at 32 i (λ k. count_of (not (is_current_slot c.current k) && stands_at_output (slot_at c k) (kind_of conn) p)) lt in
     omega arith
 
-pub input_counted : (c : ControllerState) (i : ℕ) (conn : Connection) (f : Flow) (q : PlugAt) → i < 32 → slot_at c i ≡ Standing conn f → is_current_slot c.current i ≡ false → input_of conn ≡ Some q
+pub input_counted : (c : ControllerState) (i : ℕ) (conn : Connection) (f : Flow) (q : PlugAt) → i < 32 → slot_at c i ≡ Established conn f → is_current_slot c.current i ≡ false → input_of conn ≡ Some q
     → 0 < inputs_held c (kind_of conn) q
 input_counted c i conn f q lt e idle has =
     let one : count_of (not (is_current_slot c.current i) && stands_at_input (slot_at c i) (kind_of conn) q) ≡ 1 = rw (idle, e, input_has conn q has) refl in

@@ -1,16 +1,17 @@
 -- The slot that a new connection takes.
-use Rattle.fw_model_reclaim.proofs.Common.{◌≡◌, ℕ, ◌<◌, Bool, true, false, Option, Some, None, refl, subst, arith, cond, Ok, Slot, Free, Making, Standing, Restoring, Gone, ControllerState, slot_at}
+use Rattle.fw_model_reclaim.proofs.Common.{◌≡◌, ℕ, ◌<◌, Bool, true, false, Option, Some, None, refl, subst, arith, cond, Ok, Slot, Free, Making, Established, Restoring, Gone, ControllerState, slot_at}
 use Rattle.fw_model_reclaim.proofs.Common.{is_making}
 use Rattle.std.specs.Prelude.{Err}
 use Rattle.fw_terms.proofs.Tables.{IsFirst, find_to_is}
 use Rattle.fw_cmp.specs.declared.outcome.StartFault.TheVariants.{Busy}
-use Rattle.fw_cmp.specs.Controllers.{is_free}
-use Rattle.fw_cmp.specs.Starts.{free_slot, is_crowded, start_at, start, IsMaking}
+use Rattle.fw_cmp_jobs.specs.Slots.{is_free}
+use Rattle.fw_cmp.specs.Starts.{free_slot, is_crowded, start_at, start}
+use Rattle.fw_cmp_jobs.specs.Slots.{IsMaking}
 
 pub making_is : (x : Slot) → IsMaking x → is_making x ≡ true
 making_is (Making conn asked overhead) m = refl
 making_is Free m = absurd m
-making_is (Standing conn f) m = absurd m
+making_is (Established conn f) m = absurd m
 making_is (Restoring conn f over) m = absurd m
 making_is (Gone conn) m = absurd m
 

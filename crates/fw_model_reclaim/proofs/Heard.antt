@@ -11,8 +11,8 @@ use Rattle.std.specs.Prelude.{IsTrue}
 use Rattle.std.specs.Option.{option_map}
 use Rattle.fw_model_account.specs.Account.{Pending, remainder}
 use Rattle.fw_model_account.specs.Words.{word_of}
-use Rattle.fw_cmp.specs.declared.request.Target.TheVariants.{OutputPlug, InputPlug, BandwidthAvailable}
-use Rattle.fw_cmp.specs.Fits.{HasOutput}
+use Rattle.fw_cmp_jobs.specs.declared.request.Target.TheVariants.{OutputPlug, InputPlug, BandwidthAvailable}
+use Rattle.fw_cmp_jobs.specs.Fits.{HasOutput}
 use Rattle.fw_model_controllers.specs.Holding.{HasReserved}
 use Rattle.fw_model_controllers.specs.InStep.{reservation}
 use Rattle.fw_model_controllers.specs.Registers.{register_at, stands}

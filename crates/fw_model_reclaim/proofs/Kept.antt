@@ -1,6 +1,6 @@
 -- A controller keeps what its connections rest on, through its own half steps and through those of others.
 use Rattle.fw_model_reclaim.proofs.Common.{PlugAt, ConnectionKind, ◌≡◌, ◌≢◌, inl, ℕ, true, false, length, refl, sym}
-use Rattle.fw_model_reclaim.proofs.Common.{subst, ◌∙◌, arith, Account, IsSound, Connection, Flow, Free, Standing, Reply, Current}
+use Rattle.fw_model_reclaim.proofs.Common.{subst, ◌∙◌, arith, Account, IsSound, Connection, Flow, Free, Established, Reply, Current}
 use Rattle.fw_model_reclaim.proofs.Common.{Nothing, Asking, Hearing, Overtaken, Job, Target, Stage, after_hear}
 use Rattle.fw_model_reclaim.proofs.Common.{IsAnswer, kind_of, ControllerState, slot_at, is_current_slot, connections_of, Side, Output}
 use Rattle.fw_model_reclaim.proofs.Common.{Input, connections_at, KeepsFlow, LeavesPlugs, Restores, Carries, MatchesFor, CourseFor, CurrentMatches, CurrentCourse}
@@ -12,17 +12,18 @@ use Rattle.fw_model_reclaim.proofs.Moved.{carried_leaves}
 use Rattle.fw_model_reclaim.proofs.Frames.{within, output_counted, input_counted, has_at_output, has_at_input, keeps_flow, stays_restorable}
 
 -- a slot that holds a connection is not free
-pub standing_used : (conn : Connection) (f : Flow) → Standing conn f ≢ Free
+pub standing_used : (conn : Connection) (f : Flow) → Established conn f ≢ Free
 standing_used conn f = λ e. grind arith
 
 -- controller d has the connections that its slots and its job say
 abbrev pub Seated : Account → ℕ → ControllerState → Type 0
 Seated l d c = (side : Side) (kind : ConnectionKind) (q : PlugAt) → connections_of d kind (connections_at l side q) ≡ held_by c side kind q
 
-standing_keeps : (l m : Account) (d : ℕ) (c : ControllerState) (i : ℕ) (conn : Connection) (f : Flow) → IsSound l → length c.slots ≡ 32 → Seated l d c → LeavesPlugs l m → slot_at c i ≡ Standing conn f
+standing_keeps : (l m : Account) (d : ℕ) (c : ControllerState) (i : ℕ) (conn : Connection) (f : Flow) → IsSound l → length c.slots ≡ 32 → Seated l d c → LeavesPlugs l m
+    → slot_at c i ≡ Established conn f
     → is_current_slot c.current i ≡ false → KeepsFlow l conn f → KeepsFlow m conn f
 standing_keeps l m d c i conn f s few at leaves e idle k =
-    let lt = within c i (Standing conn f) few e (standing_used conn f) in
+    let lt = within c i (Established conn f) few e (standing_used conn f) in
     keeps_flow l m conn f leaves (λ p has. inl (has_at_output l d c (kind_of conn) p s (at Output (kind_of conn) p) (output_counted c i conn f p lt e idle has)))
     (λ q has. inl (has_at_input l d c (kind_of conn) q s (at Input (kind_of conn) q) (input_counted c i conn f q lt e idle has))) k
 

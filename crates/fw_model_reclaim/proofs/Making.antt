@@ -1,7 +1,7 @@
 -- The current job that makes a connection stays at the stages of one, whatever happens to its controller.
 use Rattle.fw_model_reclaim.proofs.Common.{◌≡◌, ◌≢◌, ◌⊎◌, inl, inr, ℕ, Bool, true, false, Option, Some, None, List, []}
 use Rattle.fw_model_reclaim.proofs.Common.{◌∷◌, refl, sym, ap, subst, ◌∙◌, cond, ltb, Ok, cases_eq, Reply, Slot, Free, Making}
-use Rattle.fw_model_reclaim.proofs.Common.{Standing, Restoring, Gone, Current, Nothing, Asking, Hearing, Overtaken, Task, Directory}
+use Rattle.fw_model_reclaim.proofs.Common.{Established, Restoring, Gone, Current, Nothing, Asking, Hearing, Overtaken, WaitingJob, Directory}
 use Rattle.fw_model_reclaim.proofs.Common.{Job, Purpose, Make, Restore, Break, StartFault, Access, Stage, Begin}
 use Rattle.fw_model_reclaim.proofs.Common.{Made, Ended, ControllerState, first_state, slot_at, StageFits, access_of}
 use Rattle.fw_model_reclaim.proofs.Common.{heard, after_hear, overtaken, current_reset, lost_reset, after_reset, after_lost_reset}
@@ -20,7 +20,7 @@ use Rattle.fw_model_reclaim.proofs.Nexts.{going_at}
 begins_makes : (i : ℕ) (x : Slot) → CurrentMakes (current_for i x)
 begins_makes i Free = tt
 begins_makes i (Making conn asked overhead) = refl
-begins_makes i (Standing conn f) = tt
+begins_makes i (Established conn f) = tt
 begins_makes i (Restoring conn f over) = refl
 begins_makes i (Gone conn) = tt
 
@@ -31,7 +31,7 @@ picked_makes now d c m = first (to_restore c)
     begins true = m
     begins false = begins_makes _ _
 
-    waits : (w : List Task) → CurrentMakes (cond (is_empty w) c (cond (ltb now d.over_at) c (takes_task c 0))).current
+    waits : (w : List WaitingJob) → CurrentMakes (cond (is_empty w) c (cond (ltb now d.over_at) c (takes_task c 0))).current
     waits [] = m
     waits (t ∷ ts) = begins (ltb now d.over_at)
 

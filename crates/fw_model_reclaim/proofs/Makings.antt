@@ -10,13 +10,13 @@ use Rattle.fw_model_reclaim.proofs.Common.{is_bit, half_of, hear, hear_reply, re
 use Rattle.fw_model_reclaim.proofs.Common.{begun, resumed}
 use Rattle.std.proofs.Common.{leb}
 use Rattle.fw_terms.specs.Tables.{find_to}
-use Rattle.fw_cmp.specs.declared.job.Ending.TheVariants.{NoChannel, NoUnits, PlugFull, InputBusy, NoPlug, Absent, Late}
-use Rattle.fw_cmp.specs.declared.job.Held.{Held}
-use Rattle.fw_cmp.specs.Connections.{is_point_to_point}
-use Rattle.fw_cmp.specs.Decisions.{give_back, leave_output, decide_free, is_lost, decide_connected, decide_out, decide_any, decide_channel}
-use Rattle.fw_cmp.specs.Decisions.{needs, first_flow, output_joined, listen_flow}
-use Rattle.fw_cmp.specs.Plugs.{is_full, has_broadcast, counter_of, remainder_of}
-use Rattle.fw_cmp.specs.Jobs.{absent_of, begin_making, begin_breaking, begin, is_late, own_flow}
+use Rattle.fw_cmp_jobs.specs.declared.job.Ending.TheVariants.{NoChannel, NoUnits, PlugFull, InputBusy, NoPlug, Absent, Late}
+use Rattle.fw_cmp_jobs.specs.declared.job.HeldResources.{HeldResources}
+use Rattle.fw_cmp_jobs.specs.Connections.{is_point_to_point}
+use Rattle.fw_cmp_jobs.specs.Decisions.{give_back, leave_output, decide_free, is_lost, decide_connected, decide_out, decide_any, decide_channel}
+use Rattle.fw_cmp_jobs.specs.Decisions.{needs, first_flow, output_joined, listen_flow}
+use Rattle.fw_cmp_jobs.specs.Plugs.{is_full, has_broadcast, counter_of, remainder_of}
+use Rattle.fw_cmp_jobs.specs.Jobs.{absent_of, begin_making, begin_breaking, begin, is_late, own_flow}
 use Rattle.fw_model_reclaim.specs.Makings.{is_making_stage, MakesFor}
 
 -- on either way
@@ -28,19 +28,19 @@ going_on : (conn : Connection) (next : Then) → is_making_stage conn (goes_on n
 going_on conn (EndsAs e) = refl
 going_on conn Again = refl
 
-giving_back : (conn : Connection) (held : Option Held) (next : Then) → is_making_stage conn (give_back held next) ≡ true
+giving_back : (conn : Connection) (held : Option HeldResources) (next : Then) → is_making_stage conn (give_back held next) ≡ true
 giving_back conn None next = going_on conn next
 giving_back conn (Some h) next = either conn (eqb h.units 0) (ReadChannelsToRelease next h.channel) (ReadBandwidthToRelease next h.channel h.units) refl refl
 
-output_decided : (j : Job) (held : Option Held) (w : ℕ) → is_making_stage j.connection (decide_out j held w) ≡ true
+output_decided : (j : Job) (held : Option HeldResources) (w : ℕ) → is_making_stage j.connection (decide_out j held w) ≡ true
 output_decided j held w = either j.connection (is_full (kind_of j.connection) w) _ _ (giving_back j.connection held (EndsAs (PlugFull w)))
     (either j.connection (is_connected w) _ _ (connected held) (free held))
   where
-    connected : (h : Option Held) → is_making_stage j.connection (decide_connected j h w) ≡ true
+    connected : (h : Option HeldResources) → is_making_stage j.connection (decide_connected j h w) ≡ true
     connected None = either j.connection (is_lost j w) (Ended Late) (OverlayOutput w) refl refl
     connected (Some h) = giving_back j.connection (Some h) (cond (is_lost j w) (EndsAs Late) Again)
 
-    free : (h : Option Held) → is_making_stage j.connection (decide_free j h w) ≡ true
+    free : (h : Option HeldResources) → is_making_stage j.connection (decide_free j h w) ≡ true
     free None = refl
     free (Some h) = refl
 

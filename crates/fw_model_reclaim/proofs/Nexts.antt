@@ -1,6 +1,6 @@
 -- A controller after its whole turn.
 use Rattle.fw_model_reclaim.proofs.Common.{◌≡◌, ◌≢◌, inl, inr, ℕ, ◌<◌, true, false, length, refl, sym, ap, subst}
-use Rattle.fw_model_reclaim.proofs.Common.{◌∙◌, arith, eqb, ltb, get_or, Account, Connection, Flow, Slot, Free, Standing, Restoring}
+use Rattle.fw_model_reclaim.proofs.Common.{◌∙◌, arith, eqb, ltb, get_or, Account, Connection, Flow, Slot, Free, Established, Restoring}
 use Rattle.fw_model_reclaim.proofs.Common.{Current, Nothing, Asking, Hearing, Overtaken, Directory, Job, Purpose, Make}
 use Rattle.fw_model_reclaim.proofs.Common.{Restore, Break, Stage, Begin, Made, ControllerState, slot_at, IsHeard, IsReached}
 use Rattle.fw_model_reclaim.proofs.Common.{is_current_slot, access_of, after_asking, after_answer, after_next, resumed, takes_next, to_restore, IsAtSlot, KeepsFlow, IsRestorable, Restores, MatchesFor}
@@ -29,7 +29,7 @@ pub same_slots : (c p : ControllerState) (i : ℕ) → p.slots ≡ c.slots → s
 same_slots c p i e = ap (λ x. get_or x i Free) e
 
 -- a controller with these slots and no job
-resting : (l : Account) (c p : ControllerState) → p.slots ≡ c.slots → p.current ≡ Nothing → ((i : ℕ) (conn : Connection) (f : Flow) → slot_at c i ≡ Standing conn f → KeepsFlow l conn f)
+resting : (l : Account) (c p : ControllerState) → p.slots ≡ c.slots → p.current ≡ Nothing → ((i : ℕ) (conn : Connection) (f : Flow) → slot_at c i ≡ Established conn f → KeepsFlow l conn f)
     → ((i : ℕ) (conn : Connection) (f : Flow) → slot_at c i ≡ Restoring conn f false → IsRestorable l conn f) → Restores l p
 resting l c p same idle standing restoring = record {
   matches = subst (λ x. CurrentMatches p x) (sym idle) tt;

@@ -1,14 +1,32 @@
 -- How a restoring in its own second ends.
 use Rattle.fw_model_reclaim.proofs.Common.{◌≡◌, inl, ℕ, false, Option, Some, None, List, [], ◌∷◌, refl, sym}
 use Rattle.fw_model_reclaim.proofs.Common.{ap, subst, ◌∙◌, arith, Account, Connection, Flow, Restoring, Current, Nothing, Asking, Hearing}
-use Rattle.fw_model_reclaim.proofs.Common.{Overtaken, Directory, Task, Job, Access, Stage, Begin, Made, ControllerState, slot_at, IsHeard, restoring_job, StageFits, access_of, resumed, takes_next}
+use Rattle.fw_model_reclaim.proofs.Common.{
+  Overtaken,
+  Directory,
+  WaitingJob,
+  Job,
+  Access,
+  Stage,
+  Begin,
+  Made,
+  ControllerState,
+  slot_at,
+  IsHeard,
+  restoring_job,
+  StageFits,
+  access_of,
+  resumed,
+  takes_next,
+}
 use Rattle.fw_model_reclaim.proofs.Common.{to_restore, MatchesFor, IsOnCourse, CurrentMatches, CurrentCourse}
 use Rattle.fw_cmp.specs.declared.outcome.Next.{Next}
 use Rattle.fw_cmp.specs.declared.outcome.Next.TheVariants.{End}
-use Rattle.fw_cmp.specs.declared.outcome.Outcome.{Outcome}
-use Rattle.fw_cmp.specs.declared.outcome.Outcome.TheVariants.{Restored}
-use Rattle.fw_cmp.specs.Requests.{addressee_of}
-use Rattle.fw_cmp.specs.Turns.{answer_of, outcome_of, asks_or_ends, sending, rests}
+use Rattle.fw_cmp_jobs.specs.declared.outcome.Outcome.{Outcome}
+use Rattle.fw_cmp_jobs.specs.declared.outcome.Outcome.TheVariants.{Restored}
+use Rattle.fw_cmp_jobs.specs.Requests.{addressee_of}
+use Rattle.fw_cmp.specs.Turns.{answer_of, asks_or_ends, sending, rests}
+use Rattle.fw_cmp_jobs.specs.Jobs.{outcome_of}
 use Rattle.fw_model_reclaim.specs.Whole.{EndsRestored, is_overtaken}
 use Rattle.fw_model_reclaim.proofs.Nexts.{same_slots, going_at}
 use Rattle.fw_model_reclaim.proofs.Picks.{Picks, Rests, Takes, picks}
@@ -41,7 +59,7 @@ asked_ends l now d c p j s i n conn f h same m fits on own e = go (access_of j t
         sym out ∙ made_restored now j.slot j t conn f is.1 made.0
     go (Some a) some e = absurd (never_ends (addressee_of d a.target) a i n e)
 
-resting_ends : (d : Directory) (w : List Task) (i : ℕ) (n : Outcome) → rests d w ≡ End i n → ⊥
+resting_ends : (d : Directory) (w : List WaitingJob) (i : ℕ) (n : Outcome) → rests d w ≡ End i n → ⊥
 resting_ends d [] i n e = grind (arith, e)
 resting_ends d (t ∷ ts) i n e = grind (arith, e)
 

@@ -1,7 +1,7 @@
 -- Which job becomes current, and the controller after its whole turn.
 use Rattle.fw_model_reclaim.proofs.Common.{◌≡◌, inl, inr, ℕ, Bool, true, false, Option, Some, None, List, [], ◌∷◌}
 use Rattle.fw_model_reclaim.proofs.Common.{refl, sym, ap, subst, arith, cond, ltb, get_or, nat_tests, Account, Slot, Free, Making}
-use Rattle.fw_model_reclaim.proofs.Common.{Standing, Restoring, Gone, Nothing, Asking, Directory, Task, Job, Restore}
+use Rattle.fw_model_reclaim.proofs.Common.{Established, Restoring, Gone, Nothing, Asking, Directory, WaitingJob, Job, Restore}
 use Rattle.fw_model_reclaim.proofs.Common.{Break, Begin, ControllerState, slot_at, break_waits, breaks_slot, is_making, to_restore}
 use Rattle.fw_model_reclaim.proofs.Common.{takes_next, MatchesFor, CourseFor}
 use Rattle.std.proofs.Common.{zero, suc}
@@ -12,7 +12,7 @@ use Rattle.std.specs.Prelude.{remove, ⊤}
 use Rattle.std.specs.List.{list_any}
 use Rattle.std.proofs.lemmas.List.Folds.{list_any_at}
 use Rattle.fw_terms.proofs.Tables.{IsFirst, find_to_is}
-use Rattle.fw_cmp.specs.Controllers.{is_restoring}
+use Rattle.fw_cmp_jobs.specs.Slots.{is_restoring}
 use Rattle.fw_cmp.specs.Jobs.{current_for, takes_task, slot_of_task, is_break, waiting_break, takes_making, takes_waiting, is_empty}
 use Rattle.fw_model_reclaim.specs.Restores.{BreaksFit}
 use Rattle.fw_model_reclaim.proofs.Begins.{OnCourseOrBegins}
@@ -28,7 +28,7 @@ pub data Picks (l : Account) (c p : ControllerState) : Type 0 where
       → NoMoreBreaks c p → (l.reclaiming ≡ true → j.purpose ≡ Break → break_waits c j.slot ≡ true) → Picks l c p
 
 abbrev pub IsBroken : Slot → Type 0
-IsBroken (Standing conn f) = ⊤
+IsBroken (Established conn f) = ⊤
 IsBroken (Gone conn) = ⊤
 IsBroken _ = ⊥
 
@@ -37,7 +37,7 @@ slot_picked : (l : Account) (c p : ControllerState) (i : ℕ) (x : Slot) → p.c
     → (l.reclaiming ≡ true → IsBroken x → break_waits c i ≡ true) → Picks l c (record p { current = current_for i x })
 slot_picked l c p i Free idle same fewer e busy broken = Rests refl same fewer
 slot_picked l c p i (Making conn asked overhead) idle same fewer e busy broken = Takes _ refl same e (λ runs. absurd (grind (arith, busy runs))) fewer (λ runs why. absurd (grind (arith, why)))
-slot_picked l c p i (Standing conn f) idle same fewer e busy broken = Takes _ refl same (inl (f, e)) (λ runs. inr (refl, refl)) fewer (λ runs why. broken runs tt)
+slot_picked l c p i (Established conn f) idle same fewer e busy broken = Takes _ refl same (inl (f, e)) (λ runs. inr (refl, refl)) fewer (λ runs why. broken runs tt)
 slot_picked l c p i (Restoring conn f over) idle same fewer e busy broken =
     Takes _ refl same (f, over, e, refl) (λ runs. inl (subst (λ x. CourseFor Restore x Begin) (sym e) (begins over))) fewer (λ runs why. absurd (grind (arith, why)))
   where
@@ -48,7 +48,7 @@ slot_picked l c p i (Gone conn) idle same fewer e busy broken = Takes _ refl sam
 
 -- ---- a waiting job is taken from the list
 
-none_removed : (test : Task → Bool) (xs : List Task) (k : ℕ) → list_any test xs ≡ false → list_any test (remove xs k) ≡ false
+none_removed : (test : WaitingJob → Bool) (xs : List WaitingJob) (k : ℕ) → list_any test xs ≡ false → list_any test (remove xs k) ≡ false
 none_removed test [] zero e = refl
 none_removed test [] (suc k) e = refl
 none_removed test (x ∷ xs) zero e = grind (arith, e)
@@ -65,13 +65,13 @@ restoring_unmade (Restoring conn f over) e = refl
 restoring_unmade _ e = absurd (grind arith)
 
 restoring_whole : (x : Slot) → is_restoring x ≡ true → IsBroken x → ⊥
-restoring_whole (Standing conn f) e is = grind (arith, e)
+restoring_whole (Established conn f) e is = grind (arith, e)
 restoring_whole (Gone conn) e is = grind (arith, e)
 restoring_whole _ e is = is
 
 break_taken : (l : Account) (c : ControllerState) (k : ℕ) → c.current ≡ Nothing → BreaksFit c → waiting_break c ≡ Some k → Picks l c (takes_task c k)
 break_taken l c k idle fits e =
-    let none : Task = record { slot = 0; breaks = false } in
+    let none : WaitingJob = record { slot = 0; breaks = false } in
     let at = position-Some is_break c.waiting k none e in
     let is = slice_get-get_or c.waiting k none at.0 in
     let same : slot_of_task (slice_get c.waiting k) ≡ (get_or c.waiting k none).slot = ap slot_of_task is in
@@ -85,7 +85,7 @@ making_taken l now d c idle early = go c.waiting
     begins true e = Rests idle refl (λ i none. none)
     begins false e = task_taken l c 0 idle (λ runs. absurd (grind (arith, early runs, e))) (λ runs. absurd (grind (arith, early runs, e)))
 
-    go : (w : List Task) → Picks l c (cond (is_empty w) c (cond (ltb now d.over_at) c (takes_task c 0)))
+    go : (w : List WaitingJob) → Picks l c (cond (is_empty w) c (cond (ltb now d.over_at) c (takes_task c 0)))
     go [] = Rests idle refl (λ i none. none)
     go (t ∷ ts) = begins (ltb now d.over_at) refl
 

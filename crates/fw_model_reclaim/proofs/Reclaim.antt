@@ -1,11 +1,11 @@
 -- The reclaim theorem.
 use Rattle.fw_model_reclaim.proofs.Common.{◌≡◌, ◌≢◌, ◌⊎◌, inl, inr, ℕ, Bool, true, false, Option, Some, None, List, [], ◌∷◌, sym, ap, subst, ◌∙◌, arith, Ok, cases_eq, nat_tests, ResetEntry, Account}
-use Rattle.fw_model_reclaim.proofs.Common.{Connection, Flow, Slot, Free, Standing, Restoring, StartFault, ControllerState}
+use Rattle.fw_model_reclaim.proofs.Common.{Connection, Flow, Slot, Free, Established, Restoring, StartFault, ControllerState}
 use Rattle.fw_model_reclaim.proofs.Common.{first_state, slot_at, with_slot, breaks_slot, is_current_slot, after_hear, started}
 use Rattle.fw_model_reclaim.proofs.Common.{break_started, break_fault, with_task, after_next, Becomes, Restores, IsComplete, Stands, IsUnbroken, World, CanReclaim, Change, Turn, Answer, BusReset}
 use Rattle.fw_model_reclaim.proofs.Common.{SecondOver, Death, NewConnection, BreakOf, Withholding, Elsewhere, Happens}
 use Rattle.std.proofs.lemmas.List.Folds.{list_any-append}
-use Rattle.fw_cmp.specs.Controllers.{is_restoring}
+use Rattle.fw_cmp_jobs.specs.Slots.{is_restoring}
 use Rattle.fw_model_reclaim.specs.Whole.{HasFinished, IsHarmless, AreHarmless, Reclaims, is_unheard}
 use Rattle.fw_model_reclaim.specs.Worlds.{IsReset, Path}
 use Rattle.fw_model_reclaim.proofs.AfterReset.{begun_in_second}
@@ -29,8 +29,8 @@ safe_new c k x i conn f free safe = record {
     other : (y : Slot) → slot_at c i ≡ y → y ≢ Free → slot_at (with_slot c k x) i ≡ y
     other y e used = slot_set_other c k i x (λ at. used (sym e ∙ (ap (slot_at c) at ∙ free))) ∙ e
 
-    go : (slot_at c i ≡ Standing conn f) ⊎ (slot_at c i ≡ Restoring conn f false) → (slot_at (with_slot c k x) i ≡ Standing conn f) ⊎ (slot_at (with_slot c k x) i ≡ Restoring conn f false)
-    go (inl e) = inl (other (Standing conn f) e (λ z. grind (arith, z)))
+    go : (slot_at c i ≡ Established conn f) ⊎ (slot_at c i ≡ Restoring conn f false) → (slot_at (with_slot c k x) i ≡ Established conn f) ⊎ (slot_at (with_slot c k x) i ≡ Restoring conn f false)
+    go (inl e) = inl (other (Established conn f) e (λ z. grind (arith, z)))
     go (inr e) = inr (other (Restoring conn f false) e (λ z. grind (arith, z)))
 
 -- a break of another slot
@@ -105,13 +105,13 @@ safe_path w (x ∷ changes) v c i conn f h runs p ok safe = safe_path p.0 change
 
 -- a connection that is not to be restored any more stands
 pub record StandsAlone (c : ControllerState) (i : ℕ) (conn : Connection) (f : Flow) : Type 0 where
-  pub slot : slot_at c i ≡ Standing conn f
+  pub slot : slot_at c i ≡ Established conn f
   pub idle : is_current_slot c.current i ≡ false
 
 whole_again : (l : Account) (c : ControllerState) (i : ℕ) (conn : Connection) (f : Flow) → Restores l c → HasFinished c → IsSafe c i conn f → StandsAlone c i conn f
 whole_again l c i conn f r done safe = go safe.slot
   where
-    go : (slot_at c i ≡ Standing conn f) ⊎ (slot_at c i ≡ Restoring conn f false) → StandsAlone c i conn f
+    go : (slot_at c i ≡ Established conn f) ⊎ (slot_at c i ≡ Restoring conn f false) → StandsAlone c i conn f
     go (inl e) = record { slot = e; idle = stands_idle c i conn f r.matches safe.unbroken.runs e }
     go (inr e) = let still : is_restoring (slot_at c i) ≡ true = ap is_restoring e in absurd (grind (arith, still, done i))
 

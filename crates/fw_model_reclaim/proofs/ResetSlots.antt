@@ -1,6 +1,6 @@
 -- Which slots are to be restored after a bus reset, and why.
 use Rattle.fw_model_reclaim.proofs.Common.{◌≡◌, ◌≢◌, ◌⊎◌, inl, inr, ℕ, ◌<◌, false, length, refl, sym, ap}
-use Rattle.fw_model_reclaim.proofs.Common.{◌∙◌, arith, cases_eq, nat_tests, Connection, Flow, Slot, Free, Making, Standing, Restoring, Gone}
+use Rattle.fw_model_reclaim.proofs.Common.{◌∙◌, arith, cases_eq, nat_tests, Connection, Flow, Slot, Free, Making, Established, Restoring, Gone}
 use Rattle.fw_model_reclaim.proofs.Common.{Current, Nothing, Asking, Hearing, Overtaken, Job, Purpose, Make, Restore, Break, Stage, Made, Ended, ControllerState, slot_at, is_current_slot, overtaken}
 use Rattle.fw_model_reclaim.proofs.Common.{current_reset, lost_reset, slot_reset, after_reset, after_lost_reset, IsAtSlot, IsAtWork, MatchesFor, CurrentMatches}
 use Rattle.fw_cmp.specs.Resets.{interrupted, decided}
@@ -26,7 +26,7 @@ overtaken_other epoch c j _ i ne = interrupted_other epoch c j j.purpose i refl 
 -- Why a slot is to be restored in its own second after a reset: its connection stood, or was to be restored in its own
 -- second before the reset, or was just made.
 pub data Origin (c : ControllerState) (i : ℕ) (conn : Connection) (f : Flow) : Type 0 where
-  Stood : slot_at c i ≡ Standing conn f → is_current_slot c.current i ≡ false → Origin c i conn f
+  Stood : slot_at c i ≡ Established conn f → is_current_slot c.current i ≡ false → Origin c i conn f
   WasOwn : slot_at c i ≡ Restoring conn f false → Origin c i conn f
   JustMade : (j : Job) → (c.current ≡ Asking j (Made f)) ⊎ (c.current ≡ Hearing j (Made f)) → j.slot ≡ i → j.connection ≡ conn → Origin c i conn f
 
@@ -34,10 +34,10 @@ pub data Origin (c : ControllerState) (i : ℕ) (conn : Connection) (f : Flow) :
 abbrev pub IsBack : ControllerState → Job → Stage → Connection → Flow → Type 0
 IsBack c j s conn f = (slot_at c j.slot ≡ Restoring conn f false) ⊎ ((s ≡ Made f) × (j.connection ≡ conn))
 
-reset_twice : (x : Slot) (conn : Connection) (f : Flow) → slot_reset x ≡ Restoring conn f false → (x ≡ Standing conn f) ⊎ (x ≡ Restoring conn f false)
+reset_twice : (x : Slot) (conn : Connection) (f : Flow) → slot_reset x ≡ Restoring conn f false → (x ≡ Established conn f) ⊎ (x ≡ Restoring conn f false)
 reset_twice Free conn f e = absurd (grind arith)
 reset_twice (Making k a o) conn f e = absurd (grind arith)
-reset_twice (Standing k g) conn f e = inl (grind arith)
+reset_twice (Established k g) conn f e = inl (grind arith)
 reset_twice (Restoring k g o) conn f e = inr e
 reset_twice (Gone k) conn f e = absurd (grind arith)
 
@@ -86,7 +86,7 @@ working_origin epoch c j s i conn f at lt m is = go (cases_eq i j.slot)
     own e (inl was) = WasOwn (ap (slot_at c) e ∙ was)
     own e (inr made) = JustMade j (made_at_work c.current j s f at made.0) (sym e) made.1
 
-    other : i ≢ j.slot → (slot_at c i ≡ Standing conn f) ⊎ (slot_at c i ≡ Restoring conn f false) → Origin c i conn f
+    other : i ≢ j.slot → (slot_at c i ≡ Established conn f) ⊎ (slot_at c i ≡ Restoring conn f false) → Origin c i conn f
     other ne (inl stood) = Stood stood (idle_slot c.current j s i at ne)
     other ne (inr was) = WasOwn was
 
@@ -97,7 +97,7 @@ working_origin epoch c j s i conn f at lt m is = go (cases_eq i j.slot)
 resting_origin : (c : ControllerState) (i : ℕ) (conn : Connection) (f : Flow) → is_current_slot c.current i ≡ false → slot_reset (slot_at c i) ≡ Restoring conn f false → Origin c i conn f
 resting_origin c i conn f idle is = go (reset_twice (slot_at c i) conn f is)
   where
-    go : (slot_at c i ≡ Standing conn f) ⊎ (slot_at c i ≡ Restoring conn f false) → Origin c i conn f
+    go : (slot_at c i ≡ Established conn f) ⊎ (slot_at c i ≡ Restoring conn f false) → Origin c i conn f
     go (inl stood) = Stood stood idle
     go (inr was) = WasOwn was
 
@@ -121,7 +121,7 @@ lost_working epoch c j s i conn f at lt m is = go (cases_eq i j.slot)
     own e (inl was) = WasOwn (ap (slot_at c) e ∙ was)
     own e (inr made) = JustMade j (made_at_work c.current j s f at made.0) (sym e) made.1
 
-    other : i ≢ j.slot → (slot_at c i ≡ Standing conn f) ⊎ (slot_at c i ≡ Restoring conn f false) → Origin c i conn f
+    other : i ≢ j.slot → (slot_at c i ≡ Established conn f) ⊎ (slot_at c i ≡ Restoring conn f false) → Origin c i conn f
     other ne (inl stood) = Stood stood (idle_slot c.current j s i at ne)
     other ne (inr was) = WasOwn was
 

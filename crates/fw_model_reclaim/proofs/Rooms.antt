@@ -1,7 +1,7 @@
 -- A restoring in its own second finds room at its plugs.
 use Rattle.fw_model_reclaim.proofs.Common.{PlugAt, ConnectionKind, ◌≡◌, ℕ, ◌<◌, Bool, true, false, Some, not, ◌&&◌}
 use Rattle.fw_model_reclaim.proofs.Common.{refl, ap, ◌∙◌, arith, nat_tests, sum_to_same, sum_to_zero, Connection, Flow, Slot, Free}
-use Rattle.fw_model_reclaim.proofs.Common.{Making, Standing, Restoring, Gone, Hearing, Job, Stage, kind_of, output_of, input_of, ControllerState, slot_at, count_of, due_to, Side, Output, Input}
+use Rattle.fw_model_reclaim.proofs.Common.{Making, Established, Restoring, Gone, Hearing, Job, Stage, kind_of, output_of, input_of, ControllerState, slot_at, count_of, due_to, Side, Output, Input}
 use Rattle.fw_terms.proofs.Tables.{sum_to_at}
 use Rattle.fw_cmp.specs.Holdings.{is_at_output, is_at_input, is_back_at_output, is_back_at_input, reclaims_output, reclaims_input, outputs_wanted, inputs_wanted}
 use Rattle.fw_model_reclaim.specs.Due.{held_by, wanted_by}
@@ -40,7 +40,7 @@ input_due c j s f q lt e is has away = omega (arith, input_wanted c j s f q lt e
 unwanted_output : (x : Slot) (kind : ConnectionKind) (q : PlugAt) → ((conn : Connection) (f : Flow) → x ≡ Restoring conn f false → ⊥) → reclaims_output x kind q ≡ false
 unwanted_output Free kind q never = refl
 unwanted_output (Making conn asked overhead) kind q never = refl
-unwanted_output (Standing conn f) kind q never = refl
+unwanted_output (Established conn f) kind q never = refl
 unwanted_output (Restoring conn f true) kind q never = refl
 unwanted_output (Restoring conn f false) kind q never = absurd (never conn f refl)
 unwanted_output (Gone conn) kind q never = refl
@@ -48,7 +48,7 @@ unwanted_output (Gone conn) kind q never = refl
 unwanted_input : (x : Slot) (kind : ConnectionKind) (q : PlugAt) → ((conn : Connection) (f : Flow) → x ≡ Restoring conn f false → ⊥) → reclaims_input x kind q ≡ false
 unwanted_input Free kind q never = refl
 unwanted_input (Making conn asked overhead) kind q never = refl
-unwanted_input (Standing conn f) kind q never = refl
+unwanted_input (Established conn f) kind q never = refl
 unwanted_input (Restoring conn f true) kind q never = refl
 unwanted_input (Restoring conn f false) kind q never = absurd (never conn f refl)
 unwanted_input (Gone conn) kind q never = refl

@@ -1,10 +1,11 @@
 -- A connection that no break is asked of is not lost in a reclaim second: by turns and answers.
 use Rattle.fw_model_reclaim.proofs.Common.{◌≡◌, ◌≢◌, ◌⊎◌, inl, inr, ℕ, ◌<◌, Bool, true, false, Option, Some, None, length, refl, sym, ap, subst, ◌∙◌, arith, eqb, cases_eq, nat_tests, Reply, Account}
-use Rattle.fw_model_reclaim.proofs.Common.{Connection, Flow, Slot, Standing, Restoring, Current, Nothing, Asking, Hearing, Overtaken}
+use Rattle.fw_model_reclaim.proofs.Common.{Connection, Flow, Slot, Established, Restoring, Current, Nothing, Asking, Hearing, Overtaken}
 use Rattle.fw_model_reclaim.proofs.Common.{Directory, Job, Purpose, Make, Restore, Break, Access, Stage, Begin}
 use Rattle.fw_model_reclaim.proofs.Common.{Made, ControllerState, slot_at, with_slot, break_waits, IsHeard, restoring_job, StageFits, IsReached, access_of, heard, after_hear, slot_after, after_asking}
 use Rattle.fw_model_reclaim.proofs.Common.{after_answer, after_next, resumed, takes_next, to_restore, IsAtSlot, MatchesFor, CourseFor, IsOnCourse, CurrentMatches, CurrentCourse, IsUnbroken, IsAtWork}
-use Rattle.fw_cmp.specs.Controllers.{is_break_at, break_runs}
+use Rattle.fw_cmp.specs.Controllers.{break_runs}
+use Rattle.fw_cmp_jobs.specs.Slots.{is_break_at}
 use Rattle.fw_model_reclaim.proofs.Ends.{ends_made}
 use Rattle.fw_model_reclaim.proofs.Nexts.{MeetsTurn, same_slots, going_at, taken_within}
 use Rattle.fw_model_reclaim.proofs.Picks.{Picks, Rests, Takes, picks, NoMoreBreaks}
@@ -12,7 +13,7 @@ use Rattle.fw_model_reclaim.proofs.Slots.{slot_set_same, slot_set_other}
 
 -- the connection stands in its slot or is to be restored in its own second, and no break of it is asked for
 pub record IsSafe (c : ControllerState) (i : ℕ) (conn : Connection) (f : Flow) : Type 0 where
-  pub slot : (slot_at c i ≡ Standing conn f) ⊎ (slot_at c i ≡ Restoring conn f false)
+  pub slot : (slot_at c i ≡ Established conn f) ⊎ (slot_at c i ≡ Restoring conn f false)
   pub unbroken : IsUnbroken c i
 
 pub breaks_is : (j : Job) (i : ℕ) (why : Purpose) → j.purpose ≡ why → is_break_at j i ≡ elim why as (λ x. Bool) [ Make ↦ false | Restore ↦ false | Break ↦ eqb j.slot i ]
@@ -21,7 +22,7 @@ breaks_is j i why e = ap (λ w. elim w as (λ x. Bool) [ Make ↦ false | Restor
 -- ---- the job of the connection's slot
 
 -- a job at a slot that stands breaks it
-pub stands_broken : (j : Job) (why : Purpose) (x : Slot) (conn : Connection) (f : Flow) → MatchesFor why j x → x ≡ Standing conn f → why ≡ Break
+pub stands_broken : (j : Job) (why : Purpose) (x : Slot) (conn : Connection) (f : Flow) → MatchesFor why j x → x ≡ Established conn f → why ≡ Break
 stands_broken j Make x conn f m e = absurd (grind (arith, m, e))
 stands_broken j Restore x conn f m e = absurd (grind (arith, m.2, e))
 stands_broken j Break x conn f m e = refl
@@ -39,7 +40,7 @@ restores_it j Break x conn f over (inl m) e = absurd (grind (arith, m.1, e))
 restores_it j Break x conn f over (inr m) e = absurd (grind (arith, m, e))
 
 -- a job at the slot of a safe connection restores it
-pub safe_restores : (c : ControllerState) (j : Job) (i : ℕ) (conn : Connection) (f : Flow) → (slot_at c i ≡ Standing conn f) ⊎ (slot_at c i ≡ Restoring conn f false) → j.slot ≡ i
+pub safe_restores : (c : ControllerState) (j : Job) (i : ℕ) (conn : Connection) (f : Flow) → (slot_at c i ≡ Established conn f) ⊎ (slot_at c i ≡ Restoring conn f false) → j.slot ≡ i
     → is_break_at j i ≡ false → MatchesFor j.purpose j (slot_at c j.slot) → (slot_at c j.slot ≡ Restoring conn f false) × (j ≡ restoring_job j.slot conn f)
 safe_restores c j i conn f (inl stands) at unbroken m =
     let why = stands_broken j j.purpose (slot_at c j.slot) conn f m (ap (slot_at c) at ∙ stands) in
@@ -51,11 +52,11 @@ safe_restores c j i conn f (inr own) at unbroken m = let here : slot_at c j.slot
 
 -- it makes its request, or ends; if it is at the connection's slot, it ends only with the connection
 goes_safe : (c p : ControllerState) (j : Job) (t : Stage) (o : Option Access) (i : ℕ) (conn : Connection) (f : Flow) → length c.slots ≡ 32 → p.slots ≡ c.slots → j.slot < 32
-    → (slot_at c i ≡ Standing conn f) ⊎ (slot_at c i ≡ Restoring conn f false) → break_waits p i ≡ false → is_break_at j i ≡ false → (j.slot ≡ i → o ≡ None → (t ≡ Made f) × (j.connection ≡ conn))
+    → (slot_at c i ≡ Established conn f) ⊎ (slot_at c i ≡ Restoring conn f false) → break_waits p i ≡ false → is_break_at j i ≡ false → (j.slot ≡ i → o ≡ None → (t ≡ Made f) × (j.connection ≡ conn))
     → IsSafe (after_asking (record p { current = Asking j t }) j t o) i conn f
 goes_safe c p j t (Some a) i conn f few same lt slot waits breaks made = record { slot = go slot; unbroken = record { waits = waits; runs = breaks } }
   where
-    go : (slot_at c i ≡ Standing conn f) ⊎ (slot_at c i ≡ Restoring conn f false) → (slot_at p i ≡ Standing conn f) ⊎ (slot_at p i ≡ Restoring conn f false)
+    go : (slot_at c i ≡ Established conn f) ⊎ (slot_at c i ≡ Restoring conn f false) → (slot_at p i ≡ Established conn f) ⊎ (slot_at p i ≡ Restoring conn f false)
     go (inl e) = inl (same_slots c p i same ∙ e)
     go (inr e) = inr (same_slots c p i same ∙ e)
 goes_safe c p j t None i conn f few same lt slot waits breaks made = record { slot = by (cases_eq i j.slot); unbroken = record { waits = waits; runs = refl } }
@@ -63,15 +64,15 @@ goes_safe c p j t None i conn f few same lt slot waits breaks made = record { sl
     now : Slot
     now = slot_after (record p { current = Asking j t }) j t
 
-    made_slot : (t ≡ Made f) × (j.connection ≡ conn) → now ≡ Standing conn f
-    made_slot m = ap (λ x. slot_after (record p { current = Asking j t }) j x) m.0 ∙ ap (λ k. Standing k f) m.1
+    made_slot : (t ≡ Made f) × (j.connection ≡ conn) → now ≡ Established conn f
+    made_slot m = ap (λ x. slot_after (record p { current = Asking j t }) j x) m.0 ∙ ap (λ k. Established k f) m.1
 
-    by : (i ≡ j.slot) ⊎ (i ≢ j.slot) → (slot_at (with_slot p j.slot now) i ≡ Standing conn f) ⊎ (slot_at (with_slot p j.slot now) i ≡ Restoring conn f false)
+    by : (i ≡ j.slot) ⊎ (i ≢ j.slot) → (slot_at (with_slot p j.slot now) i ≡ Established conn f) ⊎ (slot_at (with_slot p j.slot now) i ≡ Restoring conn f false)
     by (inl e) = inl (ap (slot_at (with_slot p j.slot now)) e ∙ (slot_set_same p j.slot now (subst (λ x. j.slot < length x) (sym same) (omega arith)) ∙ made_slot (made (sym e) refl)))
     by (inr ne) = other slot
       where
-        other : (slot_at c i ≡ Standing conn f) ⊎ (slot_at c i ≡ Restoring conn f false)
-            → (slot_at (with_slot p j.slot now) i ≡ Standing conn f) ⊎ (slot_at (with_slot p j.slot now) i ≡ Restoring conn f false)
+        other : (slot_at c i ≡ Established conn f) ⊎ (slot_at c i ≡ Restoring conn f false)
+            → (slot_at (with_slot p j.slot now) i ≡ Established conn f) ⊎ (slot_at (with_slot p j.slot now) i ≡ Restoring conn f false)
         other (inl e) = inl (slot_set_other p j.slot i now ne ∙ (same_slots c p i same ∙ e))
         other (inr e) = inr (slot_set_other p j.slot i now ne ∙ (same_slots c p i same ∙ e))
 
@@ -129,7 +130,7 @@ picked_safe : (l : Account) (now : ℕ) (d : Directory) (c p : ControllerState) 
 picked_safe l now d c p i conn f h safe (Rests e same fewer) =
     subst (λ x. IsSafe (after_answer (going_at p d x)) i conn f) (sym e) (record { slot = go safe.slot; unbroken = record { waits = fewer i safe.unbroken.waits; runs = refl } })
   where
-    go : (slot_at c i ≡ Standing conn f) ⊎ (slot_at c i ≡ Restoring conn f false) → (slot_at p i ≡ Standing conn f) ⊎ (slot_at p i ≡ Restoring conn f false)
+    go : (slot_at c i ≡ Established conn f) ⊎ (slot_at c i ≡ Restoring conn f false) → (slot_at p i ≡ Established conn f) ⊎ (slot_at p i ≡ Restoring conn f false)
     go (inl s) = inl (same_slots c p i same ∙ s)
     go (inr s) = inr (same_slots c p i same ∙ s)
 picked_safe l now d c p i conn f h safe (Takes j e same m course fewer broken) =

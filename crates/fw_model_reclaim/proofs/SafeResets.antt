@@ -1,11 +1,12 @@
 -- A connection that no break is asked of is not lost at a bus reset.
 use Rattle.fw_model_reclaim.proofs.Common.{◌≡◌, ◌≢◌, ◌⊎◌, inl, inr, ℕ, ◌<◌, Bool, true, false, length, refl, sym}
-use Rattle.fw_model_reclaim.proofs.Common.{ap, subst, ◌∙◌, arith, eqb, cases_eq, nat_tests, Account, Connection, Flow, Slot, Standing}
+use Rattle.fw_model_reclaim.proofs.Common.{ap, subst, ◌∙◌, arith, eqb, cases_eq, nat_tests, Account, Connection, Flow, Slot, Established}
 use Rattle.fw_model_reclaim.proofs.Common.{Restoring, Current, Nothing, Asking, Hearing, Overtaken, Job, Purpose, Make, Restore, Break, Stage, Made, Ended, ControllerState, slot_at, breaks_slot}
 use Rattle.fw_model_reclaim.proofs.Common.{restoring_job, is_current_slot, overtaken, current_reset, lost_reset, slot_reset, after_reset, after_lost_reset, state_reset, IsAtSlot, Restores, MatchesFor}
 use Rattle.fw_model_reclaim.proofs.Common.{CourseFor, IsOnCourse, CurrentMatches, CurrentCourse, IsUnbroken, IsComplete, Stands, IsAtWork}
 use Rattle.std.specs.List.{list_any}
-use Rattle.fw_cmp.specs.Controllers.{is_break_at, break_runs}
+use Rattle.fw_cmp.specs.Controllers.{break_runs}
+use Rattle.fw_cmp_jobs.specs.Slots.{is_break_at}
 use Rattle.fw_cmp.specs.Resets.{interrupted}
 use Rattle.fw_model_reclaim.specs.Whole.{IsMade, is_unheard}
 use Rattle.fw_model_reclaim.proofs.AfterReset.{interrupted_for, decided_for, decided_current}
@@ -87,7 +88,7 @@ unbroken_after epoch c i u = record {
 -- ---- a controller
 
 -- no job is at a slot that stands and is not being broken
-pub stands_idle : (c : ControllerState) (i : ℕ) (conn : Connection) (f : Flow) → CurrentMatches c c.current → break_runs c.current i ≡ false → slot_at c i ≡ Standing conn f
+pub stands_idle : (c : ControllerState) (i : ℕ) (conn : Connection) (f : Flow) → CurrentMatches c c.current → break_runs c.current i ≡ false → slot_at c i ≡ Established conn f
     → is_current_slot c.current i ≡ false
 stands_idle c i conn f m unbroken e = go c.current m unbroken
   where
@@ -129,8 +130,8 @@ heard_safe : (epoch : ℕ) (l : Account) (c : ControllerState) (i : ℕ) (conn :
     → IsSafe (after_reset epoch c) i conn f
 heard_safe epoch l c i conn f r few at safe = record { slot = inr (go safe.slot); unbroken = unbroken_after epoch c i safe.unbroken }
   where
-    go : (slot_at c i ≡ Standing conn f) ⊎ (slot_at c i ≡ Restoring conn f false) → slot_at (after_reset epoch c) i ≡ Restoring conn f false
-    go (inl e) = after_slot epoch c i (Standing conn f) (Restoring conn f false) (idle_slot epoch c c.current i (stands_idle c i conn f r.matches safe.unbroken.runs e) ∙ e) refl
+    go : (slot_at c i ≡ Established conn f) ⊎ (slot_at c i ≡ Restoring conn f false) → slot_at (after_reset epoch c) i ≡ Restoring conn f false
+    go (inl e) = after_slot epoch c i (Established conn f) (Restoring conn f false) (idle_slot epoch c c.current i (stands_idle c i conn f r.matches safe.unbroken.runs e) ∙ e) refl
     go (inr e) = after_slot epoch c i (Restoring conn f false) (Restoring conn f false) (own_reset epoch l c i conn f r few at safe.unbroken.runs e) refl
 
 -- ---- a connection that was whole
@@ -150,7 +151,7 @@ pub record IsOwn (c : ControllerState) (i : ℕ) (conn : Connection) (f : Flow) 
 heard_whole : (epoch : ℕ) (c : ControllerState) (i : ℕ) (conn : Connection) (f : Flow) → length c.slots ≡ 32 → IsAtSlot c.current → IsUnbroken c i → IsComplete c i conn f
     → IsOwn (after_reset epoch c) i conn f
 heard_whole epoch c i conn f few at u (Stands e idle) = record {
-  slot = after_slot epoch c i (Standing conn f) (Restoring conn f false) (idle_slot epoch c c.current i idle ∙ e) refl;
+  slot = after_slot epoch c i (Established conn f) (Restoring conn f false) (idle_slot epoch c c.current i idle ∙ e) refl;
   unbroken = unbroken_after epoch c i u;
 }
 heard_whole epoch c i conn f few at u (IsMade j work slot same) = record {
@@ -214,8 +215,8 @@ lost_own epoch l c i conn f r unbroken own = go c.current unbroken r.matches
 lost_safe : (epoch : ℕ) (l : Account) (c : ControllerState) (i : ℕ) (conn : Connection) (f : Flow) → Restores l c → IsSafe c i conn f → IsSafe (after_lost_reset epoch c) i conn f
 lost_safe epoch l c i conn f r safe = record { slot = inr (go safe.slot); unbroken = lost_unbroken epoch c i safe.unbroken }
   where
-    go : (slot_at c i ≡ Standing conn f) ⊎ (slot_at c i ≡ Restoring conn f false) → slot_at (after_lost_reset epoch c) i ≡ Restoring conn f false
-    go (inl e) = lost_slot epoch c i (Standing conn f) (Restoring conn f false) (lost_idle epoch c c.current i (stands_idle c i conn f r.matches safe.unbroken.runs e) ∙ e) refl
+    go : (slot_at c i ≡ Established conn f) ⊎ (slot_at c i ≡ Restoring conn f false) → slot_at (after_lost_reset epoch c) i ≡ Restoring conn f false
+    go (inl e) = lost_slot epoch c i (Established conn f) (Restoring conn f false) (lost_idle epoch c c.current i (stands_idle c i conn f r.matches safe.unbroken.runs e) ∙ e) refl
     go (inr e) = lost_slot epoch c i (Restoring conn f false) (Restoring conn f false) (lost_own epoch l c i conn f r safe.unbroken.runs e) refl
 
 pub safe_reset : (epoch : ℕ) (lost : Bool) (l : Account) (c : ControllerState) (i : ℕ) (conn : Connection) (f : Flow) → Restores l c → length c.slots ≡ 32 → IsAtSlot c.current → IsSafe c i conn f
@@ -227,7 +228,7 @@ safe_reset epoch false l c i conn f r few at safe = heard_safe epoch l c i conn 
 lost_whole : (epoch : ℕ) (c : ControllerState) (i : ℕ) (conn : Connection) (f : Flow) → is_current_slot c.current i ≡ false → IsUnbroken c i → IsComplete c i conn f
     → IsOwn (after_lost_reset epoch c) i conn f
 lost_whole epoch c i conn f idle u (Stands e _) = record {
-  slot = lost_slot epoch c i (Standing conn f) (Restoring conn f false) (lost_idle epoch c c.current i idle ∙ e) refl;
+  slot = lost_slot epoch c i (Established conn f) (Restoring conn f false) (lost_idle epoch c c.current i idle ∙ e) refl;
   unbroken = lost_unbroken epoch c i u;
 }
 lost_whole epoch c i conn f idle u (IsMade j (inl work) slot same) = absurd (grind (arith, nat_tests, sym (ap (λ x. is_current_slot x i) work) ∙ idle, slot))

@@ -1,7 +1,8 @@
 -- Controllers with no connection and no job: those beyond the devices.
 use Rattle.fw_model_reclaim.proofs.Common.{PlugAt, ConnectionKind, ◌≡◌, ℕ, ◌<◌, ◌≤◌, Bool, true, false, refl, sym, ap, subst, ◌∙◌, arith, sum_to_same, sum_to_zero, Free, ControllerState, first_state}
 use Rattle.fw_model_reclaim.proofs.Common.{slot_at, is_current_slot, slot_reset, current_reset, lost_reset, state_reset, Becomes, IsAtSlot, due_to, slot_due, Side, Output, Input}
-use Rattle.fw_cmp.specs.Resets.{slot_over, after_second, slots_reset}
+use Rattle.fw_cmp.specs.Resets.{after_second, slots_reset}
+use Rattle.fw_cmp_jobs.specs.Slots.{slot_over}
 use Rattle.fw_model_reclaim.specs.Due.{held_by}
 use Rattle.fw_model_reclaim.specs.Worlds.{IsUnused}
 use Rattle.fw_model_reclaim.proofs.Due.{resting, due_sum, due_resting}

@@ -1,5 +1,5 @@
 -- What follows for plugs, and for whole connections.
-use Rattle.fw_model_reclaim.proofs.Common.{Broadcast, ◌≡◌, ℕ, ◌<◌, sym, subst, ◌∙◌, arith, sum_to_same, Connection, Flow, Standing, kind_of, connections_of, held_in, Output, Input, connections_at}
+use Rattle.fw_model_reclaim.proofs.Common.{Broadcast, ◌≡◌, ℕ, ◌<◌, sym, subst, ◌∙◌, arith, sum_to_same, Connection, Flow, Established, kind_of, connections_of, held_in, Output, Input, connections_at}
 use Rattle.fw_model_reclaim.proofs.Common.{IsUnbroken, IsComplete, Stands, World, CanReclaim}
 use Rattle.fw_terms.proofs.Tables.{sum_to_plus}
 use Rattle.fw_model_controllers.specs.Together.{IsWhole as IsThere}
@@ -37,7 +37,7 @@ whole_there w c i conn f h whole = go whole
 
     go : IsComplete (w.controllers c) i conn f → IsThere w.account c conn f
     go (Stands e idle) =
-        let lt = within (w.controllers c) i (Standing conn f) x.slots e (standing_used conn f) in
+        let lt = within (w.controllers c) i (Established conn f) x.slots e (standing_used conn f) in
         let keeps = (h.each c).standing i conn f e idle in
         record {
           output = λ p has. (there (x.seated Output (kind_of conn) p) (output_counted (w.controllers c) i conn f p lt e idle has), keeps.output p has);

@@ -2,24 +2,24 @@
 use Rattle.std.specs.Prelude.{ℕ, ◌≢◌, IsTrue, IsFalse, ⊤}
 use Rattle.fw_terms.specs.declared.plug.PlugAt.{PlugAt}
 use Rattle.fw_model_account.specs.Account.{has_connection, is_withheld}
-use Rattle.fw_cmp.specs.declared.connection.Slot.{Slot}
-use Rattle.fw_cmp.specs.declared.connection.Slot.TheVariants.{Free, Making, Standing, Restoring, Gone}
+use Rattle.fw_cmp_jobs.specs.declared.connection.Slot.{Slot}
+use Rattle.fw_cmp_jobs.specs.declared.connection.Slot.TheVariants.{Free, Making, Established, Restoring, Gone}
 use Rattle.fw_cmp.specs.declared.current.Current.{Current}
 use Rattle.fw_cmp.specs.declared.current.Current.TheVariants.{Nothing, Asking, Hearing, Overtaken}
-use Rattle.fw_cmp.specs.declared.job.Job.{Job}
-use Rattle.fw_cmp.specs.declared.stage.Stage.{Stage}
-use Rattle.fw_cmp.specs.declared.stage.Stage.TheVariants.{SwapChannels, ReadBandwidth, SwapBandwidth, ConnectOutput, OverlayOutput, ReadInput, ConnectInput, Made}
-use Rattle.fw_cmp.specs.Connections.{is_listen}
+use Rattle.fw_cmp_jobs.specs.declared.job.Job.{Job}
+use Rattle.fw_cmp_jobs.specs.declared.stage.Stage.{Stage}
+use Rattle.fw_cmp_jobs.specs.declared.stage.Stage.TheVariants.{SwapChannels, ReadBandwidth, SwapBandwidth, ConnectOutput, OverlayOutput, ReadInput, ConnectInput, Made}
+use Rattle.fw_cmp_jobs.specs.Connections.{is_listen}
 use Rattle.fw_cmp.specs.Controllers.{ControllerState, slot_at}
-use Rattle.fw_cmp.specs.Decisions.{channel_or}
-use Rattle.fw_cmp.specs.Plugs.{channel_of}
+use Rattle.fw_cmp_jobs.specs.Decisions.{channel_or}
+use Rattle.fw_cmp_jobs.specs.Plugs.{channel_of}
 use Rattle.fw_model_reclaim.specs.Worlds.{World, Change, NewConnection}
 
 -- a connection that stands or is to be restored is on another channel; one that is to listen asks for another
 abbrev pub SlotAvoids : ℕ → Slot → Type 0
 SlotAvoids ch Free = ⊤
 SlotAvoids ch (Making conn asked overhead) = IsTrue (is_listen conn) → channel_or asked 63 ≢ ch
-SlotAvoids ch (Standing conn f) = f.channel ≢ ch
+SlotAvoids ch (Established conn f) = f.channel ≢ ch
 SlotAvoids ch (Restoring conn f over) = f.channel ≢ ch
 SlotAvoids ch (Gone conn) = ⊤
 

@@ -3,11 +3,11 @@
 use Rattle.fw_terms.specs.declared.plug.PlugAt.{PlugAt}
 use Rattle.fw_terms.specs.declared.plug.ConnectionKind.{ConnectionKind}
 use Rattle.std.specs.Prelude.{ℕ, ◌+◌, ◌<◌, ⊤, ◌&&◌, not, Bool, if◌then◌else◌}
-use Rattle.fw_cmp.specs.declared.connection.Connection.{Connection}
-use Rattle.fw_cmp.specs.declared.connection.Slot.{Slot}
+use Rattle.fw_cmp_jobs.specs.declared.connection.Connection.{Connection}
+use Rattle.fw_cmp_jobs.specs.declared.connection.Slot.{Slot}
 use Rattle.fw_cmp.specs.declared.current.Current.{Current}
 use Rattle.fw_cmp.specs.declared.current.Current.TheVariants.{Nothing, Asking, Hearing, Overtaken}
-use Rattle.fw_cmp.specs.declared.stage.Stage.{Stage}
+use Rattle.fw_cmp_jobs.specs.declared.stage.Stage.{Stage}
 use Rattle.fw_cmp.specs.Controllers.{ControllerState, count_of}
 use Rattle.fw_cmp.specs.Holdings.{has_output, has_input, is_at_output, is_at_input, stands_at_output, stands_at_input, reclaims_output, reclaims_input, is_back_at_output}
 use Rattle.fw_cmp.specs.Holdings.{is_back_at_input, current_outputs, current_inputs, is_current_slot, outputs_held, inputs_held, outputs_wanted, inputs_wanted}

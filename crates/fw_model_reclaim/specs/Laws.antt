@@ -4,14 +4,15 @@ use Rattle.fw_csr.specs.declared.reply.Reply.{Reply}
 use Rattle.fw_log_entry.specs.declared.entry.ResetEntry.{ResetEntry}
 use Rattle.fw_model_account.specs.Account.{Account}
 use Rattle.fw_model_account.specs.Fold.{no_account}
-use Rattle.fw_cmp.specs.declared.connection.Connection.{Connection}
-use Rattle.fw_cmp.specs.declared.connection.Flow.{Flow}
-use Rattle.fw_cmp.specs.declared.directory.Directory.{Directory}
-use Rattle.fw_cmp.specs.declared.request.Target.{Target}
-use Rattle.fw_cmp.specs.declared.stage.Stage.{Stage}
-use Rattle.fw_cmp.specs.Controllers.{first_state, restoring_job}
-use Rattle.fw_cmp.specs.Requests.{target_of}
-use Rattle.fw_cmp.specs.Stages.{hear_reply}
+use Rattle.fw_cmp_jobs.specs.declared.connection.Connection.{Connection}
+use Rattle.fw_cmp_jobs.specs.declared.connection.Flow.{Flow}
+use Rattle.fw_cmp_jobs.specs.declared.directory.Directory.{Directory}
+use Rattle.fw_cmp_jobs.specs.declared.request.Target.{Target}
+use Rattle.fw_cmp_jobs.specs.declared.stage.Stage.{Stage}
+use Rattle.fw_cmp.specs.Controllers.{first_state}
+use Rattle.fw_cmp_jobs.specs.Slots.{restoring_job}
+use Rattle.fw_cmp_jobs.specs.Requests.{target_of}
+use Rattle.fw_cmp_jobs.specs.Stages.{hear_reply}
 use Rattle.fw_model_controllers.specs.Registers.{IsAnswer}
 use Rattle.fw_model_controllers.specs.Together.{IsWhole as IsThere}
 use Rattle.fw_model_reclaim.specs.Avoids.{AvoidsWithheld, AsksElsewhere}

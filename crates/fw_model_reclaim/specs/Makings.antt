@@ -1,13 +1,13 @@
 -- The stages of a job that makes a connection, or makes it again.
 use Rattle.std.specs.Prelude.{Bool, true, false, IsTrue, ⊤}
-use Rattle.fw_cmp.specs.declared.connection.Connection.{Connection}
+use Rattle.fw_cmp_jobs.specs.declared.connection.Connection.{Connection}
 use Rattle.fw_cmp.specs.declared.current.Current.{Current}
 use Rattle.fw_cmp.specs.declared.current.Current.TheVariants.{Nothing, Asking, Hearing, Overtaken}
-use Rattle.fw_cmp.specs.declared.job.Purpose.{Purpose}
-use Rattle.fw_cmp.specs.declared.job.Purpose.TheVariants.{Make, Restore, Break}
-use Rattle.fw_cmp.specs.declared.stage.Stage.{Stage}
-use Rattle.fw_cmp.specs.declared.stage.Stage.TheVariants.{ReadInputToLeave, LeaveInput, ReadOutputToLeave, LeaveOutput}
-use Rattle.fw_cmp.specs.Connections.{is_point_to_point}
+use Rattle.fw_cmp_jobs.specs.declared.job.Purpose.{Purpose}
+use Rattle.fw_cmp_jobs.specs.declared.job.Purpose.TheVariants.{Make, Restore, Break}
+use Rattle.fw_cmp_jobs.specs.declared.stage.Stage.{Stage}
+use Rattle.fw_cmp_jobs.specs.declared.stage.Stage.TheVariants.{ReadInputToLeave, LeaveInput, ReadOutputToLeave, LeaveOutput}
+use Rattle.fw_cmp_jobs.specs.Connections.{is_point_to_point}
 
 -- It never leaves an input plug, and an output plug only if the input plug was refused.
 abbrev pub is_making_stage : Connection → Stage → Bool

@@ -3,24 +3,25 @@ use Rattle.std.specs.Prelude.{ℕ, slice_get, ◌≡◌, ◌⊎◌, Bool, true, 
 use Rattle.fw_terms.specs.declared.plug.PlugAt.{PlugAt}
 use Rattle.fw_model_account.specs.Account.{Account, has_connection}
 use Rattle.fw_model_account.specs.Network.{is_output, is_input}
-use Rattle.fw_cmp.specs.declared.connection.Connection.{Connection}
-use Rattle.fw_cmp.specs.declared.connection.Flow.{Flow}
-use Rattle.fw_cmp.specs.declared.connection.Slot.{Slot}
-use Rattle.fw_cmp.specs.declared.connection.Slot.TheVariants.{Making, Standing, Restoring, Gone}
-use Rattle.fw_cmp.specs.declared.current.Task.{Task}
+use Rattle.fw_cmp_jobs.specs.declared.connection.Connection.{Connection}
+use Rattle.fw_cmp_jobs.specs.declared.connection.Flow.{Flow}
+use Rattle.fw_cmp_jobs.specs.declared.connection.Slot.{Slot}
+use Rattle.fw_cmp_jobs.specs.declared.connection.Slot.TheVariants.{Making, Established, Restoring, Gone}
+use Rattle.fw_cmp.specs.declared.current.WaitingJob.{WaitingJob}
 use Rattle.fw_cmp.specs.declared.current.Current.{Current}
 use Rattle.fw_cmp.specs.declared.current.Current.TheVariants.{Nothing, Asking, Hearing, Overtaken}
-use Rattle.fw_cmp.specs.declared.job.Job.{Job}
-use Rattle.fw_cmp.specs.declared.job.Purpose.{Purpose}
-use Rattle.fw_cmp.specs.declared.job.Purpose.TheVariants.{Make, Restore, Break}
-use Rattle.fw_cmp.specs.declared.job.Then.{Then}
-use Rattle.fw_cmp.specs.declared.job.Then.TheVariants.{EndsAs, Again}
-use Rattle.fw_cmp.specs.declared.stage.Stage.{Stage}
-use Rattle.fw_cmp.specs.declared.stage.Stage.TheVariants.{Begin, ReadOutput, ReadChannels, SwapChannels, ReadBandwidth, SwapBandwidth, ConnectOutput}
-use Rattle.fw_cmp.specs.declared.stage.Stage.TheVariants.{OverlayOutput, ReadInput, ConnectInput, ReadInputToLeave, LeaveInput, ReadOutputToLeave, LeaveOutput}
-use Rattle.fw_cmp.specs.declared.stage.Stage.TheVariants.{ReadBandwidthToRelease, RaiseBandwidth, ReadChannelsToRelease, RestoreChannel, Made, Ended}
-use Rattle.fw_cmp.specs.Connections.{output_of, input_of, is_listen}
-use Rattle.fw_cmp.specs.Controllers.{ControllerState, slot_at, restoring_job, is_making}
+use Rattle.fw_cmp_jobs.specs.declared.job.Job.{Job}
+use Rattle.fw_cmp_jobs.specs.declared.job.Purpose.{Purpose}
+use Rattle.fw_cmp_jobs.specs.declared.job.Purpose.TheVariants.{Make, Restore, Break}
+use Rattle.fw_cmp_jobs.specs.declared.job.Then.{Then}
+use Rattle.fw_cmp_jobs.specs.declared.job.Then.TheVariants.{EndsAs, Again}
+use Rattle.fw_cmp_jobs.specs.declared.stage.Stage.{Stage}
+use Rattle.fw_cmp_jobs.specs.declared.stage.Stage.TheVariants.{Begin, ReadOutput, ReadChannels, SwapChannels, ReadBandwidth, SwapBandwidth, ConnectOutput}
+use Rattle.fw_cmp_jobs.specs.declared.stage.Stage.TheVariants.{OverlayOutput, ReadInput, ConnectInput, ReadInputToLeave, LeaveInput, ReadOutputToLeave, LeaveOutput}
+use Rattle.fw_cmp_jobs.specs.declared.stage.Stage.TheVariants.{ReadBandwidthToRelease, RaiseBandwidth, ReadChannelsToRelease, RestoreChannel, Made, Ended}
+use Rattle.fw_cmp_jobs.specs.Connections.{output_of, input_of, is_listen}
+use Rattle.fw_cmp.specs.Controllers.{ControllerState, slot_at}
+use Rattle.fw_cmp_jobs.specs.Slots.{restoring_job, is_making}
 use Rattle.fw_cmp.specs.Holdings.{is_current_slot}
 use Rattle.fw_model_controllers.specs.InStep.{IsFlow}
 use Rattle.fw_model_controllers.specs.Registers.{has_manager}
@@ -51,7 +52,7 @@ pub record IsRestorable (l : Account) (conn : Connection) (f : Flow) : Type 0 wh
 abbrev pub MatchesFor : Purpose → Job → Slot → Type 0
 MatchesFor Make j slot = slot ≡ Making j.connection j.asked j.overhead
 MatchesFor Restore j slot = (f : Flow) × (over : Bool) × (slot ≡ Restoring j.connection f over) × (j ≡ restoring_job j.slot j.connection f)
-MatchesFor Break j slot = ((f : Flow) × (slot ≡ Standing j.connection f)) ⊎ (slot ≡ Gone j.connection)
+MatchesFor Break j slot = ((f : Flow) × (slot ≡ Established j.connection f)) ⊎ (slot ≡ Gone j.connection)
 
 -- A restoring on its course to the connection with this flow. It gives nothing back, and it has not ended in any other way.
 abbrev pub IsOnCourse : Flow → Stage → Type 0
@@ -124,7 +125,7 @@ CurrentCourse c (Overtaken i o) = ⊤
 -- What a controller has to have for its connections to come back: their plugs are set to their flows, and its job is on its course.
 pub record Restores (l : Account) (c : ControllerState) : Type 0 where
   pub matches : CurrentMatches c c.current
-  pub standing : (i : ℕ) (conn : Connection) (f : Flow) → slot_at c i ≡ Standing conn f → is_current_slot c.current i ≡ false → KeepsFlow l conn f
+  pub standing : (i : ℕ) (conn : Connection) (f : Flow) → slot_at c i ≡ Established conn f → is_current_slot c.current i ≡ false → KeepsFlow l conn f
   pub restoring : (i : ℕ) (conn : Connection) (f : Flow) → slot_at c i ≡ Restoring conn f false → IsRestorable l conn f
   pub course : IsTrue l.reclaiming → CurrentCourse c c.current
 
@@ -149,4 +150,4 @@ pub data Carries (l : Account) (c : ℕ) (j : Job) (s : Stage) (m : Account) : T
 
 -- a break does not wait for a connection that is being made
 abbrev pub BreaksFit : ControllerState → Type 0
-BreaksFit c = (k : ℕ) (t : Task) → slice_get c.waiting k ≡ Some t → t.breaks ≡ true → is_making (slot_at c t.slot) ≡ false
+BreaksFit c = (k : ℕ) (t : WaitingJob) → slice_get c.waiting k ≡ Some t → t.breaks ≡ true → is_making (slot_at c t.slot) ≡ false

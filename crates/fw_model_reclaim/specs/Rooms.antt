@@ -5,13 +5,14 @@ use Rattle.fw_terms.specs.declared.plug.ConnectionKind.{ConnectionKind}
 use Rattle.fw_terms.specs.Tables.{sum_to}
 use Rattle.fw_model_account.specs.Account.{Account}
 use Rattle.fw_model_account.specs.Sound.{IsSound}
-use Rattle.fw_cmp.specs.declared.connection.Connection.{Connection}
-use Rattle.fw_cmp.specs.declared.connection.Flow.{Flow}
-use Rattle.fw_cmp.specs.declared.connection.Slot.TheVariants.{Restoring}
-use Rattle.fw_cmp.specs.declared.stage.Stage.{Stage}
-use Rattle.fw_cmp.specs.Connections.{kind_of, output_of, input_of}
-use Rattle.fw_cmp.specs.Controllers.{slot_at, restoring_job}
-use Rattle.fw_cmp.specs.Fits.{StageFits}
+use Rattle.fw_cmp_jobs.specs.declared.connection.Connection.{Connection}
+use Rattle.fw_cmp_jobs.specs.declared.connection.Flow.{Flow}
+use Rattle.fw_cmp_jobs.specs.declared.connection.Slot.TheVariants.{Restoring}
+use Rattle.fw_cmp_jobs.specs.declared.stage.Stage.{Stage}
+use Rattle.fw_cmp_jobs.specs.Connections.{kind_of, output_of, input_of}
+use Rattle.fw_cmp.specs.Controllers.{slot_at}
+use Rattle.fw_cmp_jobs.specs.Slots.{restoring_job}
+use Rattle.fw_cmp_jobs.specs.Fits.{StageFits}
 use Rattle.fw_cmp.specs.Holdings.{pending_of, is_at_output, is_at_input}
 use Rattle.fw_model_controllers.specs.Holding.{HasReserved}
 use Rattle.fw_model_controllers.specs.InStep.{reservation}

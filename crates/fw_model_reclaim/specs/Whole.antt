@@ -1,23 +1,24 @@
 -- Whole connections, and the reclaim theorem: what was whole before the bus reset that opened a reclaim second is whole again
 -- at its end.
 use Rattle.std.specs.Prelude.{ℕ, ◌≡◌, ◌≢◌, ◌⊎◌, Bool, true, false, ◌&&◌, if◌then◌else◌, Option, Some, None, List, [], ◌∷◌, ⊤}
-use Rattle.fw_cmp.specs.declared.connection.Connection.{Connection}
-use Rattle.fw_cmp.specs.declared.connection.Flow.{Flow}
-use Rattle.fw_cmp.specs.declared.connection.Slot.{Slot}
-use Rattle.fw_cmp.specs.declared.connection.Slot.TheVariants.{Free, Making, Standing, Restoring, Gone}
+use Rattle.fw_cmp_jobs.specs.declared.connection.Connection.{Connection}
+use Rattle.fw_cmp_jobs.specs.declared.connection.Flow.{Flow}
+use Rattle.fw_cmp_jobs.specs.declared.connection.Slot.{Slot}
+use Rattle.fw_cmp_jobs.specs.declared.connection.Slot.TheVariants.{Free, Making, Established, Restoring, Gone}
 use Rattle.fw_cmp.specs.declared.current.Current.{Current}
 use Rattle.fw_cmp.specs.declared.current.Current.TheVariants.{Nothing, Asking, Hearing, Overtaken}
-use Rattle.fw_cmp.specs.declared.directory.Directory.{Directory}
-use Rattle.fw_cmp.specs.declared.job.Job.{Job}
+use Rattle.fw_cmp_jobs.specs.declared.directory.Directory.{Directory}
+use Rattle.fw_cmp_jobs.specs.declared.job.Job.{Job}
 use Rattle.fw_cmp.specs.declared.outcome.Next.TheVariants.{End}
-use Rattle.fw_cmp.specs.declared.outcome.Outcome.{Outcome}
-use Rattle.fw_cmp.specs.declared.outcome.Outcome.TheVariants.{Restored}
-use Rattle.fw_cmp.specs.declared.stage.Stage.TheVariants.{Made}
-use Rattle.fw_cmp.specs.Controllers.{ControllerState, slot_at, is_restoring, break_waits, break_runs}
+use Rattle.fw_cmp_jobs.specs.declared.outcome.Outcome.{Outcome}
+use Rattle.fw_cmp_jobs.specs.declared.outcome.Outcome.TheVariants.{Restored}
+use Rattle.fw_cmp_jobs.specs.declared.stage.Stage.TheVariants.{Made}
+use Rattle.fw_cmp.specs.Controllers.{ControllerState, slot_at, break_waits, break_runs}
+use Rattle.fw_cmp_jobs.specs.Slots.{is_restoring}
 use Rattle.fw_cmp.specs.Holdings.{is_current_slot}
 use Rattle.fw_cmp.specs.Turns.{next}
 use Rattle.fw_terms.specs.declared.plug.PlugAt.{PlugAt}
-use Rattle.fw_cmp.specs.Connections.{output_of, input_of}
+use Rattle.fw_cmp_jobs.specs.Connections.{output_of, input_of}
 use Rattle.fw_model_controllers.specs.InStep.{IsFlow}
 use Rattle.fw_model_controllers.specs.Together.{IsWhole as IsThere}
 use Rattle.fw_model_reclaim.specs.Due.{is_at}
@@ -30,13 +31,13 @@ use Rattle.fw_model_reclaim.specs.Worlds.{World, Change, SecondOver, Death, Brea
 abbrev pub connection_in : Slot → Option Connection
 connection_in Free = None
 connection_in (Making conn asked overhead) = Some conn
-connection_in (Standing conn f) = Some conn
+connection_in (Established conn f) = Some conn
 connection_in (Restoring conn f over) = Some conn
 connection_in (Gone conn) = Some conn
 
 -- the connection of the slot stands
 abbrev pub is_standing : Slot → Bool
-is_standing (Standing conn f) = true
+is_standing (Established conn f) = true
 is_standing _ = false
 
 -- the current job's connection is there at its plug of a side, as far as the job has come
@@ -59,7 +60,7 @@ pub record IsWhole (w : World) (c i : ℕ) (conn : Connection) (f : Flow) : Type
 -- What it comes to where no break of it is current: it stands in its slot and no job is at it, or its job has made it and has
 -- not ended yet.
 pub data IsComplete (c : ControllerState) (i : ℕ) (conn : Connection) (f : Flow) : Type 0 where
-  Stands : slot_at c i ≡ Standing conn f → is_current_slot c.current i ≡ false → IsComplete c i conn f
+  Stands : slot_at c i ≡ Established conn f → is_current_slot c.current i ≡ false → IsComplete c i conn f
   IsMade : (j : Job) → IsAtWork c.current j (Made f) → j.slot ≡ i → j.connection ≡ conn → IsComplete c i conn f
 
 -- ---- the reclaim theorem

@@ -7,18 +7,19 @@ use Rattle.fw_model_account.specs.Account.{Account}
 use Rattle.fw_model_account.specs.Events.{after_reset as account_reset, after_second as account_second, after_death, after_withholding}
 use Rattle.fw_log_entry.specs.Network.{IsNetwork}
 use Rattle.fw_model_account.specs.Network.{is_output, is_input}
-use Rattle.fw_cmp.specs.declared.connection.Slot.{Slot}
-use Rattle.fw_cmp.specs.declared.connection.Slot.TheVariants.{Free}
+use Rattle.fw_cmp_jobs.specs.declared.connection.Slot.{Slot}
+use Rattle.fw_cmp_jobs.specs.declared.connection.Slot.TheVariants.{Free}
 use Rattle.fw_cmp.specs.declared.current.Current.{Current}
 use Rattle.fw_cmp.specs.declared.current.Current.TheVariants.{Nothing, Asking, Hearing}
-use Rattle.fw_cmp.specs.declared.directory.Directory.{Directory}
-use Rattle.fw_cmp.specs.declared.job.Job.{Job}
-use Rattle.fw_cmp.specs.declared.stage.Stage.{Stage}
+use Rattle.fw_cmp_jobs.specs.declared.directory.Directory.{Directory}
+use Rattle.fw_cmp_jobs.specs.declared.job.Job.{Job}
+use Rattle.fw_cmp_jobs.specs.declared.stage.Stage.{Stage}
 use Rattle.fw_cmp.specs.Controllers.{ControllerState, first_state, slot_at}
-use Rattle.fw_cmp.specs.Fits.{SlotFits}
-use Rattle.fw_cmp.specs.Nodes.{node_of}
+use Rattle.fw_cmp_jobs.specs.Fits.{SlotFits}
+use Rattle.fw_cmp_jobs.specs.Nodes.{node_of}
 use Rattle.fw_cmp.specs.Resets.{state_reset, after_second}
-use Rattle.fw_cmp.specs.Starts.{IsMaking, start, started, break_fault, break_started}
+use Rattle.fw_cmp.specs.Starts.{start, started, break_fault, break_started}
+use Rattle.fw_cmp_jobs.specs.Slots.{IsMaking}
 use Rattle.fw_model_controllers.specs.Registers.{has_manager}
 use Rattle.fw_model_controllers.specs.Together.{AreInStep, Becomes}
 use Rattle.fw_model_controllers.specs.Together

@@ -1,7 +1,23 @@
 -- The account tells who holds the channel that a slot waits for.
 use Rattle.fw_model_rounds.proofs.Common.{◌≡◌, ℕ, ◌<◌, true, false, Bool, Option, Some, None, eqb, refl, ap}
 use Rattle.fw_model_rounds.proofs.Common.{sym, subst, ◌∙◌, arith, ◌&&◌, ◌||◌, not, nat_tests, option_map, PlugAt, is_connected, Account}
-use Rattle.fw_model_rounds.proofs.Common.{Connection, PlugToPlug, BroadcastOut, BroadcastIn, Slot, Current, Nothing, Asking, Hearing, Overtaken, Held, Target, OutputPlug, output_of, is_listen}
+use Rattle.fw_model_rounds.proofs.Common.{
+  Connection,
+  PlugToPlug,
+  BroadcastOut,
+  BroadcastIn,
+  Slot,
+  Current,
+  Nothing,
+  Asking,
+  Hearing,
+  Overtaken,
+  HeldResources,
+  Target,
+  OutputPlug,
+  output_of,
+  is_listen,
+}
 use Rattle.fw_model_rounds.proofs.Common.{ControllerState, words_of, shown, is_channel_free, Waits, Situation}
 use Rattle.std.proofs.Common.{true≢false}
 use Rattle.fw_plug.specs.Words.{OutFields}
@@ -59,13 +75,13 @@ none_pending l h ch q u e none =
     let own : is_pending h (l.allocations ch) ≡ true = rw e (own_number h) in
     grind (arith, none ch)
 
-reserved_pending : (l : Account) (h ch : ℕ) (q : PlugAt) (u : ℕ) (p : Option PlugAt) (o : Option Held) → l.allocations ch ≡ Some (record { holder = Pending h q; units = u })
-    → HasReserved h (reservation p o) l.allocations → (held : Held) × (o ≡ Some held)
+reserved_pending : (l : Account) (h ch : ℕ) (q : PlugAt) (u : ℕ) (p : Option PlugAt) (o : Option HeldResources) → l.allocations ch ≡ Some (record { holder = Pending h q; units = u })
+    → HasReserved h (reservation p o) l.allocations → (held : HeldResources) × (o ≡ Some held)
 reserved_pending l h ch q u p None e r = absurd (none_pending l h ch q u e r)
 reserved_pending l h ch q u p (Some held) e r = (held, refl)
 
 pending_held : (l : Account) (h ch : ℕ) (q : PlugAt) (u : ℕ) (c : ControllerState) (current : Current) → l.allocations ch ≡ Some (record { holder = Pending h q; units = u })
-    → CurrentInStep l h c current → (held : Held) × (pending_at current ≡ Some held)
+    → CurrentInStep l h c current → (held : HeldResources) × (pending_at current ≡ Some held)
 pending_held l h ch q u c Nothing e i = absurd (none_pending l h ch q u e i.reserved)
 pending_held l h ch q u c (Asking j s) e i = reserved_pending l h ch q u (output_of j.connection) (pending_of s) e i.step.holds.reserved
 pending_held l h ch q u c (Hearing j s) e i = reserved_pending l h ch q u (output_of j.connection) (pending_of s) e i.step.holds.reserved

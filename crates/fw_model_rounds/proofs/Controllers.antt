@@ -1,8 +1,50 @@
 -- Every controller with a slot to be restored: it makes progress within eight half steps of its own, or waits.
-use Rattle.fw_model_rounds.proofs.Common.{◌≡◌, ℕ, ◌<◌, Bool, true, false, Some, None, is_none, refl, sym, subst, arith, ◌⊎◌, inl, inr, Connection, Flow, Slot, Free, Making, Standing, Restoring, Gone}
-use Rattle.fw_model_rounds.proofs.Common.{Current, Nothing, Asking, Hearing, Overtaken, Directory, Held, Job, Target, Stage, Begin, ControllerState, slot_at, is_restoring, CurrentFits, restoring_job}
+use Rattle.fw_model_rounds.proofs.Common.{
+  ◌≡◌,
+  ℕ,
+  ◌<◌,
+  Bool,
+  true,
+  false,
+  Some,
+  None,
+  is_none,
+  refl,
+  sym,
+  subst,
+  arith,
+  ◌⊎◌,
+  inl,
+  inr,
+  Connection,
+  Flow,
+  Slot,
+  Free,
+  Making,
+  Established,
+  Restoring,
+  Gone,
+}
+use Rattle.fw_model_rounds.proofs.Common.{
+  Current,
+  Nothing,
+  Asking,
+  Hearing,
+  Overtaken,
+  Directory,
+  HeldResources,
+  Job,
+  Target,
+  Stage,
+  Begin,
+  ControllerState,
+  slot_at,
+  is_restoring,
+  CurrentFits,
+  restoring_job,
+}
 use Rattle.fw_model_rounds.proofs.Common.{target_of, waiting_break, IsNear, has_begun, IsWithin, IsRestoringOf, CurrentRestores, Waits}
-use Rattle.fw_cmp.specs.declared.outcome.Outcome.{Outcome}
+use Rattle.fw_cmp_jobs.specs.declared.outcome.Outcome.{Outcome}
 use Rattle.fw_cmp.specs.Holdings.{pending_at}
 use Rattle.fw_model_rounds.specs.HalfSteps.{CurrentKnows, JobKnows}
 use Rattle.fw_model_rounds.proofs.Near.{near}
@@ -24,7 +66,7 @@ pub record Owns (slot : Slot) (j : Job) (s : Stage) : Type 0 where
 pub owns : (slot : Slot) (j : Job) (s : Stage) → IsRestoringOf slot j s → Owns slot j s
 owns Free j s i = absurd i
 owns (Making conn asked overhead) j s i = absurd i
-owns (Standing conn f) j s i = absurd i
+owns (Established conn f) j s i = absurd i
 owns (Restoring conn f over) j s i = record { connection = conn; flow = f; over = over; is = refl; job = i.0; own = i.1 }
 owns (Gone conn) j s i = absurd i
 
@@ -104,7 +146,7 @@ progress words now d c current i lt none f r k below is = go current f r k
 holder_near : (words : Target → ℕ) (c : ControllerState) (j : Job) (s : Stage) → Holds j s → JobKnows words j s → Owns (slot_at c j.slot) j s → IsNear 3 words j s
 holder_near words c j s h k o = near words j o.flow.channel s (restoring words c j s o.connection o.flow (own_job c j s o h.begun) k) h.begun (grind (arith, h.looking))
 
-pub holder_progress : (words : Target → ℕ) (now : ℕ) (d : Directory) (c : ControllerState) (current : Current) (h : Held) → CurrentFits c current → CurrentRestores c current
+pub holder_progress : (words : Target → ℕ) (now : ℕ) (d : Directory) (c : ControllerState) (current : Current) (h : HeldResources) → CurrentFits c current → CurrentRestores c current
     → CurrentKnows words current → pending_at current ≡ Some h → IsWithin 8 words now d (record c { current = current })
 holder_progress words now d c Nothing h f r k e = grind arith
 holder_progress words now d c (Asking j s) h f (inl over) k e = absurd (grind (arith, (holds j s h f.stage e).asks))

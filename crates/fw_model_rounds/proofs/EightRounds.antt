@@ -1,7 +1,7 @@
 -- While a slot is to be restored, eight rounds make progress.
 use Rattle.fw_model_rounds.proofs.Common.{◌≡◌, ◌≢◌, ℕ, zero, suc, ◌+◌, ◌<◌, ◌≤◌, Bool, true, false, Some, List, []}
 use Rattle.fw_model_rounds.proofs.Common.{◌∷◌, eqb, refl, ap, sym, ◌∙◌, arith, ◌⊎◌, inl, inr, cond, nat_tests, sum_to, Current}
-use Rattle.fw_model_rounds.proofs.Common.{Nothing, Asking, Hearing, Overtaken, Directory, Held, Job, Stage}
+use Rattle.fw_model_rounds.proofs.Common.{Nothing, Asking, Hearing, Overtaken, Directory, HeldResources, Job, Stage}
 use Rattle.fw_model_rounds.proofs.Common.{ControllerState, slot_at, is_restoring, CurrentFits, to_come, of_slot, IsWithin, CurrentRestores}
 use Rattle.fw_model_rounds.proofs.Common.{Waits, Situation, AccountSays, TakeHalfSteps, times, IsRound, all_to_come, AllRestore}
 use Rattle.std.proofs.Common.{◌++◌, append_assoc}
@@ -76,7 +76,8 @@ job_some c j s lt is =
     omega (arith, at, sum_to_at 32 j.slot (at_slot c j s) lt)
 
 -- a holder restores a slot
-holder_some : (c : ControllerState) (current : Current) (h : Held) → CurrentFits c current → CurrentRestores c current → pending_at current ≡ Some h → 1 ≤ to_come (record c { current = current })
+holder_some : (c : ControllerState) (current : Current) (h : HeldResources) → CurrentFits c current → CurrentRestores c current → pending_at current ≡ Some h
+    → 1 ≤ to_come (record c { current = current })
 holder_some c Nothing h f r e = grind arith
 holder_some c (Asking j s) h f (inl over) e = absurd (grind (arith, (holds j s h f.stage e).asks))
 holder_some c (Asking j s) h f (inr r) e = job_some c j s f.job.slot (restores_slot (slot_at c j.slot) j s r).1

@@ -1,12 +1,33 @@
 -- A controller that only restores goes on doing so.
 use Rattle.fw_model_rounds.proofs.Common.{◌≡◌, ℕ, ◌<◌, Bool, true, false, Option, Some, None, is_none, refl, ap, sym}
 use Rattle.fw_model_rounds.proofs.Common.{subst, ◌∙◌, arith, ◌⊎◌, inl, inr, cond, option_map, Connection, Slot, Free, Making}
-use Rattle.fw_model_rounds.proofs.Common.{Standing, Restoring, Gone, Current, Nothing, Asking, Hearing, Overtaken, Directory, Job, Purpose, Make, Restore, Break, Late, Target, Stage, Begin, ReadInput}
+use Rattle.fw_model_rounds.proofs.Common.{
+  Established,
+  Restoring,
+  Gone,
+  Current,
+  Nothing,
+  Asking,
+  Hearing,
+  Overtaken,
+  Directory,
+  Job,
+  Purpose,
+  Make,
+  Restore,
+  Break,
+  Late,
+  Target,
+  Stage,
+  Begin,
+  ReadInput,
+}
 use Rattle.fw_model_rounds.proofs.Common.{Ended, is_listen, ControllerState, slot_at, restoring_job, restores, target_of, swap_of, access_at, hear, after_answer, after_asking, begun, is_late, ready}
 use Rattle.fw_model_rounds.proofs.Common.{resumed, waiting_break, PlugToPlug, BroadcastOut, BroadcastIn, Flow, answer_of, has_begun, is_over, after_half_step, IsRestoringOf, CurrentRestores}
 use Rattle.std.specs.Prelude.{position}
-use Rattle.fw_cmp.specs.declared.job.Ending.TheVariants.{Absent}
-use Rattle.fw_cmp.specs.Jobs.{begin, begin_making, begin_present, begin_managed, begin_breaking, begin_leaving, own_flow, absent_of, is_break}
+use Rattle.fw_cmp_jobs.specs.declared.job.Ending.TheVariants.{Absent}
+use Rattle.fw_cmp.specs.Jobs.{is_break}
+use Rattle.fw_cmp_jobs.specs.Jobs.{begin, begin_making, begin_present, begin_managed, begin_breaking, begin_leaving, own_flow, absent_of}
 use Rattle.fw_model_rounds.specs.HalfSteps.{OnlyRestores}
 use Rattle.fw_model_rounds.proofs.Slots.{picks, Picks, Rests, idle}
 use Rattle.fw_model_rounds.proofs.Stages.{begun_stays, begins}
@@ -38,7 +59,7 @@ begin_begins d slot j = go j.purpose
     breaking : (slot : Slot) → has_begun (begin_breaking slot) ≡ true
     breaking Free = refl
     breaking (Making conn asked overhead) = refl
-    breaking (Standing conn f) = leaving conn f
+    breaking (Established conn f) = leaving conn f
     breaking (Restoring conn f over) = refl
     breaking (Gone conn) = refl
 

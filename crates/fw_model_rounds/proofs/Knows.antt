@@ -8,8 +8,8 @@ use Rattle.fw_model_account.specs.Network.{is_output}
 use Rattle.fw_model_account.specs.Sound.{IsSound}
 use Rattle.fw_model_account.specs.Words.{word_of}
 use Rattle.fw_model_account.specs.Words as word
-use Rattle.fw_cmp.specs.Decisions.{is_other}
-use Rattle.fw_cmp.specs.Fits.{StageFits, IsHalf, AskedWithin}
+use Rattle.fw_cmp_jobs.specs.Decisions.{is_other}
+use Rattle.fw_cmp_jobs.specs.Fits.{StageFits, IsHalf, AskedWithin}
 use Rattle.fw_model_controllers.specs.Controllers.{CurrentInStep, JobInStep}
 use Rattle.fw_model_controllers.specs.Holding.{HasReserved}
 use Rattle.fw_model_controllers.specs.InStep.{reservation}

@@ -1,6 +1,6 @@
 -- Each half step of a controller leaves at most what was still to come, and less if it makes progress.
 use Rattle.fw_model_rounds.proofs.Common.{◌≡◌, ℕ, ◌+◌, ◌<◌, ◌≤◌, Bool, true, false, None, eqb, refl, ap, sym, subst}
-use Rattle.fw_model_rounds.proofs.Common.{arith, ◌⊎◌, inl, inr, cond, ◌&&◌, sum_to, flag, Slot, Free, Making, Standing, Restoring}
+use Rattle.fw_model_rounds.proofs.Common.{arith, ◌⊎◌, inl, inr, cond, ◌&&◌, sum_to, flag, Slot, Free, Making, Established, Restoring}
 use Rattle.fw_model_rounds.proofs.Common.{Gone, Current, Nothing, Asking, Hearing, Overtaken, Directory, Job, Target, Stage, Begin, ControllerState, slot_at, is_restoring, CurrentFits, restoring_job}
 use Rattle.fw_model_rounds.proofs.Common.{restores, target_of, hear, after_answer, resumed, ready, waiting_break, answer_of, succeeds, remaining, after_half_step, progresses, to_come, IsRestoringOf}
 use Rattle.fw_model_rounds.proofs.Common.{CurrentRestores}
@@ -15,7 +15,7 @@ use Rattle.fw_model_rounds.proofs.ToCome.{at_slot, lowered, asked_leaves, resume
 pub restores_slot : (slot : Slot) (j : Job) (s : Stage) → IsRestoringOf slot j s → (restores j ≡ true) × (is_restoring slot ≡ true)
 restores_slot Free j s i = absurd i
 restores_slot (Making conn asked overhead) j s i = absurd i
-restores_slot (Standing conn f) j s i = absurd i
+restores_slot (Established conn f) j s i = absurd i
 restores_slot (Restoring conn f over) j s i = (ap restores i.0, refl)
 restores_slot (Gone conn) j s i = absurd i
 

@@ -1,5 +1,30 @@
 -- Each answer leaves at most what remained, and one less if a swap succeeds.
-use Rattle.fw_model_rounds.proofs.Common.{◌≡◌, ℕ, ◌+◌, ◌≤◌, Bool, true, false, Option, Some, None, eqb, leb, cond, arith, ◌&&◌, not, is_connected, flag, Job, Held, Late, Flow, Target, Channels}
+use Rattle.fw_model_rounds.proofs.Common.{
+  ◌≡◌,
+  ℕ,
+  ◌+◌,
+  ◌≤◌,
+  Bool,
+  true,
+  false,
+  Option,
+  Some,
+  None,
+  eqb,
+  leb,
+  cond,
+  arith,
+  ◌&&◌,
+  not,
+  is_connected,
+  flag,
+  Job,
+  HeldResources,
+  Late,
+  Flow,
+  Target,
+  Channels,
+}
 use Rattle.fw_model_rounds.proofs.Common.{BandwidthAvailable, Stage, Begin, ReadOutput, ReadChannels, SwapChannels, ReadBandwidth, SwapBandwidth, ConnectOutput, OverlayOutput, ReadInput, ConnectInput}
 use Rattle.fw_model_rounds.proofs.Common.{ReadInputToLeave, LeaveInput, ReadOutputToLeave, LeaveOutput, ReadBandwidthToRelease, RaiseBandwidth}
 use Rattle.fw_model_rounds.proofs.Common.{ReadChannelsToRelease, RestoreChannel, Made, Ended, half_of}
@@ -7,14 +32,14 @@ use Rattle.fw_model_rounds.proofs.Common.{is_full, has_broadcast, counter_of, ch
 use Rattle.fw_model_rounds.proofs.Common.{succeeds, remaining}
 use Rattle.std.proofs.Common.{◌-◌}
 use Rattle.fw_terms.specs.Tables.{find_to}
-use Rattle.fw_cmp.specs.declared.job.Then.{Then}
-use Rattle.fw_cmp.specs.declared.job.Then.TheVariants.{EndsAs, Again}
-use Rattle.fw_cmp.specs.declared.job.Ending.{Ending}
-use Rattle.fw_cmp.specs.declared.job.Ending.TheVariants.{PlugFull, NoUnits, InputBusy, Broken, NoChannel}
-use Rattle.fw_cmp.specs.Plugs.{is_bit, one_less}
-use Rattle.fw_cmp.specs.Connections.{is_point_to_point}
-use Rattle.fw_cmp.specs.Decisions.{goes_on, decide_out, decide_any, decide_channel, decide_units, decide_in, decide_leave_in, decide_leave_out, decide_raise, output_joined}
-use Rattle.fw_cmp.specs.Decisions.{output_left, leave_output, give_back, decide_connected, listen_flow, first_half, input_left, first_flow, overlaid_flow}
+use Rattle.fw_cmp_jobs.specs.declared.job.Then.{Then}
+use Rattle.fw_cmp_jobs.specs.declared.job.Then.TheVariants.{EndsAs, Again}
+use Rattle.fw_cmp_jobs.specs.declared.job.Ending.{Ending}
+use Rattle.fw_cmp_jobs.specs.declared.job.Ending.TheVariants.{PlugFull, NoUnits, InputBusy, Broken, NoChannel}
+use Rattle.fw_cmp_jobs.specs.Plugs.{is_bit, one_less}
+use Rattle.fw_cmp_jobs.specs.Connections.{is_point_to_point}
+use Rattle.fw_cmp_jobs.specs.Decisions.{goes_on, decide_out, decide_any, decide_channel, decide_units, decide_in, decide_leave_in, decide_leave_out, decide_raise, output_joined}
+use Rattle.fw_cmp_jobs.specs.Decisions.{output_left, leave_output, give_back, decide_connected, listen_flow, first_half, input_left, first_flow, overlaid_flow}
 use Rattle.fw_model_rounds.specs.Distance.{input_word, HasPlug}
 use Rattle.fw_model_rounds.specs.Remaining.{remaining_then}
 use Rattle.fw_model_rounds.proofs.Near.{full_is}
@@ -31,7 +56,7 @@ out_leaves j w = go (is_full (kind_of j.connection) w) (is_connected w) (is_lost
     go false false d = omega arith
 
 -- with a channel and units held, and the plug without a connection
-held_leaves : (j : Job) (h : Held) (w : ℕ) → is_connected w ≡ false → remaining (decide_out j (Some h) w) ≤ 5
+held_leaves : (j : Job) (h : HeldResources) (w : ℕ) → is_connected w ≡ false → remaining (decide_out j (Some h) w) ≤ 5
 held_leaves j h w is = go (is_full (kind_of j.connection) w) (is_connected w) (full_is (kind_of j.connection) w is) is
   where
     go : (b c : Bool) → b ≡ false → c ≡ false → remaining (cond b (give_back (Some h) (EndsAs (PlugFull w))) (cond c (decide_connected j (Some h) w) (ConnectOutput h.channel h.units w))) ≤ 5

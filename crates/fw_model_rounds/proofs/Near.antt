@@ -7,13 +7,13 @@ use Rattle.fw_model_rounds.proofs.Common.{counter_of, channel_of, shows_connecti
 use Rattle.fw_model_rounds.proofs.Common.{target_of, restores, needs, is_lost, hear, IsNear, has_begun, is_over, succeeds, shown, answer_of, output_word, is_channel_free, is_waiting}
 use Rattle.fw_terms.specs.declared.plug.ConnectionKind.{ConnectionKind}
 use Rattle.fw_terms.specs.declared.plug.ConnectionKind.TheVariants.{PointToPoint, Broadcast}
-use Rattle.fw_cmp.specs.declared.job.Then.{Then}
-use Rattle.fw_cmp.specs.declared.job.Then.TheVariants.{EndsAs}
-use Rattle.fw_cmp.specs.declared.job.Ending.{Ending}
-use Rattle.fw_cmp.specs.declared.job.Ending.TheVariants.{PlugFull, NoUnits, InputBusy, Broken, NoChannel}
-use Rattle.fw_cmp.specs.Requests.{input_target}
-use Rattle.fw_cmp.specs.Decisions.{decide_out, decide_channel, decide_units, decide_in, decide_leave_in, decide_leave_out, decide_raise}
-use Rattle.fw_cmp.specs.Decisions.{leave_output, give_back, decide_connected, listen_flow, first_half}
+use Rattle.fw_cmp_jobs.specs.declared.job.Then.{Then}
+use Rattle.fw_cmp_jobs.specs.declared.job.Then.TheVariants.{EndsAs}
+use Rattle.fw_cmp_jobs.specs.declared.job.Ending.{Ending}
+use Rattle.fw_cmp_jobs.specs.declared.job.Ending.TheVariants.{PlugFull, NoUnits, InputBusy, Broken, NoChannel}
+use Rattle.fw_cmp_jobs.specs.Requests.{input_target}
+use Rattle.fw_cmp_jobs.specs.Decisions.{decide_out, decide_channel, decide_units, decide_in, decide_leave_in, decide_leave_out, decide_raise}
+use Rattle.fw_cmp_jobs.specs.Decisions.{leave_output, give_back, decide_connected, listen_flow, first_half}
 use Rattle.fw_model_rounds.specs.Distance.{IsRestoring}
 
 -- a full plug is connected

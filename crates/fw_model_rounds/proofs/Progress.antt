@@ -4,10 +4,10 @@ use Rattle.fw_model_rounds.proofs.Common.{sym, subst, ◌∙◌, arith, ◌⊎�
 use Rattle.fw_model_rounds.proofs.Common.{Slot, Free, Restoring, Directory, Job, Late, Purpose, Make, Restore, Break, Target, Stage, Begin, ReadOutput, ReadInput, Ended, is_listen, slice_index_or}
 use Rattle.fw_model_rounds.proofs.Common.{ControllerState, slot_at, is_restoring, restoring_job, restores, target_of, after_answer, begun, is_late, waiting_break, resumed, IsNear, has_begun, is_over}
 use Rattle.fw_model_rounds.proofs.Common.{is_waiting, output_word, is_channel_free, IsWithin, Waits}
-use Rattle.fw_cmp.specs.declared.job.Ending.TheVariants.{Absent}
+use Rattle.fw_cmp_jobs.specs.declared.job.Ending.TheVariants.{Absent}
 use Rattle.std.specs.Prelude.{slice_set}
 use Rattle.fw_cmp.specs.Turns.{slot_after}
-use Rattle.fw_cmp.specs.Jobs.{begin, begin_making, begin_breaking, begin_present, begin_managed, absent_of, own_flow}
+use Rattle.fw_cmp_jobs.specs.Jobs.{begin, begin_making, begin_breaking, begin_present, begin_managed, absent_of, own_flow}
 use Rattle.fw_model_rounds.specs.Distance.{IsRestoring, is_looking}
 use Rattle.fw_model_rounds.specs.HalfSteps.{ends_restoring, JobKnows}
 use Rattle.fw_model_rounds.proofs.Near.{near}

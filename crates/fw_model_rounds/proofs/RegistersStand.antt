@@ -5,9 +5,9 @@ use Rattle.fw_model_rounds.proofs.Common.{Begin, ReadOutput, ReadChannels, SwapC
 use Rattle.fw_model_rounds.proofs.Common.{ConnectOutput, OverlayOutput, ReadInput, ConnectInput, ReadInputToLeave, LeaveInput}
 use Rattle.fw_model_rounds.proofs.Common.{ReadOutputToLeave, LeaveOutput, ReadBandwidthToRelease, RaiseBandwidth, ReadChannelsToRelease, RestoreChannel, Made, Ended, output_of, is_listen, target_of}
 use Rattle.fw_model_account.specs.Network.{is_output, is_input}
-use Rattle.fw_cmp.specs.declared.request.Target.TheVariants.{InputPlug}
-use Rattle.fw_cmp.specs.Connections.{input_of}
-use Rattle.fw_cmp.specs.Fits.{StageFits}
+use Rattle.fw_cmp_jobs.specs.declared.request.Target.TheVariants.{InputPlug}
+use Rattle.fw_cmp_jobs.specs.Connections.{input_of}
+use Rattle.fw_cmp_jobs.specs.Fits.{StageFits}
 use Rattle.fw_model_controllers.specs.InStep.{works}
 use Rattle.fw_model_controllers.specs.Registers.{has_manager, stands}
 

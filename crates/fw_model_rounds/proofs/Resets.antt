@@ -1,14 +1,16 @@
 -- After a bus reset a controller only restores, and at most seven successes are to come of each of its slots.
 use Rattle.fw_model_rounds.proofs.Common.{◌≡◌, ℕ, zero, suc, ◌<◌, ◌≤◌, Bool, true, false, Some, None, is_none, eqb}
 use Rattle.fw_model_rounds.proofs.Common.{refl, sym, subst, arith, inl, inr, cond, ◌&&◌, slice_index_or, sum_to, flag, Slot, Free}
-use Rattle.fw_model_rounds.proofs.Common.{Making, Standing, Restoring, Gone, Current, Nothing, Asking, Hearing, Overtaken, Job}
+use Rattle.fw_model_rounds.proofs.Common.{Making, Established, Restoring, Gone, Current, Nothing, Asking, Hearing, Overtaken, Job}
 use Rattle.fw_model_rounds.proofs.Common.{Purpose, Make, Restore, Break, Stage, Begin, Made, Ended, ControllerState}
 use Rattle.fw_model_rounds.proofs.Common.{slot_at, is_restoring, CurrentFits, restores, target_of, waiting_break, is_over, remaining, to_come, of_slot, IsRestoringOf, CurrentRestores}
 use Rattle.std.proofs.Common.{◌*◌}
 use Rattle.std.specs.Prelude.{List, [], ◌∷◌, map}
-use Rattle.fw_cmp.specs.declared.outcome.Outcome.TheVariants.{Reset}
-use Rattle.fw_cmp.specs.Controllers.{with_slot, Fits, first_state, job_for}
-use Rattle.fw_cmp.specs.Resets.{state_reset, current_reset, lost_reset, overtaken, interrupted, decided, slots_reset, slot_reset}
+use Rattle.fw_cmp_jobs.specs.declared.outcome.Outcome.TheVariants.{Reset}
+use Rattle.fw_cmp.specs.Controllers.{with_slot, Fits, first_state}
+use Rattle.fw_cmp_jobs.specs.Slots.{job_for}
+use Rattle.fw_cmp.specs.Resets.{state_reset, current_reset, lost_reset, overtaken, interrupted, decided, slots_reset}
+use Rattle.fw_cmp_jobs.specs.Slots.{slot_reset}
 use Rattle.fw_model_rounds.specs.HalfSteps.{of_current, of_job, OnlyRestores, AsksWhatStands}
 use Rattle.fw_model_rounds.specs.Rounds.{to_restore_of, WasReset}
 
@@ -27,7 +29,7 @@ slot_after_reset c i = go c.slots i
 restores_again : (slot : Slot) (j : Job) → job_for j.slot slot ≡ Some j → j.purpose ≡ Restore → IsRestoringOf (slot_reset slot) j Begin
 restores_again Free j e p = absurd (grind arith)
 restores_again (Making conn asked overhead) j e p = absurd (grind arith)
-restores_again (Standing conn f) j e p = absurd (grind arith)
+restores_again (Established conn f) j e p = absurd (grind arith)
 restores_again (Restoring conn f over) j e p = (grind arith, (λ b. absurd (grind arith)))
 restores_again (Gone conn) j e p = absurd (grind arith)
 

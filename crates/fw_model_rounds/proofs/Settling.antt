@@ -9,8 +9,8 @@ use Rattle.fw_model_account.specs.Account.{Request}
 use Rattle.fw_model_account.specs.Moves.{Move, DisconnectOutput, after}
 use Rattle.fw_model_account.specs.Network.{is_input}
 use Rattle.fw_model_account.specs.Packets.{asked, ended}
-use Rattle.fw_cmp.specs.declared.request.Target.TheVariants as target
-use Rattle.fw_cmp.specs.Connections.{input_of}
+use Rattle.fw_cmp_jobs.specs.declared.request.Target.TheVariants as target
+use Rattle.fw_cmp_jobs.specs.Connections.{input_of}
 use Rattle.fw_cmp.specs.Controllers.{RunsFitting}
 use Rattle.fw_cmp.specs.Holdings.{is_current_slot}
 use Rattle.fw_model_controllers.specs.Controllers.{CurrentInStep, JobInStep, SlotInStep, IsToRestore}

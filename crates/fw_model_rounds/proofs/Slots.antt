@@ -1,7 +1,7 @@
 -- A controller's slots after a change at one, and the job that it picks.
 use Rattle.fw_model_rounds.proofs.Common.{◌≡◌, ◌≢◌, ℕ, zero, suc, ◌<◌, Bool, true, false, Option, Some, None, List}
 use Rattle.fw_model_rounds.proofs.Common.{[], ◌∷◌, refl, ap, ◌∙◌, arith, ◌⊎◌, inl, inr, cond, nat_tests, slice_index_or, Connection}
-use Rattle.fw_model_rounds.proofs.Common.{Flow, Slot, Free, Making, Standing, Restoring, Gone, Nothing, Asking, Directory, Job, Begin, ControllerState, slot_at, is_restoring, restoring_job, ready}
+use Rattle.fw_model_rounds.proofs.Common.{Flow, Slot, Free, Making, Established, Restoring, Gone, Nothing, Asking, Directory, Job, Begin, ControllerState, slot_at, is_restoring, restoring_job, ready}
 use Rattle.fw_model_rounds.proofs.Common.{waiting_break}
 use Rattle.std.proofs.Common.{ltb}
 use Rattle.std.specs.Prelude.{slice_set}
@@ -31,7 +31,7 @@ pub record Restores (slot : Slot) : Type 0 where
 pub restores_is : (slot : Slot) → is_restoring slot ≡ true → Restores slot
 restores_is Free e = grind arith
 restores_is (Making conn asked overhead) e = grind arith
-restores_is (Standing conn f) e = grind arith
+restores_is (Established conn f) e = grind arith
 restores_is (Restoring conn f over) e = record { connection = conn; flow = f; over = over; is = refl }
 restores_is (Gone conn) e = grind arith
 

@@ -1,10 +1,10 @@
 -- What the name of a stage tells.
 use Rattle.fw_model_rounds.proofs.Common.{◌≡◌, true, false, Some, is_none, refl, arith, option_map, Connection, PlugToPlug}
-use Rattle.fw_model_rounds.proofs.Common.{BroadcastOut, BroadcastIn, Slot, Directory, Held, Job, OutputPlug, Stage, Begin}
+use Rattle.fw_model_rounds.proofs.Common.{BroadcastOut, BroadcastIn, Slot, Directory, HeldResources, Job, OutputPlug, Stage, Begin}
 use Rattle.fw_model_rounds.proofs.Common.{ReadOutput, ReadChannels, SwapChannels, ReadBandwidth, SwapBandwidth}
 use Rattle.fw_model_rounds.proofs.Common.{ConnectOutput, OverlayOutput, ReadBandwidthToRelease, RaiseBandwidth, ReadChannelsToRelease}
 use Rattle.fw_model_rounds.proofs.Common.{RestoreChannel, output_of, is_listen, target_of, begun, has_begun}
-use Rattle.fw_cmp.specs.Fits.{StageFits}
+use Rattle.fw_cmp_jobs.specs.Fits.{StageFits}
 use Rattle.fw_cmp.specs.Holdings.{pending_of}
 use Rattle.fw_model_rounds.specs.Distance.{is_looking}
 
@@ -35,7 +35,7 @@ pub record Holds (j : Job) (s : Stage) : Type 0 where
   pub asks : is_none (target_of j s) ≡ false
   pub looking : is_looking s ≡ false
 
-pub holds : (j : Job) (s : Stage) (h : Held) → StageFits j s → pending_of s ≡ Some h → Holds j s
+pub holds : (j : Job) (s : Stage) (h : HeldResources) → StageFits j s → pending_of s ≡ Some h → Holds j s
 holds j (ReadBandwidth ch w) h f e = record { begun = refl; asks = refl; looking = refl }
 holds j (SwapBandwidth ch u arg w) h f e = record { begun = refl; asks = refl; looking = refl }
 holds j (ConnectOutput ch u arg) h f e = record { begun = refl; asks = has_output j.connection f.0; looking = refl }

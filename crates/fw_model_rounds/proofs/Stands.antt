@@ -1,19 +1,20 @@
--- A request stands only of a stage that makes one.
+-- A request is outstanding only of a stage that makes one.
 use Rattle.fw_model_rounds.proofs.Common.{◌≡◌, ℕ, Bool, true, false, Option, Some, None, is_none, refl, ap}
 use Rattle.fw_model_rounds.proofs.Common.{cond, option_map, Current, Nothing, Asking, Hearing, Overtaken, Directory, Job, Target, Stage}
 use Rattle.fw_model_rounds.proofs.Common.{ControllerState, slot_at, target_of, swap_of, access_at, after_answer, after_asking, ready, waiting_break}
 use Rattle.fw_model_rounds.proofs.Common.{Free, Gone, Purpose, Make, Restore, Break, Begin, Made}
 use Rattle.fw_model_rounds.proofs.Common.{Ended}
 use Rattle.std.proofs.Common.{ltb}
-use Rattle.fw_cmp.specs.Controllers.{with_slot, job_for, IsHeard}
+use Rattle.fw_cmp.specs.Controllers.{with_slot, IsHeard}
+use Rattle.fw_cmp_jobs.specs.Slots.{job_for}
 use Rattle.fw_cmp.specs.Turns.{after_next}
 use Rattle.fw_cmp.specs.Jobs.{picked, resumed_current, takes_next, takes_waiting, takes_making, takes_task, job_current, to_restore, is_empty}
-use Rattle.fw_cmp.specs.declared.outcome.Outcome.TheVariants.{Reset}
+use Rattle.fw_cmp_jobs.specs.declared.outcome.Outcome.TheVariants.{Reset}
 use Rattle.fw_cmp.specs.Resets.{state_reset, current_reset, lost_reset, overtaken, interrupted, decided}
 use Rattle.fw_model_rounds.specs.HalfSteps.{AsksWhatStands}
 use Rattle.fw_model_rounds.proofs.Within.{asking}
 
--- ---- a controller that is ready has no request that stands
+-- ---- a controller that is ready has no outstanding request
 
 picked_job : (o : Option Job) → IsHeard (job_current o)
 picked_job None = tt

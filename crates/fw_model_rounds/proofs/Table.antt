@@ -6,12 +6,12 @@ use Rattle.fw_model_rounds.proofs.Common.{ConnectInput, ReadInputToLeave, LeaveI
 use Rattle.fw_model_rounds.proofs.Common.{ReadBandwidthToRelease, RaiseBandwidth, ReadChannelsToRelease, RestoreChannel, Made}
 use Rattle.fw_model_rounds.proofs.Common.{Ended, kind_of, is_listen, restores, is_lost, needs, has_broadcast, counter_of, channel_of, is_full, shows_connection, half_of, remainder_of, hear, answer_of}
 use Rattle.fw_model_rounds.proofs.Common.{output_word, is_channel_free, succeeds, has_begun, is_over, is_waiting}
-use Rattle.fw_cmp.specs.declared.job.Then.{Then}
-use Rattle.fw_cmp.specs.declared.job.Then.TheVariants.{EndsAs}
-use Rattle.fw_cmp.specs.declared.job.Ending.{Ending}
-use Rattle.fw_cmp.specs.declared.job.Ending.TheVariants.{PlugFull, NoUnits, InputBusy, Broken, NoChannel}
-use Rattle.fw_cmp.specs.Decisions.{give_back, decide_out, decide_connected, decide_channel, decide_units, decide_in, decide_leave_in}
-use Rattle.fw_cmp.specs.Decisions.{decide_leave_out, decide_raise, first_half, leave_output, listen_flow}
+use Rattle.fw_cmp_jobs.specs.declared.job.Then.{Then}
+use Rattle.fw_cmp_jobs.specs.declared.job.Then.TheVariants.{EndsAs}
+use Rattle.fw_cmp_jobs.specs.declared.job.Ending.{Ending}
+use Rattle.fw_cmp_jobs.specs.declared.job.Ending.TheVariants.{PlugFull, NoUnits, InputBusy, Broken, NoChannel}
+use Rattle.fw_cmp_jobs.specs.Decisions.{give_back, decide_out, decide_connected, decide_channel, decide_units, decide_in, decide_leave_in}
+use Rattle.fw_cmp_jobs.specs.Decisions.{decide_leave_out, decide_raise, first_half, leave_output, listen_flow}
 use Rattle.fw_model_rounds.specs.Distance.{input_word, IsRestoring}
 use Rattle.fw_model_rounds.specs.Table.{after_output, after_channel, after_units, after_leaving, after_missing, after_input, after_leaving_input, after_raising, of_swap, distance}
 use Rattle.fw_model_rounds.proofs.Near.{full_is}

@@ -1,15 +1,15 @@
 -- A half step leaves at most what was still to come, and less if it makes progress.
 use Rattle.fw_model_rounds.proofs.Common.{◌≡◌, ◌≢◌, ℕ, ◌+◌, ◌<◌, ◌≤◌, Bool, true, false, Option, Some, None, is_none}
 use Rattle.fw_model_rounds.proofs.Common.{eqb, refl, arith, cond, ◌&&◌, nat_tests, option_map, sum_to, flag, Slot, Free, Making}
-use Rattle.fw_model_rounds.proofs.Common.{Standing, Restoring, Gone, Connection, PlugToPlug, BroadcastOut, BroadcastIn, Flow, Nothing}
+use Rattle.fw_model_rounds.proofs.Common.{Established, Restoring, Gone, Connection, PlugToPlug, BroadcastOut, BroadcastIn, Flow, Nothing}
 use Rattle.fw_model_rounds.proofs.Common.{Asking, Directory, Job, Purpose, Make, Restore, Break, Late, Target}
 use Rattle.fw_model_rounds.proofs.Common.{Stage, Begin, ReadInput, ReadBandwidthToRelease, RaiseBandwidth, ReadChannelsToRelease, RestoreChannel, Made, Ended, is_listen, ControllerState, slot_at}
 use Rattle.fw_model_rounds.proofs.Common.{is_restoring, restores, swap_of, access_at, after_asking, resumed, begun, is_late, remaining, of_slot, to_come}
 use Rattle.fw_terms.proofs.Tables.{sum_to_le, sum_to_changed}
-use Rattle.fw_cmp.specs.declared.job.Ending.TheVariants.{Absent}
+use Rattle.fw_cmp_jobs.specs.declared.job.Ending.TheVariants.{Absent}
 use Rattle.fw_cmp.specs.Controllers.{with_slot, break_waits}
 use Rattle.fw_cmp.specs.Turns.{ended, slot_after}
-use Rattle.fw_cmp.specs.Jobs.{begin, begin_making, begin_present, begin_managed, begin_breaking, begin_leaving, own_flow, absent_of}
+use Rattle.fw_cmp_jobs.specs.Jobs.{begin, begin_making, begin_present, begin_managed, begin_breaking, begin_leaving, own_flow, absent_of}
 use Rattle.fw_model_rounds.specs.Remaining.{most_remaining}
 use Rattle.fw_model_rounds.specs.HalfSteps.{of_job}
 use Rattle.fw_model_rounds.proofs.Slots.{other_item, none_restored}
@@ -48,7 +48,7 @@ begin_leaves d slot j = go j.purpose
     breaking : (slot : Slot) → remaining (begin_breaking slot) ≤ 7
     breaking Free = omega arith
     breaking (Making conn asked overhead) = omega arith
-    breaking (Standing conn f) = leaving conn f
+    breaking (Established conn f) = leaving conn f
     breaking (Restoring conn f over) = omega arith
     breaking (Gone conn) = omega arith
 

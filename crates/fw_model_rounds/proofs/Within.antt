@@ -23,7 +23,7 @@ within_more zero words now d c i = absurd i
 within_more (suc n) words now d c (inl e) = inl e
 within_more (suc n) words now d c (inr i) = inr (within_more n words now d _ i)
 
--- ---- the job goes on from this stage: it ends, or its request stands
+-- ---- the job goes on from this stage: it ends, or its request is outstanding
 
 -- what makes a controller near that is ready with its job at a stage
 abbrev pub Ready : ℕ → (Target → ℕ) → ℕ → Directory → ControllerState → Job → Stage → Type 0

@@ -4,12 +4,12 @@ use Rattle.fw_terms.specs.declared.plug.PlugAt.{PlugAt}
 use Rattle.fw_model_account.specs.Account.{Account, Allocation, Pending, Orphaned}
 use Rattle.fw_model_account.specs.Sound.{IsSound}
 use Rattle.fw_model_account.specs.Words.{word_of}
-use Rattle.fw_cmp.specs.declared.request.Target.{Target}
+use Rattle.fw_cmp_jobs.specs.declared.request.Target.{Target}
 use Rattle.fw_cmp.specs.declared.current.Current.TheVariants.{Hearing}
-use Rattle.fw_cmp.specs.declared.job.Job.{Job}
-use Rattle.fw_cmp.specs.declared.stage.Stage.{Stage}
+use Rattle.fw_cmp_jobs.specs.declared.job.Job.{Job}
+use Rattle.fw_cmp_jobs.specs.declared.stage.Stage.{Stage}
 use Rattle.fw_cmp.specs.Controllers.{ControllerState, Fits}
-use Rattle.fw_cmp.specs.Requests.{target_of}
+use Rattle.fw_cmp_jobs.specs.Requests.{target_of}
 use Rattle.fw_model_controllers.specs.Controllers.{ControllerInStep}
 use Rattle.fw_model_controllers.specs.Registers.{register_at, stands}
 use Rattle.fw_model_rounds.specs.Rounds.{Situation}

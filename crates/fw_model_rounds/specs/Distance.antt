@@ -2,15 +2,15 @@
 use Rattle.std.specs.Prelude.{ℕ, zero, suc, ◌-◌, ◌==◌, ◌≡◌, ◌⊎◌, not, Bool, true, false, ◌&&◌, ◌||◌, Option, Some, None, is_none, IsTrue, IsFalse, ⊤}
 use Rattle.fw_words.specs.declared.swap.Swap.{Swap}
 use Rattle.fw_plug.specs.Words.{is_connected}
-use Rattle.fw_cmp.specs.declared.job.Job.{Job}
-use Rattle.fw_cmp.specs.declared.request.Target.{Target}
-use Rattle.fw_cmp.specs.declared.request.Target.TheVariants.{Channels}
-use Rattle.fw_cmp.specs.declared.stage.Stage.{Stage}
-use Rattle.fw_cmp.specs.declared.stage.Stage.TheVariants.{Begin, ReadOutput, ReadChannels, SwapChannels, ConnectOutput, OverlayOutput}
-use Rattle.fw_cmp.specs.Plugs.{half_of, is_bit}
-use Rattle.fw_cmp.specs.Decisions.{restores}
-use Rattle.fw_cmp.specs.Requests.{output_target, input_target, target_of, swap_of}
-use Rattle.fw_cmp.specs.Stages.{hear}
+use Rattle.fw_cmp_jobs.specs.declared.job.Job.{Job}
+use Rattle.fw_cmp_jobs.specs.declared.request.Target.{Target}
+use Rattle.fw_cmp_jobs.specs.declared.request.Target.TheVariants.{Channels}
+use Rattle.fw_cmp_jobs.specs.declared.stage.Stage.{Stage}
+use Rattle.fw_cmp_jobs.specs.declared.stage.Stage.TheVariants.{Begin, ReadOutput, ReadChannels, SwapChannels, ConnectOutput, OverlayOutput}
+use Rattle.fw_cmp_jobs.specs.Plugs.{half_of, is_bit}
+use Rattle.fw_cmp_jobs.specs.Decisions.{restores}
+use Rattle.fw_cmp_jobs.specs.Requests.{output_target, input_target, target_of, swap_of}
+use Rattle.fw_cmp_jobs.specs.Stages.{hear}
 
 -- ---- registers that stand still: the word that each one shows
 

@@ -3,21 +3,22 @@ use Rattle.std.specs.Prelude.{ℕ, zero, suc, ◌≡◌, ◌==◌, ◌⊎◌, Bo
 use Rattle.fw_terms.specs.Tables.{sum_to}
 use Rattle.fw_csr.specs.Replies.{complete}
 use Rattle.fw_plug.specs.Words.{is_connected}
-use Rattle.fw_cmp.specs.declared.connection.Connection.{Connection}
-use Rattle.fw_cmp.specs.declared.connection.Flow.{Flow}
-use Rattle.fw_cmp.specs.declared.connection.Slot.{Slot}
-use Rattle.fw_cmp.specs.declared.connection.Slot.TheVariants.{Restoring}
+use Rattle.fw_cmp_jobs.specs.declared.connection.Connection.{Connection}
+use Rattle.fw_cmp_jobs.specs.declared.connection.Flow.{Flow}
+use Rattle.fw_cmp_jobs.specs.declared.connection.Slot.{Slot}
+use Rattle.fw_cmp_jobs.specs.declared.connection.Slot.TheVariants.{Restoring}
 use Rattle.fw_cmp.specs.declared.current.Current.{Current}
 use Rattle.fw_cmp.specs.declared.current.Current.TheVariants.{Nothing, Asking, Hearing, Overtaken}
-use Rattle.fw_cmp.specs.declared.directory.Directory.{Directory}
-use Rattle.fw_cmp.specs.declared.job.Job.{Job}
-use Rattle.fw_cmp.specs.declared.request.Target.{Target}
-use Rattle.fw_cmp.specs.declared.request.Target.TheVariants.{OutputPlug}
-use Rattle.fw_cmp.specs.declared.stage.Stage.{Stage}
-use Rattle.fw_cmp.specs.Connections.{output_of, is_listen}
-use Rattle.fw_cmp.specs.Controllers.{ControllerState, slot_at, is_restoring, restoring_job}
-use Rattle.fw_cmp.specs.Decisions.{restores}
-use Rattle.fw_cmp.specs.Requests.{target_of}
+use Rattle.fw_cmp_jobs.specs.declared.directory.Directory.{Directory}
+use Rattle.fw_cmp_jobs.specs.declared.job.Job.{Job}
+use Rattle.fw_cmp_jobs.specs.declared.request.Target.{Target}
+use Rattle.fw_cmp_jobs.specs.declared.request.Target.TheVariants.{OutputPlug}
+use Rattle.fw_cmp_jobs.specs.declared.stage.Stage.{Stage}
+use Rattle.fw_cmp_jobs.specs.Connections.{output_of, is_listen}
+use Rattle.fw_cmp.specs.Controllers.{ControllerState, slot_at}
+use Rattle.fw_cmp_jobs.specs.Slots.{is_restoring, restoring_job}
+use Rattle.fw_cmp_jobs.specs.Decisions.{restores}
+use Rattle.fw_cmp_jobs.specs.Requests.{target_of}
 use Rattle.fw_cmp.specs.Resets.{after_hear}
 use Rattle.fw_cmp.specs.Turns.{after_next}
 use Rattle.fw_cmp.specs.Jobs.{ready, waiting_break}
@@ -27,7 +28,7 @@ use Rattle.fw_model_rounds.specs.Remaining.{most_remaining, remaining}
 
 -- ---- half steps
 
--- the controller after a half step: it hears the answer to the request that stands, or does what comes next
+-- the controller after a half step: it hears the answer to the outstanding request, or does what comes next
 abbrev pub after_half_step : (Target → ℕ) → ℕ → Directory → ControllerState → ControllerState
 after_half_step words now d c = elim c.current [
   | Nothing ↦ after_next now d c
@@ -124,7 +125,7 @@ pub record Waits (words : Target → ℕ) (c : ControllerState) : Type 0 where
   pub is : slot_at c slot ≡ Restoring connection flow false
   pub waits : SlotWaits words connection flow
 
--- a request stands only of a stage that makes one
+-- a request is outstanding only of a stage that makes one
 abbrev pub AsksWhatStands : Current → Type 0
 AsksWhatStands (Hearing j s) = IsFalse (is_none (target_of j s))
 AsksWhatStands _ = ⊤

@@ -7,12 +7,13 @@ use Rattle.fw_log_entry.specs.declared.entry.ResetEntry.{ResetEntry}
 use Rattle.fw_model_account.specs.Account.{Account}
 use Rattle.fw_model_account.specs.Events.{after_reset as account_after_reset}
 use Rattle.fw_model_account.specs.Moves.{Move, after}
-use Rattle.fw_cmp.specs.declared.directory.Directory.{Directory}
-use Rattle.fw_cmp.specs.declared.job.Job.{Job}
-use Rattle.fw_cmp.specs.declared.request.Target.{Target}
-use Rattle.fw_cmp.specs.declared.stage.Stage.{Stage}
-use Rattle.fw_cmp.specs.Controllers.{ControllerState, slot_at, is_restoring, CurrentFits, IsHeard, first_state}
-use Rattle.fw_cmp.specs.Stages.{hear}
+use Rattle.fw_cmp_jobs.specs.declared.directory.Directory.{Directory}
+use Rattle.fw_cmp_jobs.specs.declared.job.Job.{Job}
+use Rattle.fw_cmp_jobs.specs.declared.request.Target.{Target}
+use Rattle.fw_cmp_jobs.specs.declared.stage.Stage.{Stage}
+use Rattle.fw_cmp.specs.Controllers.{ControllerState, slot_at, CurrentFits, IsHeard, first_state}
+use Rattle.fw_cmp_jobs.specs.Slots.{is_restoring}
+use Rattle.fw_cmp_jobs.specs.Stages.{hear}
 use Rattle.fw_cmp.specs.Resets.{after_hear, state_reset}
 use Rattle.fw_cmp.specs.Turns.{after_next}
 use Rattle.fw_model_controllers.specs.Moves.{carried_out}
@@ -119,12 +120,12 @@ abbrev pub OnlyLivingAfterMove : Type 0
 OnlyLivingAfterMove =
     (k : ℕ) (p : PlugAt) (m : Move) (l : Account) → k < 63 → OnlyLiving l.allocations → OnlyLiving (after k p m l).allocations
 
--- after a turn the request that stands is one of its stage
+-- after a turn the outstanding request is one of its stage
 abbrev pub TurnsAskWhatStands : Type 0
 TurnsAskWhatStands =
     (now : ℕ) (d : Directory) (c : ControllerState) → IsHeard c.current → AsksWhatStands (after_next now d c).current
 
--- a bus reset leaves it so that the request that stands is one of its stage
+-- a bus reset leaves it so that the outstanding request is one of its stage
 abbrev pub ResetsLeaveWhatStands : Type 0
 ResetsLeaveWhatStands =
     (epoch : ℕ) (lost : Bool) (c : ControllerState) → AsksWhatStands c.current → AsksWhatStands (state_reset epoch lost c).current

@@ -2,10 +2,11 @@
 use Rattle.std.specs.Prelude.{ℕ, zero, suc, ◌+◌, ◌≡◌, ◌≢◌, ◌==◌, ◌<◌, Bool, if◌then◌else◌, List, [], ◌∷◌, ◌++◌, Some, None, IsFalse}
 use Rattle.fw_terms.specs.Tables.{sum_to}
 use Rattle.fw_plug.specs.Words.{flag}
-use Rattle.fw_cmp.specs.declared.directory.Directory.{Directory}
-use Rattle.fw_cmp.specs.declared.job.Held.{Held}
-use Rattle.fw_cmp.specs.declared.request.Target.{Target}
-use Rattle.fw_cmp.specs.Controllers.{ControllerState, slot_at, is_restoring, Fits}
+use Rattle.fw_cmp_jobs.specs.declared.directory.Directory.{Directory}
+use Rattle.fw_cmp_jobs.specs.declared.job.HeldResources.{HeldResources}
+use Rattle.fw_cmp_jobs.specs.declared.request.Target.{Target}
+use Rattle.fw_cmp.specs.Controllers.{ControllerState, slot_at, Fits}
+use Rattle.fw_cmp_jobs.specs.Slots.{is_restoring}
 use Rattle.fw_cmp.specs.Holdings.{pending_at}
 use Rattle.fw_model_rounds.specs.HalfSteps.{after_half_step, progresses, to_come, OnlyRestores, AsksWhatStands, CurrentKnows, Waits}
 use Rattle.fw_cmp.specs.Resets.{state_reset}
@@ -25,7 +26,7 @@ pub record HalfStep (now : ℕ) (d : Directory) (k : ℕ) (s t : Situation) : Ty
 -- the controller of this device holds a channel that is connected to no plug
 pub record IsHolder (s : Situation) (k : ℕ) : Type 0 where
   pub device : k < 63
-  pub held : Held
+  pub held : HeldResources
   pub pending : pending_at (s.at k).current ≡ Some held
 
 -- What the account says of the controllers while they restore: if a slot waits, another controller holds its channel.

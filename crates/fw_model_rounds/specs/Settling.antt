@@ -3,11 +3,11 @@ use Rattle.std.specs.Prelude.{ℕ, ◌≡◌, ◌<◌, Bool, false, Some, None, 
 use Rattle.fw_terms.specs.declared.plug.PlugAt.{PlugAt}
 use Rattle.fw_model_account.specs.Account.{Account}
 use Rattle.fw_model_account.specs.Network.{is_input}
-use Rattle.fw_cmp.specs.declared.connection.Connection.{Connection}
-use Rattle.fw_cmp.specs.declared.connection.Flow.{Flow}
-use Rattle.fw_cmp.specs.declared.connection.Slot.TheVariants.{Restoring}
-use Rattle.fw_cmp.specs.declared.directory.Directory.{Directory}
-use Rattle.fw_cmp.specs.Connections.{input_of}
+use Rattle.fw_cmp_jobs.specs.declared.connection.Connection.{Connection}
+use Rattle.fw_cmp_jobs.specs.declared.connection.Flow.{Flow}
+use Rattle.fw_cmp_jobs.specs.declared.connection.Slot.TheVariants.{Restoring}
+use Rattle.fw_cmp_jobs.specs.declared.directory.Directory.{Directory}
+use Rattle.fw_cmp_jobs.specs.Connections.{input_of}
 use Rattle.fw_cmp.specs.Controllers.{ControllerState, slot_at, Fits}
 use Rattle.fw_cmp.specs.Resets.{state_reset as controller_reset}
 use Rattle.fw_cmp.specs.Jobs.{waiting_break}

@@ -1,17 +1,17 @@
 -- The half steps of a restoring up to its next successful swap or its end, over registers that stand still, by stage.
 use Rattle.std.specs.Prelude.{ℕ, ◌+◌, ◌==◌, nat_le, not, ◌&&◌, if◌then◌else◌}
 use Rattle.fw_plug.specs.Words.{is_connected}
-use Rattle.fw_cmp.specs.declared.connection.Flow.{Flow}
-use Rattle.fw_cmp.specs.declared.job.Job.{Job}
-use Rattle.fw_cmp.specs.declared.request.Target.{Target}
-use Rattle.fw_cmp.specs.declared.request.Target.TheVariants.{Channels, BandwidthAvailable}
-use Rattle.fw_cmp.specs.declared.stage.Stage.{Stage}
-use Rattle.fw_cmp.specs.declared.stage.Stage.TheVariants.{Begin, ReadOutput, ReadChannels, SwapChannels, ReadBandwidth, SwapBandwidth, ConnectOutput}
-use Rattle.fw_cmp.specs.declared.stage.Stage.TheVariants.{OverlayOutput, ReadInput, ConnectInput, ReadInputToLeave, LeaveInput, ReadOutputToLeave, LeaveOutput}
-use Rattle.fw_cmp.specs.declared.stage.Stage.TheVariants.{ReadBandwidthToRelease, RaiseBandwidth, ReadChannelsToRelease, RestoreChannel, Made, Ended}
-use Rattle.fw_cmp.specs.Connections.{kind_of, is_listen}
-use Rattle.fw_cmp.specs.Decisions.{is_lost, needs}
-use Rattle.fw_cmp.specs.Plugs.{has_broadcast, counter_of, channel_of, is_full, shows_connection, half_of, remainder_of}
+use Rattle.fw_cmp_jobs.specs.declared.connection.Flow.{Flow}
+use Rattle.fw_cmp_jobs.specs.declared.job.Job.{Job}
+use Rattle.fw_cmp_jobs.specs.declared.request.Target.{Target}
+use Rattle.fw_cmp_jobs.specs.declared.request.Target.TheVariants.{Channels, BandwidthAvailable}
+use Rattle.fw_cmp_jobs.specs.declared.stage.Stage.{Stage}
+use Rattle.fw_cmp_jobs.specs.declared.stage.Stage.TheVariants.{Begin, ReadOutput, ReadChannels, SwapChannels, ReadBandwidth, SwapBandwidth, ConnectOutput}
+use Rattle.fw_cmp_jobs.specs.declared.stage.Stage.TheVariants.{OverlayOutput, ReadInput, ConnectInput, ReadInputToLeave, LeaveInput, ReadOutputToLeave, LeaveOutput}
+use Rattle.fw_cmp_jobs.specs.declared.stage.Stage.TheVariants.{ReadBandwidthToRelease, RaiseBandwidth, ReadChannelsToRelease, RestoreChannel, Made, Ended}
+use Rattle.fw_cmp_jobs.specs.Connections.{kind_of, is_listen}
+use Rattle.fw_cmp_jobs.specs.Decisions.{is_lost, needs}
+use Rattle.fw_cmp_jobs.specs.Plugs.{has_broadcast, counter_of, channel_of, is_full, shows_connection, half_of, remainder_of}
 use Rattle.fw_model_rounds.specs.Distance.{output_word, input_word, is_channel_free}
 
 -- ---- after an answer, up to the next success

@@ -69,7 +69,7 @@ pub fn only_living_controllers_allocate()
     ensures moves { OnlyLivingAfterMove }
 {}
 
-/// A request stands only of a stage that makes one: what comes next begins it, and a bus reset leaves it so.
+/// A request is outstanding only of a stage that makes one: what comes next begins it, and a bus reset leaves it so.
 pub fn requests_stand_of_their_stage()
     ensures next { TurnsAskWhatStands }
     ensures reset { ResetsLeaveWhatStands }

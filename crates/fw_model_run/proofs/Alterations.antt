@@ -9,7 +9,7 @@ use Rattle.fw_model_run.proofs.Common.{FrameWrite, second_over, withheld, IsGood
 use Rattle.fw_model_run.proofs.Common.{transaction_head, State, entered, is_linked, is_living, manager_in, with_device}
 use Rattle.std.proofs.Common.{Ok}
 use Rattle.fw_terms.specs.Devices.{is_capable}
-use Rattle.fw_cmp.specs.Fits.{SlotFits}
+use Rattle.fw_cmp_jobs.specs.Fits.{SlotFits}
 use Rattle.fw_model_run.specs.Actions.{AccessFits}
 use Rattle.fw_model_run.specs.Actions.{IsSpared}
 use Rattle.fw_model_run.specs.Elections.{with_new_candidate}

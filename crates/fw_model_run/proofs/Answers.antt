@@ -5,7 +5,7 @@ use Rattle.fw_model_run.proofs.Common.{arith, option_map, nat_tests, PlugAt, out
 use Rattle.fw_model_run.proofs.Common.{Swap, ResetEntry, NodeRow, Target, offset_of, request_at, Account, is_output}
 use Rattle.fw_model_run.proofs.Common.{is_input, is_output_of, is_input_of, ChannelsAvailable, word_of, any_at, kind_at, row_of, Shows, Space, answer_of, State, device_in, manager_in, space_at}
 use Rattle.fw_model_run.proofs.Common.{space_of_node, reply_from, manager_words}
-use Rattle.fw_cmp.specs.declared.request.Target.TheVariants.{OutputPlug, InputPlug, Channels, BandwidthAvailable}
+use Rattle.fw_cmp_jobs.specs.declared.request.Target.TheVariants.{OutputPlug, InputPlug, Channels, BandwidthAvailable}
 use Rattle.fw_devices.specs.Entries.{is_number}
 use Rattle.fw_model_controllers.specs.Registers.{register_at as account_register, has_manager, stands, IsAnswer}
 use Rattle.fw_model_controllers.specs.InStep.{IsRegister}

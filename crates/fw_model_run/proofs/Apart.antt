@@ -32,7 +32,7 @@ one_changes s t d x here others = λ i k. at k (cases_eq k d) i
 pub half_others : (s : State) (d k : ℕ) → k ≢ d → controller_at (after_half s d) k ≡ controller_at s k
 half_others s d k ne = same_at s (after_half s d) k (update_others s.controllers d (half s d).controller k ne) refl (update_others s.asked_at d (half s d).asked_at k ne)
 
--- no request stands, and it says what it does next
+-- no request is outstanding, and it says what it does next
 pub all_turn : (s : State) (d : ℕ) → IsFalse (is_deaf s d) → IsHeard (s.controllers d).current
     → controllers_of (after_half s d) ≡ update (controllers_of s) d (after_turn s.clock.cycle (directory_of s) (controller_at s d))
 all_turn s d quiet heard = one_changes s (after_half s d) d _ (quiet_turns s d quiet heard) (half_others s d)

@@ -8,8 +8,8 @@ use Rattle.fw_async.specs.Async.{HeadFits}
 use Rattle.fw_csr.specs.Manager.{after_at}
 use Rattle.fw_manager.specs.Bids.{bid_request}
 use Rattle.fw_manager.specs.declared.bid.Bid.TheVariants.{Elected, Defeated}
-use Rattle.fw_manager.specs.declared.candidate.Stage.{Stage}
-use Rattle.fw_manager.specs.declared.candidate.Stage.TheVariants.{Fresh, Asked, Answered}
+use Rattle.fw_manager.specs.declared.candidate.BidProgress.{BidProgress}
+use Rattle.fw_manager.specs.declared.candidate.BidProgress.TheVariants.{Fresh, Asked, Answered}
 use Rattle.fw_model_run.specs.Bidding.{bid_head, bid_said, own_node}
 use Rattle.fw_model_run.proofs.Bounds.{node_few, number_few, node_fits, ReplyFits}
 use Rattle.fw_model_run.proofs.Events.{living_small}
@@ -19,7 +19,7 @@ use Rattle.fw_model_run.proofs.Responses.{IsNode}
 
 -- ---- the account
 
-at_leaves : (s : State) (d manager : ℕ) (c : CandidateState) (stage : Stage) → LeavesAccount s.account (bid_at s d manager c stage).says
+at_leaves : (s : State) (d manager : ℕ) (c : CandidateState) (stage : BidProgress) → LeavesAccount s.account (bid_at s d manager c stage).says
 at_leaves s d manager c Fresh =
     let h = bid_head manager (own_node s d) in
     let swap : Swap = record { argument = 0x3F; new = own_node s d } in
@@ -88,7 +88,7 @@ bid_fits s d manager c g b lives manages = go (stage_in (epoch_at s) c)
     ends word true = record { device = small; tape = omega arith; shape = refl }
     ends word false = record { device = small; tape = omega arith; shape = refl }
 
-    go : (stage : Stage) → EntryFits (bid_at s d manager c stage).says
+    go : (stage : BidProgress) → EntryFits (bid_at s d manager c stage).says
     go Fresh = asked_fits s d manager g manages
     go Asked =
         let r = reply_from s manager (bid_request n) in
@@ -110,7 +110,7 @@ bid_below s d manager c low = go (stage_in (epoch_at s) c)
         let new : quadlet_at (to_be_bytes w32 0x3F ++ to_be_bytes w32 (own_node s d)) 4 < 2 ^ 32 = omega arith in
         either (s.bus_manager_id == quadlet_at (to_be_bytes w32 0x3F ++ to_be_bytes w32 (own_node s d)) 0) _ s.bus_manager_id new low
 
-    go : (stage : Stage) → (bid_at s d manager c stage).bus_manager_id < 2 ^ 32
+    go : (stage : BidProgress) → (bid_at s d manager c stage).bus_manager_id < 2 ^ 32
     go Fresh = low
     go Asked = stored
     go (Heard word) = low

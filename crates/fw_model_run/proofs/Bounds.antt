@@ -10,8 +10,8 @@ use Rattle.std.specs.List.{IsDistinct, AllByRecursion, list_any}
 use Rattle.std.proofs.lemmas.Map.Steps.{length-le_from_distinct_below}
 use Rattle.fw_terms.specs.Devices.{has_unit}
 use Rattle.fw_terms.proofs.KindLaws.{plugs_few}
-use Rattle.fw_csr.specs.declared.register.Register.{Register}
-use Rattle.fw_csr.specs.declared.register.Register.TheVariants.{ReadOnly, WriteOnly}
+use Rattle.fw_csr.specs.declared.register.RegisterAccess.{RegisterAccess}
+use Rattle.fw_csr.specs.declared.register.RegisterAccess.TheVariants.{ReadOnly, WriteOnly}
 use Rattle.fw_csr.specs.Requests as Requests
 use Rattle.fw_words.specs.Swaps.{quadlet_swap}
 use Rattle.fw_csr.specs.Manager.{ManagerWords}
@@ -101,7 +101,7 @@ number_few s d n g at = subst (λ k. k ≤ 63) (same_Some (node_of s.account.lat
 -- ---- what registers show
 
 -- the word that a register shows is a quadlet
-abbrev RegisterBelow : Option Register → Type 0
+abbrev RegisterBelow : Option RegisterAccess → Type 0
 RegisterBelow None = ⊤
 RegisterBelow (Some (ReadOnly word)) = word < 2 ^ 32
 RegisterBelow (Some (ReadSwap word)) = word < 2 ^ 32
@@ -119,7 +119,7 @@ pub record WordsBelow (z : Space) : Type 0 where
   pub high : IfSome z.manager (λ m. m.channels_available_hi < 2 ^ 32)
   pub low : IfSome z.manager (λ m. m.channels_available_lo < 2 ^ 32)
 
-either : (b : Bool) (x y : Option Register) → RegisterBelow x → RegisterBelow y → RegisterBelow (cond b x y)
+either : (b : Bool) (x y : Option RegisterAccess) → RegisterBelow x → RegisterBelow y → RegisterBelow (cond b x y)
 either true x y f g = f
 either false x y f g = g
 
@@ -221,7 +221,7 @@ swap_below : (word : ℕ) (o : Option Swap) → word < 2 ^ 32 → ReplyFits (swa
 swap_below word None low = record { rcode = omega arith; value = omega arith }
 swap_below word (Some swap) low = record { rcode = omega arith; value = low }
 
-reply_below : (o : Option Register) (offset : ℕ) (w : Option Swap) → RegisterBelow o → ReplyFits (reply o (request_at offset w))
+reply_below : (o : Option RegisterAccess) (offset : ℕ) (w : Option Swap) → RegisterBelow o → ReplyFits (reply o (request_at offset w))
 reply_below None offset w f = record { rcode = omega arith; value = omega arith }
 reply_below (Some (ReadOnly word)) offset None f = record { rcode = omega arith; value = f }
 reply_below (Some (ReadOnly word)) offset (Some swap) f = record { rcode = omega arith; value = omega arith }

@@ -7,7 +7,7 @@ use Rattle.std.specs.List.{list_any}
 use Rattle.fw_terms.specs.declared.device.DeviceKind.TheVariants.{Relay}
 use Rattle.fw_terms.specs.Devices.{code_of}
 use Rattle.fw_terms.proofs.KindLaws.{relay_unlinked, output_linked, input_linked}
-use Rattle.fw_cmp.specs.Nodes.{node_of as told_node}
+use Rattle.fw_cmp_jobs.specs.Nodes.{node_of as told_node}
 use Rattle.fw_model_controllers.specs.Registers.{has_manager}
 use Rattle.fw_model_reclaim.specs.Worlds.{ShowsBus}
 use Rattle.fw_model_run.specs.State.{is_relay}

@@ -1,18 +1,20 @@
 -- A cable, and a bus reset that a device begins, lead from a good state to a good state.
-use Rattle.fw_model_run.proofs.Common.{◌≡◌, ℕ, ◌<◌, List, length, Bool, true, false, Option, Some, None, refl, ap}
-use Rattle.fw_model_run.proofs.Common.{sym, subst, ◌∙◌, arith, is_some, IsTrue, not, ◌&&◌, ResetEntry, Timed, PhyFacts, IsOnBus}
+use Rattle.fw_model_run.proofs.Common.{◌≡◌, ℕ, ◌+◌, ◌<◌, List, length, Bool, true, false, Option, Some, None, refl, ap}
+use Rattle.fw_model_run.proofs.Common.{sym, subst, ◌∙◌, arith, is_some, IsTrue, not, ◌&&◌, ResetEntry, PhyFacts, IsOnBus}
 use Rattle.fw_model_run.proofs.Common.{Topology, IsJoined, kind_at, node_number, row_of, Shows, on_bus_declared, MOST_HALF_STEPS, MOST_RESETS, State, Declared, is_on, number_in, is_living, is_linked}
-use Rattle.fw_model_run.proofs.Common.{is_deaf, linked_number, with_link, Joins, with_topology, counted, IsGood, IsLatest, AreDeclared, NodeRow}
+use Rattle.fw_model_run.proofs.Common.{is_deaf, linked_number, with_link, after_reset_entry, with_topology, counted, IsGood, IsLatest, AreDeclared, NodeRow}
 use Rattle.std.proofs.Common.{◌↔◌}
 use Rattle.fw_tree.specs.declared.facts.End.{End}
 use Rattle.fw_tree.specs.Topology as Topologies
 use Rattle.fw_devices.specs.Network.{AreKinds}
 use Rattle.fw_devices.proofs.BusLaws.{bus_stays}
 use Rattle.fw_devices.proofs.JoinLaws.{bus_grows}
-use Rattle.fw_model_run.specs.Afterwards.{counting, Begins}
+use Rattle.fw_model_run.specs.Afterwards.{counting}
+use Rattle.fw_model_run.specs.BusDeeds.{MayJoin, MayResetBus, joining, joining_ends, resetting}
+use Rattle.fw_model_run.specs.Found.{FoundBetween, FoundCable}
 use Rattle.fw_model_run.proofs.Networks.{shows_cabled, never_both}
 use Rattle.fw_model_run.proofs.OffCables.{entry_cabled}
-use Rattle.fw_model_run.proofs.Resets.{MayReset, reset_good}
+use Rattle.fw_model_run.proofs.Resets.{MayReset, reset_good, resets_by}
 use Rattle.fw_model_run.proofs.Times.{counting_good, counted_good}
 
 -- ---- which devices are on the bus
@@ -90,17 +92,24 @@ cabled_good s u a b g j off_a off_b = record {
       (h.5.0, entry_cabled s.declared.topology u a b s.declared.kinds e.epoch h.5.0 e j (λ on. off_a ((on_is_bus s g h.0 a.device).1 on)) (λ on. off_b ((on_is_bus s g h.0 b.device).1 on)) h.5.1),
     )
 
-pub cable_good : (s : State) (u : Topology) (a b : End) (out : List Timed) (t : State) → IsGood s → IsJoined s.declared.topology u a b
-    → Joins (is_on s a.device) (is_on s b.device) a.device b.device (with_topology s u) out t → IsGood t
-cable_good s u a b out t g j h = go (is_on s a.device) (is_on s b.device) refl refl h
+pub cable_good : (s : State) (a b : End) (found : FoundCable (is_on s a.device) (is_on s b.device)) → IsGood s → (joining s a b found).may → IsGood (joining s a b found).after
+cable_good s a b found g may = go (is_on s a.device) (is_on s b.device) refl refl found.begun may
   where
-    go : (x y : Bool) → is_on s a.device ≡ x → is_on s b.device ≡ y → Joins x y a.device b.device (with_topology s u) out t → IsGood t
-    go true false on_a off_b r = reset_good (counting s) (record s.declared { topology = u }) a.device out t (cabled_may s u a b g j (on_some s a.device g on_a) r.0) r.1
-    go false true off_a on_b r = reset_good (counting s) (record s.declared { topology = u }) b.device out t (cabled_may s u a b g j (on_some s b.device g on_b) r.0) r.1
-    go true true on_a on_b r =
+    u : Topology
+    u = found.topology
+
+    begins : (d : ℕ) (e : ResetEntry) → IsTrue (is_on s d) → MayJoin s a b u d e → IsGood (after_reset_entry (counting (with_topology s u)) e)
+    begins d e on may =
+        reset_good (counting s) (record s.declared { topology = u }) d _ _ (cabled_may s u a b g may.joined (on_some s d g on) may.begins.counts)
+        (resets_by (s.resets + 1) s.half_steps may.begins.reset refl refl)
+
+    go : (x y : Bool) → is_on s a.device ≡ x → is_on s b.device ≡ y → (f : FoundBetween x y) → (joining_ends x y s a b u f).may → IsGood (joining_ends x y s a b u f).after
+    go true false on_a off_b e may = begins a.device e on_a may
+    go false true off_a on_b e may = begins b.device e on_b may
+    go true true on_a on_b f may =
         let some = on_some s a.device g on_a in
-        absurd (never_both s.declared.topology u a b g.declared.made j ((on_is_bus s g some a.device).0 on_a) ((on_is_bus s g some b.device).0 on_b))
-    go false false off_a off_b r = subst IsGood (sym r.1) (cabled_good s u a b g j (λ on. grind (arith, on, off_a)) (λ on. grind (arith, on, off_b)))
+        absurd (never_both s.declared.topology u a b g.declared.made may ((on_is_bus s g some a.device).0 on_a) ((on_is_bus s g some b.device).0 on_b))
+    go false false off_a off_b f may = cabled_good s u a b g may (λ on. grind (arith, on, off_a)) (λ on. grind (arith, on, off_b))
 
 -- ---- a bus reset that a device begins
 
@@ -114,8 +123,9 @@ begun_may s d g on few = record {
   stays = λ e is k walk. walk;
 }
 
-pub begun_good : (s : State) (d : ℕ) (out : List Timed) (t : State) → IsGood s → IsTrue (is_on s d) → Begins s d out t → IsGood t
-begun_good s d out t g on r = reset_good (counting s) s.declared d out t (begun_may s d g on r.0) r.1
+pub begun_good : (s : State) (d : ℕ) (e : ResetEntry) → IsGood s → MayResetBus s d e → IsGood (resetting s d e).after
+begun_good s d e g may =
+    reset_good (counting s) s.declared d _ _ (begun_may s d g may.on may.begins.counts) (resets_by (s.resets + 1) s.half_steps may.begins.reset refl refl)
 
 -- ---- a bus reset that a controller forces
 

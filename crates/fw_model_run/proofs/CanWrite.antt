@@ -1,7 +1,24 @@
 -- Cycles can be written for as long as time may go on: whatever talks, a packet of it may be sent.
 use Rattle.fw_model_run.proofs.Common.{◌≡◌, ◌⊎◌, inl, inr, ℕ, zero, suc, ◌+◌, ◌<◌, ◌≤◌, ◌^◌, ◌==◌, ◌&&◌, cond, List, [], ◌∷◌, ◌++◌, length, slice_get, Bool, true, false, Option, Some, None, is_some}
 use Rattle.fw_model_run.proofs.Common.{option_map, refl, ap, sym, subst, ◌∙◌, arith, IsTrue, nat_tests, cases_lt, PlugAt, Async, Iso, ResetEntry, Timed, Account, talks, at_most, at_cycle, second_over}
-use Rattle.fw_model_run.proofs.Common.{State, GivenBlock, GivesBlock, bytes_of, tape_at, cycle_start, stream_packet, talkers, Action, Pass, EndSecond, StartCycle, SendPacket, KeepBlock, Step, Steps}
+use Rattle.fw_model_run.proofs.Common.{
+  State,
+  GivenBlock,
+  GivesBlock,
+  bytes_of,
+  tape_at,
+  cycle_start,
+  stream_packet,
+  talkers,
+  Action,
+  Pass,
+  EndSecond,
+  StartCycle,
+  SendPacket,
+  KeepBlock,
+  Transition,
+  Transitions,
+}
 use Rattle.fw_model_run.proofs.Common.{after_cycles, after_second, next_cycle, HasCycle, HasCycles, IsGood, heard_in}
 use Rattle.std.proofs.Common.{slice_index, IfSome}
 use Rattle.fw_cip.specs.Iso.{IsBlock}
@@ -57,10 +74,11 @@ can_send (p ∷ plugs) s none on =
     let block = block_for (block_now (tape_at s p)) in
     let entry = at_cycle s.clock.cycle (Iso (stream_packet s p (bytes_of block))) in
     let rest = can_send plugs s none on.1 in
+    let sent : Transition s (SendPacket p block) (entry ∷ []) s = record { found = tt; waits = none; may = record { talks = on.0; gives = gives_one s p }; out_is = refl; state_is = refl } in
     record {
       actions = SendPacket p block ∷ rest.actions;
       out = entry ∷ rest.out;
-      sends = (block, s, rest.actions, entry ∷ [], rest.out, (entry ∷ [], [], s, (none, (on.0, gives_one s p, refl, refl)), refl, (refl, refl)), rest.sends, refl, refl);
+      sends = (block, s, rest.actions, entry ∷ [], rest.out, (entry ∷ [], [], s, sent, refl, (refl, refl)), rest.sends, refl, refl);
     }
 
 all_talk : (s : State) (plugs : List PlugAt) → ((i : ℕ) (p : PlugAt) → slice_get plugs i ≡ Some p → IsTrue (talks s.account p)) → AllTalk s plugs
@@ -80,7 +98,7 @@ append_none (x ∷ xs) = ap (λ z. x ∷ z) (append_none xs)
 record Comes (s : State) : Type 0 where
   out : List Timed
   after : State
-  step : Step s (next_cycle s) out after
+  step : Transition s (next_cycle s) out after
   cycle : after.clock.cycle ≡ s.clock.cycle + 1
   latest : after.account.latest ≡ s.account.latest
   written : after.written ≡ s.written
@@ -90,14 +108,14 @@ comes : (s : State) → IsGood s → s.transaction ≡ None → s.clock.cycle + 
 comes s g none low = go (s.account.reclaiming && (s.clock.cycle + 1 == s.clock.over_at)) refl
   where
     ComesBy : Action → Type 0
-    ComesBy a = (out : List Timed) × (after : State) × Step s a out after × (after.clock.cycle ≡ s.clock.cycle + 1) × (after.account.latest ≡ s.account.latest) × (after.written ≡ s.written)
+    ComesBy a = (out : List Timed) × (after : State) × Transition s a out after × (after.clock.cycle ≡ s.clock.cycle + 1) × (after.account.latest ≡ s.account.latest) × (after.written ≡ s.written)
         × (after.transaction ≡ None)
 
     ends : IsTrue s.account.reclaiming → s.clock.cycle + 1 ≡ s.clock.over_at → ComesBy EndSecond
     ends runs at = (
       at_most (s.clock.cycle + 1) (Some second_over),
       after_cycles (after_second s) 1,
-      (none, (low, runs, at, refl, refl)),
+      record { found = tt; waits = none; may = record { fits = low; runs = runs; over = at }; out_is = refl; state_is = refl },
       refl,
       ap (λ (l : Account). l.latest) (second_ends s.account runs),
       refl,
@@ -105,7 +123,7 @@ comes s g none low = go (s.account.reclaiming && (s.clock.cycle + 1 == s.clock.o
     )
 
     passes : (IsTrue s.account.reclaiming → s.clock.cycle + 1 < s.clock.over_at) → ComesBy (Pass 1)
-    passes early = ([], after_cycles s 1, (none, (low, early, refl, refl)), refl, refl, refl, none)
+    passes early = ([], after_cycles s 1, record { found = tt; waits = none; may = record { fits = low; within = early }; out_is = refl; state_is = refl }, refl, refl, refl, none)
 
     both : (a : Bool) (m n : ℕ) → (a && (m == n)) ≡ true → (a ≡ true) × (m ≡ n)
     both a m n e = (grind (arith, e), grind (arith, nat_tests, e))
@@ -144,7 +162,7 @@ can_cycle s g none low few = go s.account.latest refl
     c : Comes s
     c = comes s g none low
 
-    one : Steps s (next_cycle s ∷ []) c.out c.after
+    one : Transitions s (next_cycle s ∷ []) c.out c.after
     one = (c.out, [], c.after, c.step, sym (append_none c.out), (refl, refl))
 
     go : (o : Option ResetEntry) → s.account.latest ≡ o → CanCycle s
@@ -165,6 +183,8 @@ can_cycle s g none low few = go s.account.latest refl
         let sent = can_send (talkers mid.account) mid c.none (talkers_talk mid) in
         let out = (c.out ++ start) ++ sent.out in
         let block = heard_in mid out in
+        let begins : Transition c.after StartCycle start mid = record { found = e; waits = c.none; may = record { few = less; latest = c.latest ∙ is }; out_is = refl; state_is = refl } in
+        let kept : Transition mid (KeepBlock block) [] (with_block mid block) = record { found = tt; waits = c.none; may = tt; out_is = refl; state_is = refl } in
         record {
           actions = (next_cycle s ∷ StartCycle ∷ sent.actions) ++ KeepBlock block ∷ [];
           out = out;
@@ -177,12 +197,12 @@ can_cycle s g none low few = go s.account.latest refl
               packets = sent.actions;
               first = c.out ++ start;
               last = sent.out;
-              comes = (c.out, start, c.after, c.step, refl, (start, [], mid, (c.none, (less, (e, c.latest ∙ is, refl), refl)), refl, (refl, refl)));
+              comes = (c.out, start, c.after, c.step, refl, (start, [], mid, begins, refl, (refl, refl)));
               sends = sent.sends;
               actions_are = refl;
               out_is = refl;
             };
-            keeps = ([], [], with_block mid block, (c.none, (refl, refl)), refl, (refl, refl));
+            keeps = ([], [], with_block mid block, kept, refl, (refl, refl));
             actions_are = refl;
           });
           cycle = c.cycle;

@@ -4,23 +4,23 @@ use Rattle.fw_model_run.proofs.Common.{cases_eq, same_Some, DeviceKind, is_conte
 use Rattle.fw_model_run.proofs.Common.{node_number, row_of, Account, CandidateState, stage_in, Heard, epoch_at, bid_at}
 use Rattle.fw_model_run.proofs.Common.{bid_step, bidden, MOST_HALF_STEPS, at_most, IsGood, IsLatest, State, Declared}
 use Rattle.fw_model_run.proofs.Common.{epoch_of, first_state, with_device, number_in, manager_in, linked_number, with_link}
-use Rattle.fw_model_run.proofs.Common.{is_on, is_linked, is_living, Action, Contend, Step, Resets, after_death, after_start}
+use Rattle.fw_model_run.proofs.Common.{is_on, is_linked, is_living, Action, Contend, Transition, Resets, after_death, after_start}
 use Rattle.fw_terms.proofs.KindLaws.{capable_contends}
 use Rattle.fw_terms.specs.Devices.{is_capable}
 use Rattle.fw_model_run.proofs.Networks.{kind_before}
-use Rattle.fw_manager.specs.declared.candidate.Stage.{Stage}
-use Rattle.fw_manager.specs.declared.candidate.Stage.TheVariants.{Fresh, Asked, Answered}
-use Rattle.fw_model_run.specs.Bidding.{Bids, BidStep, is_candidate}
+use Rattle.fw_manager.specs.declared.candidate.BidProgress.{BidProgress}
+use Rattle.fw_manager.specs.declared.candidate.BidProgress.TheVariants.{Fresh, Asked, Answered}
+use Rattle.fw_model_run.specs.Bidding.{BidStep, is_candidate}
 use Rattle.fw_model_run.specs.Candidates.{AreCandidates, HasCandidates}
 use Rattle.fw_model_run.proofs.Contending.{each_candidate, no_candidate}
 use Rattle.fw_model_run.proofs.Grows.{Number, number_there, manager_there}
-use Rattle.fw_model_run.proofs.Resets.{declaring, MayReset, reset_shows, still_living}
+use Rattle.fw_model_run.proofs.Resets.{declaring, MayReset, reset_shows, still_living, numbered}
 use Rattle.fw_model_run.proofs.Settling.{half_turn}
 use Rattle.fw_model_run.proofs.Times.{second_ends}
 use Rattle.fw_model_run.proofs.Turns.{living_linked, update_new, update_others}
 use Rattle.fw_model_run.proofs.Withholds.{withholding_keeps}
 use Rattle.fw_model_run.proofs.Alterations.{Allows, Alteration, Bid, Candidate, Died, Halved, NewDevice, Over, Started, Withheld, altered}
-use Rattle.fw_model_run.proofs.Effects.{Effect, altering, effect, numbered, resetting}
+use Rattle.fw_model_run.proofs.Effects.{Effect, altering, effect, resetting}
 
 pub first_candidates : HasCandidates first_state
 first_candidates = record { lives = λ d is. absurd (cc is); capable = λ d is. absurd (cc is); past = λ d c is. absurd (cc is); manages = λ d on. absurd (cc on) }
@@ -125,7 +125,7 @@ one_candidate s d c past lives capable h = record {
 bid_epoch : (s : State) (d manager : ℕ) (c : CandidateState) → c.epoch ≤ epoch_of s.account.latest → (bid_step s d manager c).candidate.epoch ≤ epoch_of s.account.latest
 bid_epoch s d manager c before = go (stage_in (epoch_at s) c)
   where
-    go : (stage : Stage) → (bid_at s d manager c stage).candidate.epoch ≤ epoch_of s.account.latest
+    go : (stage : BidProgress) → (bid_at s d manager c stage).candidate.epoch ≤ epoch_of s.account.latest
     go Fresh = omega arith
     go Asked = before
     go (Heard word) = omega arith
@@ -133,7 +133,7 @@ bid_epoch s d manager c before = go (stage_in (epoch_at s) c)
 
 -- ---- each action
 
-pub step_candidates : (s : State) (a : Action) (out : List Timed) (t : State) → IsGood s → HasCandidates s → Step s a out t → HasCandidates t
+pub step_candidates : (s : State) (a : Action) (out : List Timed) (t : State) → IsGood s → HasCandidates s → Transition s a out t → HasCandidates t
 step_candidates s a out t g h x = go (effect s a out t x)
   where
     by : (y : Alteration) → Allows s a y → HasCandidates (altered s y)
@@ -168,7 +168,7 @@ candidate_manager s d h is =
 
 -- so its half step is an action
 pub candidate_bids : (s : State) (d : ℕ) → HasCandidates s → IsTrue (is_candidate s d) → s.half_steps < MOST_HALF_STEPS → s.transaction ≡ None
-    → (out : List Timed) × (t : State) × Step s (Contend d) out t
+    → (out : List Timed) × (t : State) × Transition s (Contend d) out t
 candidate_bids s d h is few free = go (s.election.candidates d) refl
   where
     manager : Number (manager_in s.account.latest)
@@ -177,18 +177,15 @@ candidate_bids s d h is few free = go (s.election.candidates d) refl
     bid : CandidateState → BidStep
     bid c = bid_step s d manager.number c
 
-    bids : (c : CandidateState) → s.election.candidates d ≡ Some c → Bids s d (at_most s.clock.cycle (bid c).says) (bidden s d (bid c))
+    bids : (c : CandidateState) → s.election.candidates d ≡ Some c → Transition s (Contend d) (at_most s.clock.cycle (bid c).says) (bidden s d (bid c))
     bids c at = record {
-      lives = h.lives d is;
-      few = few;
-      candidate = c;
-      is = at;
-      manager = manager.number;
-      manages = manager.is;
+      found = record { candidate = c; manager = manager.number };
+      waits = free;
+      may = record { lives = h.lives d is; few = few; candidate = at; manages = manager.is };
       out_is = refl;
       state_is = refl;
     }
 
-    go : (o : Option CandidateState) → s.election.candidates d ≡ o → (out : List Timed) × (t : State) × Step s (Contend d) out t
+    go : (o : Option CandidateState) → s.election.candidates d ≡ o → (out : List Timed) × (t : State) × Transition s (Contend d) out t
     go None at = absurd (let no : IsTrue (is_some {T = CandidateState} None) = subst (λ o. IsTrue (is_some o)) at is in cc no)
-    go (Some c) at = (at_most s.clock.cycle (bid c).says, bidden s d (bid c), (free, bids c at))
+    go (Some c) at = (at_most s.clock.cycle (bid c).says, bidden s d (bid c), bids c at)

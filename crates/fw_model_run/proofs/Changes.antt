@@ -2,9 +2,25 @@
 use Rattle.fw_model_run.proofs.Common.{◌≡◌, inl, inr, ℕ, ◌&&◌, not, List, [], ◌∷◌, Bool, true, false, Option, None, unwrap_or, refl, ap, sym, subst, arith, IsTrue, ResetEntry, Timed, Account, Current}
 use Rattle.fw_model_run.proofs.Common.{Nothing, Asking, Hearing, Overtaken, Directory, Job, Stage, new_controller, IsHeard, after_hear, break_fault, break_started, after_next, Wanted, withheld, State}
 use Rattle.fw_model_run.proofs.Common.{Declared, entered, list_to, linked_number, manager_in, is_linked, is_living, directory_of, is_deaf, asks, taken, half_of, after_half, with_controller, Action}
-use Rattle.fw_model_run.proofs.Common.{StartBreak, EndSecond, Die, Step, Steps, Resets, slot_of, start_of, with_connection, after_cycles, after_second, after_death, after_start, IsGood, world_of}
+use Rattle.fw_model_run.proofs.Common.{
+  StartBreak,
+  EndSecond,
+  Die,
+  Transition,
+  Transitions,
+  Resets,
+  slot_of,
+  start_of,
+  with_connection,
+  after_cycles,
+  after_second,
+  after_death,
+  after_start,
+  IsGood,
+  world_of,
+}
 use Rattle.std.proofs.Common.{Ok}
-use Rattle.fw_cmp.specs.Fits.{SlotFits}
+use Rattle.fw_cmp_jobs.specs.Fits.{SlotFits}
 use Rattle.fw_cmp.specs.Starts.{started as given}
 use Rattle.fw_model_reclaim.specs.Worlds.{Change, Turn, Answer as Answered, BusReset, SecondOver, Death, NewConnection, BreakOf, Withholding, Elsewhere, TakesTurn, HearsAnswer, IsReset, Path}
 use Rattle.fw_model_reclaim.specs.Avoids.{AsksElsewhere}
@@ -15,13 +31,13 @@ use Rattle.fw_model_run.proofs.Events.{living_small, starts_is, makes}
 use Rattle.fw_model_run.proofs.Hears.{Heard, HalfHears, heard_of, half_hears, reply_heard, with_answer, carried_bus}
 use Rattle.fw_model_run.proofs.Leads.{IsLinked, linked_of}
 use Rattle.fw_model_run.proofs.Others.{same_table}
-use Rattle.fw_model_run.proofs.Resets.{MayReset, declaring, reset_change}
+use Rattle.fw_model_run.proofs.Resets.{MayReset, declaring, reset_change, numbered}
 use Rattle.fw_model_run.proofs.Steps.{step_good}
 use Rattle.fw_model_run.proofs.Times.{second_ends}
 use Rattle.fw_model_run.proofs.Turns.{Turns, sends, rests, turns, with_account, becomes, living_linked}
 use Rattle.fw_model_run.proofs.Withholds.{none_before, withholding_is, withholds_is, slot_avoids}
 use Rattle.fw_model_run.proofs.Alterations.{Allows, Alteration, Breaks, Connected, Died, Halved, Over, Started, Withheld, altered}
-use Rattle.fw_model_run.proofs.Effects.{Effect, altering, effect, numbered, resetting}
+use Rattle.fw_model_run.proofs.Effects.{Effect, altering, effect, resetting}
 use Rattle.fw_model_reclaim.specs.Worlds as Worlds
 use Rattle.fw_model_reclaim.specs.Whole as Whole
 
@@ -193,7 +209,7 @@ withhold_change s a g empty = subst (λ l. IsChange s a (record s { account = l 
 
 -- ---- each action
 
-pub step_change : (s : State) (a : Action) (out : List Timed) (t : State) → IsGood s → Step s a out t → IsChange s a t
+pub step_change : (s : State) (a : Action) (out : List Timed) (t : State) → IsGood s → Transition s a out t → IsChange s a t
 step_change s a out t g x = go (effect s a out t x)
   where
     -- the action is this one
@@ -222,7 +238,7 @@ pub record IsPath (s : State) (xs : List Action) (t : State) : Type 0 where
   pub path : Path (world_of s) changes (world_of t)
   pub harmless : (d i : ℕ) → AreHarmless d i xs → Whole.AreHarmless d i changes
 
-pub steps_path : (s : State) (xs : List Action) (out : List Timed) (t : State) → IsGood s → Steps s xs out t → IsPath s xs t
+pub steps_path : (s : State) (xs : List Action) (out : List Timed) (t : State) → IsGood s → Transitions s xs out t → IsPath s xs t
 steps_path s [] out t g f = record { changes = []; path = ap world_of f.1; harmless = λ d i h. tt }
 steps_path s (a ∷ xs) out t g f =
     let c = step_change s a f.0 f.2 g f.3 in

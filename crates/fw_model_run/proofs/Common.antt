@@ -13,23 +13,23 @@ pub use Rattle.fw_terms.specs.Tables.{at_plug, update}
 pub use Rattle.fw_terms.specs.declared.device.DeviceKind.{DeviceKind}
 pub use Rattle.fw_terms.specs.declared.plug.PlugAt.{PlugAt}
 pub use Rattle.fw_cmp.specs.Controllers.{ControllerState, IsHeard, first_state as new_controller, slot_at}
-pub use Rattle.fw_cmp.specs.Requests.{access_of, addressee_of, offset_of}
+pub use Rattle.fw_cmp_jobs.specs.Requests.{access_of, addressee_of, offset_of}
 pub use Rattle.fw_cmp.specs.Resets.{after_hear, heard}
 pub use Rattle.fw_cmp.specs.Starts.{break_fault, break_started}
 pub use Rattle.fw_cmp.specs.Turns.{after_next, next}
-pub use Rattle.fw_cmp.specs.declared.connection.Slot.{Slot}
+pub use Rattle.fw_cmp_jobs.specs.declared.connection.Slot.{Slot}
 pub use Rattle.fw_cmp.specs.declared.current.Current.{Current}
 pub use Rattle.fw_cmp.specs.declared.current.Current.TheVariants.{Asking, Hearing, Nothing, Overtaken}
-pub use Rattle.fw_cmp.specs.declared.directory.Directory.{Directory}
-pub use Rattle.fw_cmp.specs.declared.job.Job.{Job}
+pub use Rattle.fw_cmp_jobs.specs.declared.directory.Directory.{Directory}
+pub use Rattle.fw_cmp_jobs.specs.declared.job.Job.{Job}
 pub use Rattle.fw_cmp.specs.declared.outcome.Next.{Next}
 pub use Rattle.fw_cmp.specs.declared.outcome.Next.TheVariants.{Deaf, End as EndOf, Force, Idle, Send, Waiting}
-pub use Rattle.fw_cmp.specs.declared.request.Access.{Access}
-pub use Rattle.fw_cmp.specs.declared.request.Target.{Target}
-pub use Rattle.fw_cmp.specs.declared.stage.Stage.{Stage}
+pub use Rattle.fw_cmp_jobs.specs.declared.request.Access.{Access}
+pub use Rattle.fw_cmp_jobs.specs.declared.request.Target.{Target}
+pub use Rattle.fw_cmp_jobs.specs.declared.stage.Stage.{Stage}
 pub use Rattle.fw_script_command.specs.declared.command.Command.{Command}
 pub use Rattle.fw_csr.specs.Requests.{request_at}
-pub use Rattle.fw_csr.specs.declared.register.Register.TheVariants.{ReadSwap}
+pub use Rattle.fw_csr.specs.declared.register.RegisterAccess.TheVariants.{ReadSwap}
 pub use Rattle.fw_csr.specs.declared.reply.Reply.{Reply}
 pub use Rattle.fw_csr.specs.declared.request.Request.{Request}
 pub use Rattle.fw_devices.proofs.BusLaws.{on_bus_declared}
@@ -45,16 +45,18 @@ pub use Rattle.fw_log_entry.specs.declared.nodes.NodeRow.{NodeRow}
 pub use Rattle.fw_fcp.specs.Frames.{spelling}
 pub use Rattle.fw_fcp.specs.declared.frame.Frame.{Frame}
 pub use Rattle.fw_manager.specs.Bids.{CandidateState, stage_in}
-pub use Rattle.fw_manager.specs.declared.candidate.Stage.TheVariants.{Heard}
+pub use Rattle.fw_manager.specs.declared.candidate.BidProgress.TheVariants.{Heard}
 pub use Rattle.fw_node.specs.Packets.{old_bytes, packet_of, response_head}
 pub use Rattle.fw_node.specs.Space.{Space, answer_of}
 pub use Rattle.fw_model_reclaim.proofs.Together.{goes_on_reclaiming}
 pub use Rattle.fw_model_rounds.specs.HalfSteps.{AsksWhatStands}
 pub use Rattle.fw_model_run.specs.Actions.{Action, AddCable, AddDevice, Answer, Ask, BecomeCandidate, CarryOut, Contend, Die, EjectTape, EndSecond, Finish, HalfStep, InsertTape, KeepBlock, Lose, Pass}
 pub use Rattle.fw_model_run.specs.Actions.{Receive, ResetBus, Rest, SendCommand, SendFrame, SendPacket, ShowWord, Start}
-pub use Rattle.fw_model_run.specs.Actions.{StartBreak, StartConnection, StartCycle, Step, Steps, TellLoss, TieReel, Unsettled}
+pub use Rattle.fw_model_run.specs.Actions.{StartBreak, StartConnection, StartCycle, TellLoss, TieReel, Unsettled}
+pub use Rattle.fw_model_run.specs.Deeds.{Transition, Transitions}
 pub use Rattle.fw_model_run.specs.Actions.{Withhold}
-pub use Rattle.fw_model_run.specs.Afterwards.{Declares, Joins, Resets, after_cycles, after_death, after_loss, after_reset_entry, after_second, after_start, counted, slot_of, start_of, with_connection}
+pub use Rattle.fw_model_run.proofs.BusResets.{Resets}
+pub use Rattle.fw_model_run.specs.Afterwards.{after_cycles, after_death, after_loss, after_reset_entry, after_second, after_start, counted, slot_of, start_of, with_connection}
 pub use Rattle.fw_model_run.specs.Afterwards.{with_topology}
 pub use Rattle.fw_model_run.specs.Bidding.{bid_at, bid_step, bidden, epoch_at}
 pub use Rattle.fw_model_run.specs.Carrying.{Carries, HasCycle, Rounds, SendsAll, SendsPackets, becomes_candidate, breaks}
@@ -69,7 +71,7 @@ pub use Rattle.fw_model_run.specs.Desks.{DeskRelations, IsFunction}
 pub use Rattle.fw_model_run.specs.Dubs.{dub_between}
 pub use Rattle.fw_model_run.specs.Elected.{bid_answer}
 pub use Rattle.fw_model_run.specs.Entries.{second_over, shown_entry, withheld}
-pub use Rattle.fw_model_run.specs.Frames.{Receives, Sends, frame_packet, next_told, request_of, response_write}
+pub use Rattle.fw_model_run.specs.Frames.{frame_packet, next_told, request_of, response_write}
 pub use Rattle.fw_model_run.specs.Given.{AreGiven, IsGiven}
 pub use Rattle.fw_model_run.specs.Giving.{at_cycle, at_most}
 pub use Rattle.fw_model_run.specs.Good.{AreDeclared, Asks, IsGood, IsLatest, world_of}

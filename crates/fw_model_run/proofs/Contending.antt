@@ -3,9 +3,9 @@ use Rattle.fw_model_run.proofs.Common.{◌≡◌, ◌≢◌, ◌⊎◌, inl, inr
 use Rattle.fw_model_run.proofs.Common.{Bool, true, false, Option, Some, None, is_some, unwrap_or, refl, ap, sym, subst, ◌∙◌, arith}
 use Rattle.fw_model_run.proofs.Common.{IsTrue, IsFalse, to_be_bytes, w32, cases_eq, nat_tests, same_Some, update, Packet, LockReply, Reply, device_of_id, Entry, Reset, Async, Event, ResetEntry, Timed}
 use Rattle.fw_model_run.proofs.Common.{Account, first_address, CandidateState, stage_in, Heard, response_head, old_bytes, quadlet_at, Transaction, bid_at, bid_step, bidden, epoch_at, bid_answer}
-use Rattle.fw_model_run.proofs.Common.{second_over, withheld, at_most, IsGood, HasNumbers, reply_from, space_of_node}
+use Rattle.fw_model_run.proofs.Common.{second_over, withheld, at_most, IsGood, Answer, HasNumbers, reply_from, space_of_node}
 use Rattle.fw_model_run.proofs.Common.{is_manager, target_node, transaction_head, access_request, bus_manager_id_after, State}
-use Rattle.fw_model_run.proofs.Common.{first_state, epoch_of, number_in, manager_in, device_in, linked_number, is_linked, is_living, Action, Step, Resets, after_reset_entry, after_death, half}
+use Rattle.fw_model_run.proofs.Common.{first_state, epoch_of, number_in, manager_in, device_in, linked_number, is_linked, is_living, Action, Transition, Resets, after_reset_entry, after_death, half}
 use Rattle.std.proofs.lemmas.Nat.{from_be_bytes-to_be_bytes_4}
 use Rattle.std.proofs.lemmas.Option.{slice_get_within}
 use Rattle.fw_csr.specs.Manager.{after_at}
@@ -13,8 +13,8 @@ use Rattle.fw_words.specs.declared.swap.Swap.{Swap as Swapping}
 use Rattle.fw_log_entry.specs.declared.codes.event.TheConstants.{ELECTED, DEFEATED}
 use Rattle.fw_manager.specs.Bids.{first_state as new_candidate, stage_after, bid_request, after_hear}
 use Rattle.fw_manager.specs.declared.bid.Bid.TheVariants.{Elected, Defeated}
-use Rattle.fw_manager.specs.declared.candidate.Stage.{Stage}
-use Rattle.fw_manager.specs.declared.candidate.Stage.TheVariants.{Fresh, Asked, Answered}
+use Rattle.fw_manager.specs.declared.candidate.BidProgress.{BidProgress}
+use Rattle.fw_manager.specs.declared.candidate.BidProgress.TheVariants.{Fresh, Asked, Answered}
 use Rattle.fw_node.specs.Packets.{old_value}
 use Rattle.fw_order.specs.declared.order.Access.{Access}
 use Rattle.fw_model_run.specs.Bidding.{bid_head, bid_said, bid_asks, bid_hears, own_node, word_of_reply, word_shown}
@@ -27,7 +27,7 @@ use Rattle.fw_model_run.proofs.Bounds.{few_rows}
 use Rattle.fw_model_run.proofs.Directories.{linked_number_is}
 use Rattle.fw_model_run.proofs.Leads.{linked_of}
 use Rattle.fw_model_run.proofs.Plain.{ArePlain, no_event, request_plain, script_plain, half_plain, BidsOn, plainly}
-use Rattle.fw_model_run.proofs.Resets.{declaring}
+use Rattle.fw_model_run.proofs.Resets.{declaring, numbered}
 use Rattle.fw_model_run.proofs.Responses.{own_device}
 use Rattle.fw_model_run.proofs.Settling.{half_turn}
 use Rattle.fw_model_run.proofs.Times.{second_ends}
@@ -37,9 +37,8 @@ use Rattle.fw_model_run.proofs.Withholds.{withholding_keeps}
 use Rattle.fw_model_run.proofs.Words.{number_of_on}
 use Rattle.fw_model_run.proofs.Alterations.{Allows, Alteration, Answered as Replied, Asked as Transacted, AtUnits, Beside, Bid, Candidate, Died}
 use Rattle.fw_model_run.proofs.Alterations.{Halved, Over, Started, Tied, Waits, Withheld, altered, told_by}
-use Rattle.fw_model_run.proofs.Effects.{Effect, altering, effect, numbered, resetting}
+use Rattle.fw_model_run.proofs.Effects.{Effect, altering, effect, resetting}
 use Rattle.fw_order.specs.declared.order.Access.TheVariants as Accesses
-use Rattle.fw_model_run.specs.Actions as Actions
 
 -- ---- before the first device
 
@@ -213,7 +212,7 @@ same_number : (n : ℕ) → (n == n) ≡ true
 same_number n = grind (arith, nat_tests)
 
 -- it asks, or says how its bid has ended: then it has heard nothing that it is still to tell
-asks_on : (a : Answers) (s : State) (d manager : ℕ) (c : CandidateState) (stage : Stage) → ((word : ℕ) → stage_after stage ≡ Heard word → ⊥) → Acts a s d c
+asks_on : (a : Answers) (s : State) (d manager : ℕ) (c : CandidateState) (stage : BidProgress) → ((word : ℕ) → stage_after stage ≡ Heard word → ⊥) → Acts a s d c
     → IsElection a (bidden s d (bid_asks s d manager stage))
 asks_on a s d manager c stage told x = record {
   latest = h.latest;
@@ -374,7 +373,7 @@ hears_on a s d manager c asked manages x = record {
 
 -- ---- what it writes
 
-abbrev Leads : Answers → State → ℕ → ℕ → CandidateState → Stage → Type 0
+abbrev Leads : Answers → State → ℕ → ℕ → CandidateState → BidProgress → Type 0
 Leads a s d manager c stage = BidsOn a s (at_most s.clock.cycle (bid_at s d manager c stage).says) (bidden s d (bid_at s d manager c stage))
 
 device_in_event : Entry → ℕ
@@ -411,7 +410,7 @@ ended a s d word h w false found e is = subst (λ z. IsBid a s z × (answers_aft
   refl,
 )
 
-contends : (a : Answers) (s : State) (d manager : ℕ) (c : CandidateState) (stage : Stage) → stage_in (epoch_at s) c ≡ stage → manager_in s.account.latest ≡ Some manager → Acts a s d c
+contends : (a : Answers) (s : State) (d manager : ℕ) (c : CandidateState) (stage : BidProgress) → stage_in (epoch_at s) c ≡ stage → manager_in s.account.latest ≡ Some manager → Acts a s d c
     → Leads a s d manager c stage
 contends a s d manager c Fresh e manages x = plainly a s _ _ s.clock.cycle (bid_at s d manager c Fresh).says refl (request_plain (bid_head manager (own_node s d)) (bid_request (own_node s d)))
     (asks_on a s d manager c Fresh (λ word y. cc y) x)
@@ -497,14 +496,14 @@ spared_id s x on spared = go (is_manager s.account.latest (target_node s x))
     go true = access x.access spared
     go false = refl
 
-answers_on : (a : Answers) (s : State) (out : List Timed) (t : State) → IsElection a s → Actions.Answers s out t → BidsOn a s out t
-answers_on a s out t h f = plainly a s t out s.clock.cycle (Some (Async f.response)) f.out_is plain (subst (IsElection a) (sym f.state_is) (go s.election.begun refl))
+answers_on : (a : Answers) (s : State) (out : List Timed) (t : State) → IsElection a s → Transition s Answer out t → BidsOn a s out t
+answers_on a s out t h f = plainly a s t out s.clock.cycle (Some (Async f.found.response)) f.out_is plain (subst (IsElection a) (sym f.state_is) (go s.election.begun refl))
   where
     x : Transaction
-    x = f.transaction
+    x = f.found.transaction
 
-    plain : bid_answer f.response ≡ None
-    plain = subst (λ p. bid_answer p ≡ None) (response_is s x f.response f.answered)
+    plain : bid_answer f.found.response ≡ None
+    plain = subst (λ p. bid_answer p ≡ None) (response_is s x f.found.response f.may)
         (script_plain (target_node s x) (transaction_head s x) x.access (reply_from s (target_node s x) (access_request x.access)) refl)
 
     u : State
@@ -532,7 +531,7 @@ asked_on : (a : Answers) (s : State) (x : Transaction) → s.transaction ≡ Non
 asked_on a s x none spared h = same_election a s (record s { transaction = Some x }) refl refl refl
     (λ y waits. subst (λ (z : Transaction). IsSpared s.election z.access) (same_Some x y waits) spared) h
 
-pub step_bids : (a : Answers) (s : State) (x : Action) (out : List Timed) (t : State) → IsElection a s → IsGood s → HasNumbers s → Step s x out t → BidsOn a s out t
+pub step_bids : (a : Answers) (s : State) (x : Action) (out : List Timed) (t : State) → IsElection a s → IsGood s → HasNumbers s → Transition s x out t → BidsOn a s out t
 step_bids a s x out t h g b f = go (effect s x out t f)
   where
     by : (y : Alteration) → Waits s y → out ≡ at_most (altered s y).clock.cycle (told_by s y) → t ≡ altered s y → Allows s x y → BidsOn a s out t
@@ -543,7 +542,7 @@ step_bids a s x out t h g b f = go (effect s x out t f)
     by Withheld none out_is is ok = unchanged a s _ t out _ (Some withheld) h refl refl (withholding_keeps (λ (l : Account). l.latest) s.account refl) none is out_is refl
     by (Transacted y) none out_is is ok = plainly a s t out _ (told_by s (Transacted y)) out_is (request_plain (transaction_head s y) (access_request y.access))
         (subst (IsElection a) (sym is) (asked_on a s y none ok.1 h))
-    by (Replied y response) waits out_is is ok = answers_on a s out t h (record { transaction = y; waits = waits; response = response; answered = ok.1; out_is = out_is; state_is = is })
+    by (Replied y response) waits out_is is ok = answers_on a s out t h (record { found = record { transaction = y; response = response }; waits = waits; may = ok.1; out_is = out_is; state_is = is })
     by (Candidate d) none out_is is ok = plainly a s t out 0 None out_is tt (subst (IsElection a) (sym is) (becomes_one a s d none h))
     by (Bid d manager c) none out_is is ok =
         subst (λ z. BidsOn a s z t) (sym out_is) (subst (λ z. BidsOn a s (at_most s.clock.cycle (bid_step s d manager c).says) z) (sym is)

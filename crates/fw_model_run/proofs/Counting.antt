@@ -3,7 +3,7 @@ use Rattle.fw_model_run.proofs.Common.{◌≡◌, ℕ, ◌+◌, ◌<◌, ◌==�
 use Rattle.fw_model_run.proofs.Common.{false, Option, Some, None, is_some, option_map, refl, ap, sym, subst, ◌∙◌, arith, IsTrue}
 use Rattle.fw_model_run.proofs.Common.{nat_tests, PlugAt, update, Reset, Iso, ResetEntry, Timed, Account, talks}
 use Rattle.fw_model_run.proofs.Common.{is_output, IsSound, at_cycle, second_over, State, entered, while_talking, bytes_of, tape_at}
-use Rattle.fw_model_run.proofs.Common.{stream_packet, Action, Pass, EndSecond, Die, Step, after_cycles, after_second, after_reset_entry, next_cycle, SendsPackets, IsGood}
+use Rattle.fw_model_run.proofs.Common.{stream_packet, Action, Pass, EndSecond, Die, Transition, after_cycles, after_second, after_reset_entry, next_cycle, SendsPackets, IsGood}
 use Rattle.std.specs.Prelude.{if◌then◌else◌}
 use Rattle.fw_terms.proofs.Tables.{sum_to_changed, sum_to_zero}
 use Rattle.fw_tape.specs.declared.cassette.BlockPlace.{BlockPlace}
@@ -20,12 +20,12 @@ use Rattle.fw_model_run.specs.Reclaiming.{IsBusReset}
 use Rattle.fw_model_run.proofs.Counts.{heard_on}
 use Rattle.fw_model_run.proofs.Events.{living_small}
 use Rattle.fw_model_run.proofs.Reclaiming.{bus_resets}
-use Rattle.fw_model_run.proofs.Resets.{declaring}
+use Rattle.fw_model_run.proofs.Resets.{declaring, numbered}
 use Rattle.fw_model_run.proofs.Seconds.{opens_over}
 use Rattle.fw_model_run.proofs.Steps.{step_good}
 use Rattle.fw_model_run.proofs.Times.{second_ends}
 use Rattle.fw_model_run.proofs.Alterations.{Allows, Alteration, Died, Halved, IsTimeless, Over, Passed, altered, begun_timeless}
-use Rattle.fw_model_run.proofs.Effects.{Effect, altering, effect, numbered, resetting}
+use Rattle.fw_model_run.proofs.Effects.{Effect, altering, effect, resetting}
 
 -- ---- each action
 
@@ -85,7 +85,7 @@ timeless_gives (Pass n) s p moves = absurd moves
 timeless_gives EndSecond s p moves = absurd moves
 timeless_gives _ s p timeless = refl
 
-pub counts_step : (s : State) (a : Action) (out : List Timed) (t : State) → IsGood s → Step s a out t → (p : PlugAt) → CountsThrough a s t p
+pub counts_step : (s : State) (a : Action) (out : List Timed) (t : State) → IsGood s → Transition s a out t → (p : PlugAt) → CountsThrough a s t p
 counts_step s a out t g x p = go (effect s a out t x)
   where
     good : IsGood t
@@ -116,9 +116,9 @@ same_talk a s t p g good same none c = go (talks s.account p) refl
 never_reset : (c : ℕ) (e : ResetEntry) → at_cycle c (Reset e) ∷ [] ≡ [] → ⊥
 never_reset c e same = cc same
 
-reset_gives : (a : Action) (s t : State) (c : ℕ) (e : ResetEntry) (p : PlugAt) → Step s a (at_cycle c (Reset e) ∷ []) t → given_in a s p ≡ 0
-reset_gives (Pass n) s t c e p x = absurd (never_reset c e x.1.2)
-reset_gives EndSecond s t c e p x = absurd (let clash : false ≡ true = ap opens_over x.1.3 in cc clash)
+reset_gives : (a : Action) (s t : State) (c : ℕ) (e : ResetEntry) (p : PlugAt) → Transition s a (at_cycle c (Reset e) ∷ []) t → given_in a s p ≡ 0
+reset_gives (Pass n) s t c e p x = absurd (never_reset c e x.out_is)
+reset_gives EndSecond s t c e p x = absurd (let clash : false ≡ true = ap opens_over x.out_is in cc clash)
 reset_gives _ s t c e p x = refl
 
 no_connection : has_connection no_connections ≡ false
@@ -149,9 +149,9 @@ orphaned_there c (Some Dead) = refl
 death_talks : (l : Account) (d : ℕ) (p : PlugAt) → d < 63 → talks (account_death d l) p ≡ talks l p
 death_talks l d p lt = let a = counter_same d (l.outputs p) lt in let b = orphaned_there d (l.outputs p).broadcast in grind (arith, a, b)
 
-pub deaths_keep : (s : State) (d : ℕ) (out : List Timed) (t : State) → IsGood s → Step s (Die d) out t → (p : PlugAt) → t.streams p ≡ s.streams p
+pub deaths_keep : (s : State) (d : ℕ) (out : List Timed) (t : State) → IsGood s → Transition s (Die d) out t → (p : PlugAt) → t.streams p ≡ s.streams p
 deaths_keep s d out t g x p =
-    same_talk (Die d) s t p g (step_good s (Die d) out t g x) (ap (λ (z : State). talks z.account p) x.1.2 ∙ death_talks s.account d p (living_small s d g x.1.0)) refl
+    same_talk (Die d) s t p g (step_good s (Die d) out t g x) (ap (λ (z : State). talks z.account p) x.state_is ∙ death_talks s.account d p (living_small s d g x.may)) refl
     (counts_step s (Die d) out t g x p)
 
 -- ---- the packets of a cycle
@@ -160,9 +160,9 @@ pub packets_are : (plugs : List PlugAt) (s : State) (actions : List Action) (out
 packets_are [] s actions out t f = (f.1, f.2)
 packets_are (p ∷ plugs) s actions out t f =
     let x = f.5 in
-    let same : f.1 ≡ s = x.5.1 ∙ x.3.1.3 in
+    let same : f.1 ≡ s = x.5.1 ∙ x.3.state_is in
     let packet = at_cycle s.clock.cycle (Iso (stream_packet s p (bytes_of f.0))) in
-    let one : f.3 ≡ packet ∷ [] = x.4 ∙ (ap (λ z. z ++ x.1) x.3.1.2 ∙ ap (λ z. packet ∷ z) x.5.0) in
+    let one : f.3 ≡ packet ∷ [] = x.4 ∙ (ap (λ z. z ++ x.1) x.3.out_is ∙ ap (λ z. packet ∷ z) x.5.0) in
     let later = packets_are plugs f.1 f.2 f.4 t f.6 in
     ((bytes_of f.0, f.4, f.8 ∙ ap (λ z. z ++ f.4) one, subst (λ z. ArePackets z plugs f.4) same later.0), later.1 ∙ same)
 
@@ -176,12 +176,12 @@ before_is t p o count tape counts =
     let now : blocks_among o 1 ≡ one_of (block_now (tape_at t p)) = counted_one o ∙ ap one_of (sym (ap block_now tape ∙ given_now o)) in
     omega (arith, now, counts)
 
-pub counts_before : (s : State) (out : List Timed) (t : State) (p : PlugAt) → Step s (next_cycle s) out t → IsTrue (talks t.account p) → sent_before t p ≡ s.streams p
+pub counts_before : (s : State) (out : List Timed) (t : State) (p : PlugAt) → Transition s (next_cycle s) out t → IsTrue (talks t.account p) → sent_before t p ≡ s.streams p
 counts_before s out t p x on = go (s.account.reclaiming && (s.clock.cycle + 1 == s.clock.over_at)) x
   where
     Ok : State → Type 0
     Ok z = IsTrue (talks z.account p) → sent_before z p ≡ s.streams p
 
-    go : (b : Bool) → Step s (cond b EndSecond (Pass 1)) out t → sent_before t p ≡ s.streams p
-    go true x = subst Ok (sym x.1.4) (λ on. before_is (after_cycles (after_second s) 1) p (tape_at s p) (s.streams p) refl (over_counts s p on)) on
-    go false x = subst Ok (sym x.1.3) (λ on. before_is (after_cycles s 1) p (tape_at s p) (s.streams p) refl (heard_on s.account (passing s 1) p on)) on
+    go : (b : Bool) → Transition s (cond b EndSecond (Pass 1)) out t → sent_before t p ≡ s.streams p
+    go true x = subst Ok (sym x.state_is) (λ on. before_is (after_cycles (after_second s) 1) p (tape_at s p) (s.streams p) refl (over_counts s p on)) on
+    go false x = subst Ok (sym x.state_is) (λ on. before_is (after_cycles s 1) p (tape_at s p) (s.streams p) refl (heard_on s.account (passing s 1) p on)) on

@@ -17,7 +17,7 @@ use Rattle.fw_avc.specs.declared.row.UnitRow.TheVariants.{UnitInfo, SubunitInfo,
 use Rattle.fw_avc.specs.Notices.{changed_frame, is_changed, told, notice_of, without_first, after_notice}
 use Rattle.fw_avc.specs.Replies.{Ruling, Repeat, CarryOut, OfUnit, OfTape, asked, state_after, ruling}
 use Rattle.fw_avc.specs.State.{UnitState, now_of, with_kept}
-use Rattle.fw_async.specs.Async.{AreBytes}
+use Rattle.fw_async_fields.specs.Data.{AreBytes}
 use Rattle.fw_node.specs.Fcp.{IsSendable}
 use Rattle.fw_model_run.specs.Decks.{first_deck, after_command, after_reset, with_tape, passed, IsAtRest}
 use Rattle.fw_model_run.specs.Good.{IsLinkedNode, AreLinkedNodes, IsForLinkedNode, HasMovedWithin, IsDeck}

@@ -7,7 +7,7 @@ use Rattle.std.proofs.Common.{get_or}
 use Rattle.std.proofs.lemmas.List.{length-append, get_or_append_left}
 use Rattle.std.proofs.lemmas.Option.{slice_get-get_or, slice_get_past}
 use Rattle.std.proofs.Math.Seq.{get_or-append_seam}
-use Rattle.fw_cmp.specs.Nodes.{node_of, joined}
+use Rattle.fw_cmp_jobs.specs.Nodes.{node_of, joined}
 use Rattle.fw_model_controllers.specs.Controllers.{IsDirectory}
 use Rattle.fw_model_controllers.specs.Requests.{IsNumbering}
 use Rattle.fw_model_controllers.proofs.Directories.{directory}

@@ -1,7 +1,7 @@
 -- One device at most is elected between two bus resets, and it is the winner.
 use Rattle.fw_model_run.proofs.Common.{◌≡◌, ℕ, ◌++◌, List, [], ◌∷◌, Option, Some, None, is_some, refl, ap}
 use Rattle.fw_model_run.proofs.Common.{sym, subst, ◌∙◌, append_assoc, IsTrue, same_Some, device_of_id, Entry, Reset, Async, Iso, Event}
-use Rattle.fw_model_run.proofs.Common.{Outcome, Shown, End, Timed, entries_of, Action, Steps, bid_answer, at_cycle, at_most, IsGood, HasNumbers, State, first_state, linked_number}
+use Rattle.fw_model_run.proofs.Common.{Outcome, Shown, End, Timed, entries_of, Action, Transitions, bid_answer, at_cycle, at_most, IsGood, HasNumbers, State, first_state, linked_number}
 use Rattle.fw_model_run.specs.Elected.{Answers, no_answers, first_won, with_answer, answers_after, answers_from, answers_of}
 use Rattle.fw_model_run.specs.Elected.{id_of, IsNoReset, HasNoReset, IsBid, IsElection, WrittenIn, ElectsOne}
 use Rattle.fw_model_run.specs.Entries.{elected}
@@ -23,7 +23,8 @@ answers_append a (x ∷ xs) ys = answers_append (answers_after a x.what) xs ys
 
 -- ---- through actions
 
-pub steps_election : (a : Answers) (s t : State) (xs : List Action) (out : List Timed) → IsElection a s → IsGood s → HasNumbers s → Steps s xs out t → IsElection (answers_from a (entries_of out)) t
+pub steps_election : (a : Answers) (s t : State) (xs : List Action) (out : List Timed) → IsElection a s → IsGood s → HasNumbers s → Transitions s xs out t
+    → IsElection (answers_from a (entries_of out)) t
 steps_election a s t [] out h g b f = subst (λ z. IsElection (answers_from a (entries_of z)) t) (sym f.0) (subst (IsElection a) (sym f.1) h)
 steps_election a s t (x ∷ xs) out h g b f =
     let on = (step_bids a s x f.0 f.2 h g b f.3).election in
@@ -31,24 +32,24 @@ steps_election a s t (x ∷ xs) out h g b f =
     subst (λ z. IsElection (answers_from a (entries_of z)) t) (sym f.4) (subst (λ z. IsElection z t) (sym (answers_append a f.0 f.1)) rest)
 
 -- an entry that these actions write, and the state in which it was written
-record Found (a : Answers) (s : State) (actions : List Action) (front : List Timed) (t : Timed) : Type 0 where
+record Found (a : Answers) (s : State) (actions : List Action) (prefix : List Timed) (t : Timed) : Type 0 where
   done : List Action
   later : List Action
   state : State
   actions_are : actions ≡ done ++ later
-  steps : Steps s done front state
-  bid : IsBid (answers_from a (entries_of front)) state t.what
+  steps : Transitions s done prefix state
+  bid : IsBid (answers_from a (entries_of prefix)) state t.what
 
-found : (a : Answers) (s t : State) (xs : List Action) (out front rest : List Timed) (u : Timed) → IsElection a s → IsGood s → HasNumbers s → Steps s xs out t → out ≡ front ++ u ∷ rest
-    → Found a s xs front u
-found a s t [] out front rest u h g b f e = absurd (none front (sym f.0 ∙ e))
+found : (a : Answers) (s t : State) (xs : List Action) (out prefix rest : List Timed) (u : Timed) → IsElection a s → IsGood s → HasNumbers s → Transitions s xs out t → out ≡ prefix ++ u ∷ rest
+    → Found a s xs prefix u
+found a s t [] out prefix rest u h g b f e = absurd (none prefix (sym f.0 ∙ e))
   where
-    none : (front : List Timed) → [] ≡ front ++ u ∷ rest → ⊥
+    none : (prefix : List Timed) → [] ≡ prefix ++ u ∷ rest → ⊥
     none [] e = cc e
-    none (x ∷ front) e = cc e
-found a s t (x ∷ xs) out front rest u h g b f e =
+    none (x ∷ prefix) e = cc e
+found a s t (x ∷ xs) out prefix rest u h g b f e =
     go (λ c is some same. found c f.2 t xs f.1 some rest u (subst (λ z. IsElection z f.2) is on.election) (step_good s x f.0 f.2 g f.3)
-    (step_numbers s x f.0 f.2 g b f.3) f.5 same) led.entry led.is front (sym f.4 ∙ e)
+    (step_numbers s x f.0 f.2 g b f.3) f.5 same) led.entry led.is prefix (sym f.4 ∙ e)
   where
     led : Led s f.0 f.2
     led = step_led s f.2 x f.0 g f.3
@@ -57,32 +58,39 @@ found a s t (x ∷ xs) out front rest u h g b f e =
     on = step_bids a s x f.0 f.2 h g b f.3
 
     go : ((c : Answers) → answers_from a (entries_of f.0) ≡ c → (some : List Timed) → f.1 ≡ some ++ u ∷ rest → Found c f.2 xs some u) → (o : Option Entry) → f.0 ≡ at_most f.2.clock.cycle o
-        → (front : List Timed) → f.0 ++ f.1 ≡ front ++ u ∷ rest → Found a s (x ∷ xs) front u
-    go later None is front e =
-        let w = later a (ap (λ z. answers_from a (entries_of z)) is) front (sym (ap (λ z. z ++ f.1) is) ∙ e) in
-        record { done = x ∷ w.done; later = w.later; state = w.state; actions_are = ap (λ z. x ∷ z) w.actions_are; steps = (f.0, front, f.2, f.3, sym (ap (λ z. z ++ front) is), w.steps); bid = w.bid }
-    go later (Some y) is [] e =
-        let same : at_cycle f.2.clock.cycle y ∷ f.1 ≡ u ∷ rest = sym (ap (λ z. z ++ f.1) is) ∙ e in
-        let first : at_cycle f.2.clock.cycle y ≡ u = cc in
-        let all : AllBid a s (at_cycle f.2.clock.cycle y ∷ []) = subst (AllBid a s) is on.entries in
-        record { done = []; later = x ∷ xs; state = s; actions_are = refl; steps = (refl, refl); bid = subst (λ (z : Timed). IsBid a s z.what) first all.0 }
-    go later (Some y) is (v ∷ front) e =
-        let same : at_cycle f.2.clock.cycle y ∷ f.1 ≡ v ∷ (front ++ u ∷ rest) = sym (ap (λ z. z ++ f.1) is) ∙ e in
-        let first : at_cycle f.2.clock.cycle y ≡ v = cc in
-        let tail : f.1 ≡ front ++ u ∷ rest = cc in
-        let w = later (answers_after a v.what) (ap (λ z. answers_from a (entries_of z)) is ∙ ap (λ (z : Timed). answers_after a z.what) first) front tail in
+        → (prefix : List Timed) → f.0 ++ f.1 ≡ prefix ++ u ∷ rest → Found a s (x ∷ xs) prefix u
+    go later None is prefix e =
+        let w = later a (ap (λ z. answers_from a (entries_of z)) is) prefix (sym (ap (λ z. z ++ f.1) is) ∙ e) in
         record {
           done = x ∷ w.done;
           later = w.later;
           state = w.state;
           actions_are = ap (λ z. x ∷ z) w.actions_are;
-          steps = (f.0, front, f.2, f.3, sym (ap (λ z. z ++ front) is ∙ ap (λ z. z ∷ front) first), w.steps);
+          steps = (f.0, prefix, f.2, f.3, sym (ap (λ z. z ++ prefix) is), w.steps);
+          bid = w.bid;
+        }
+    go later (Some y) is [] e =
+        let same : at_cycle f.2.clock.cycle y ∷ f.1 ≡ u ∷ rest = sym (ap (λ z. z ++ f.1) is) ∙ e in
+        let first : at_cycle f.2.clock.cycle y ≡ u = cc in
+        let all : AllBid a s (at_cycle f.2.clock.cycle y ∷ []) = subst (AllBid a s) is on.entries in
+        record { done = []; later = x ∷ xs; state = s; actions_are = refl; steps = (refl, refl); bid = subst (λ (z : Timed). IsBid a s z.what) first all.0 }
+    go later (Some y) is (v ∷ prefix) e =
+        let same : at_cycle f.2.clock.cycle y ∷ f.1 ≡ v ∷ (prefix ++ u ∷ rest) = sym (ap (λ z. z ++ f.1) is) ∙ e in
+        let first : at_cycle f.2.clock.cycle y ≡ v = cc in
+        let tail : f.1 ≡ prefix ++ u ∷ rest = cc in
+        let w = later (answers_after a v.what) (ap (λ z. answers_from a (entries_of z)) is ∙ ap (λ (z : Timed). answers_after a z.what) first) prefix tail in
+        record {
+          done = x ∷ w.done;
+          later = w.later;
+          state = w.state;
+          actions_are = ap (λ z. x ∷ z) w.actions_are;
+          steps = (f.0, prefix, f.2, f.3, sym (ap (λ z. z ++ prefix) is ∙ ap (λ z. z ∷ prefix) first), w.steps);
           bid = w.bid;
         }
 
-pub written : (actions : List Action) (log front rest : List Timed) (s : State) (t : Timed) → Steps first_state actions log s → log ≡ front ++ t ∷ rest → WrittenIn actions front t
-written actions log front rest s t f e =
-    let w = found (no_answers None) first_state s actions log front rest t first_election first_good first_numbers f e in
+pub written : (actions : List Action) (log prefix rest : List Timed) (s : State) (t : Timed) → Transitions first_state actions log s → log ≡ prefix ++ t ∷ rest → WrittenIn actions prefix t
+written actions log prefix rest s t f e =
+    let w = found (no_answers None) first_state s actions log prefix rest t first_election first_good first_numbers f e in
     record { done = w.done; later = w.later; state = w.state; actions_are = w.actions_are; steps = w.steps; bid = w.bid }
 
 -- ---- between two bus resets
@@ -124,25 +132,25 @@ same_id s a d e g is on there same =
     let ids : id_of s.account.latest d ≡ id_of s.account.latest e = subst (λ o. id_of o d ≡ id_of o e) is same in
     same_Some d e (sym x ∙ (ap (device_of_id s.account.latest) ids ∙ y))
 
-pub elects_one : (actions : List Action) (log : List Timed) (s : State) → Steps first_state actions log s → ElectsOne actions log
+pub elects_one : (actions : List Action) (log : List Timed) (s : State) → Transitions first_state actions log s → ElectsOne actions log
 elects_one actions log s f = record {
   one = one;
-  entries = λ front rest t e. written actions log front rest s t f e;
-  holds = λ done later front m id split g w. (steps_election (no_answers None) first_state m done front first_election first_good first_numbers g).holds id w;
+  entries = λ prefix rest t e. written actions log prefix rest s t f e;
+  holds = λ done later prefix m id split g w. (steps_election (no_answers None) first_state m done prefix first_election first_good first_numbers g).holds id w;
 }
   where
-    one : (front middle rest : List Timed) (t u : Timed) (d e : ℕ) → log ≡ front ++ t ∷ (middle ++ u ∷ rest) → t.what ≡ elected d → u.what ≡ elected e → HasNoReset middle → d ≡ e
-    one front middle rest t u d e split first second on =
-        let x = written actions log front (middle ++ u ∷ rest) s t f split in
-        let y = written actions log (front ++ t ∷ middle) rest s u f (split ∙ sym (append_assoc front (t ∷ middle) (u ∷ rest))) in
+    one : (prefix middle rest : List Timed) (t u : Timed) (d e : ℕ) → log ≡ prefix ++ t ∷ (middle ++ u ∷ rest) → t.what ≡ elected d → u.what ≡ elected e → HasNoReset middle → d ≡ e
+    one prefix middle rest t u d e split first second on =
+        let x = written actions log prefix (middle ++ u ∷ rest) s t f split in
+        let y = written actions log (prefix ++ t ∷ middle) rest s u f (split ∙ sym (append_assoc prefix (t ∷ middle) (u ∷ rest))) in
         let won = x.bid.elected d first in
         let also = y.bid.elected e second in
-        let after : Won (answers_of front) (answers_of (front ++ t ∷ middle)) (id_of (answers_of front).reset d) =
-        subst (λ z. Won (answers_of front) z (id_of (answers_of front).reset d)) (sym (answers_append (no_answers None) front (t ∷ middle)))
-        (all_won (answers_of front) (id_of (answers_of front).reset d) (t ∷ middle) (subst IsNoReset (sym first) (event_on d), on) won.1) in
+        let after : Won (answers_of prefix) (answers_of (prefix ++ t ∷ middle)) (id_of (answers_of prefix).reset d) =
+        subst (λ z. Won (answers_of prefix) z (id_of (answers_of prefix).reset d)) (sym (answers_append (no_answers None) prefix (t ∷ middle)))
+        (all_won (answers_of prefix) (id_of (answers_of prefix).reset d) (t ∷ middle) (subst IsNoReset (sym first) (event_on d), on) won.1) in
         let m = y.state in
-        let good : IsGood m = steps_good first_state m y.done (front ++ t ∷ middle) first_good y.steps in
-        let latest = (steps_election (no_answers None) first_state m y.done (front ++ t ∷ middle) first_election first_good first_numbers y.steps).latest in
-        let here : IsTrue (is_some (linked_number (answers_of (front ++ t ∷ middle)).reset d)) = subst (λ o. IsTrue (is_some (linked_number o d))) (sym after.reset) won.0 in
-        let ids : id_of (answers_of (front ++ t ∷ middle)).reset d ≡ id_of (answers_of (front ++ t ∷ middle)).reset e = ap (λ o. id_of o d) after.reset ∙ same_Some _ _ (sym after.winner ∙ also.1) in
-        same_id m (answers_of (front ++ t ∷ middle)) d e good latest here also.0 ids
+        let good : IsGood m = steps_good first_state m y.done (prefix ++ t ∷ middle) first_good y.steps in
+        let latest = (steps_election (no_answers None) first_state m y.done (prefix ++ t ∷ middle) first_election first_good first_numbers y.steps).latest in
+        let here : IsTrue (is_some (linked_number (answers_of (prefix ++ t ∷ middle)).reset d)) = subst (λ o. IsTrue (is_some (linked_number o d))) (sym after.reset) won.0 in
+        let ids : id_of (answers_of (prefix ++ t ∷ middle)).reset d ≡ id_of (answers_of (prefix ++ t ∷ middle)).reset e = ap (λ o. id_of o d) after.reset ∙ same_Some _ _ (sym after.winner ∙ also.1) in
+        same_id m (answers_of (prefix ++ t ∷ middle)) d e good latest here also.0 ids

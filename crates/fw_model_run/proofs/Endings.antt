@@ -4,32 +4,33 @@ use Rattle.fw_model_run.proofs.Common.{Option, Some, None, refl, sym, subst, ari
 use Rattle.fw_model_run.proofs.Common.{Asking, Hearing, Overtaken, Directory, Job, Stage, ControllerState, slot_at, heard, after_hear, after_next, access_of, Access}
 use Rattle.fw_terms.specs.Tables.{find_to}
 use Rattle.fw_plug.specs.Words.{is_connected}
-use Rattle.fw_cmp.specs.declared.connection.Connection.{Connection}
-use Rattle.fw_cmp.specs.declared.connection.Connection.TheVariants.{PlugToPlug, BroadcastOut, BroadcastIn}
-use Rattle.fw_cmp.specs.declared.connection.Flow.{Flow}
-use Rattle.fw_cmp.specs.declared.connection.Slot.TheVariants.{Free, Making, Standing, Restoring, Gone}
-use Rattle.fw_cmp.specs.declared.job.Ending.{Ending}
-use Rattle.fw_cmp.specs.declared.job.Ending.TheVariants as ending
-use Rattle.fw_cmp.specs.declared.job.Held.{Held}
-use Rattle.fw_cmp.specs.declared.job.Purpose.{Purpose}
-use Rattle.fw_cmp.specs.declared.job.Purpose.TheVariants.{Make, Restore, Break}
-use Rattle.fw_cmp.specs.declared.job.Then.{Then}
-use Rattle.fw_cmp.specs.declared.job.Then.TheVariants.{EndsAs, Again}
-use Rattle.fw_cmp.specs.declared.stage.Stage.TheVariants.{Begin, ReadOutput, ReadChannels, SwapChannels, ReadBandwidth, SwapBandwidth, ConnectOutput}
-use Rattle.fw_cmp.specs.declared.stage.Stage.TheVariants.{OverlayOutput, ReadInput, ConnectInput, ReadInputToLeave, LeaveInput, ReadOutputToLeave, LeaveOutput}
-use Rattle.fw_cmp.specs.declared.stage.Stage.TheVariants.{ReadBandwidthToRelease, RaiseBandwidth, ReadChannelsToRelease, RestoreChannel, Made, Ended}
-use Rattle.fw_cmp.specs.declared.outcome.Outcome.TheVariants as outcome
-use Rattle.fw_cmp.specs.Connections.{kind_of, is_listen, is_point_to_point}
+use Rattle.fw_cmp_jobs.specs.declared.connection.Connection.{Connection}
+use Rattle.fw_cmp_jobs.specs.declared.connection.Connection.TheVariants.{PlugToPlug, BroadcastOut, BroadcastIn}
+use Rattle.fw_cmp_jobs.specs.declared.connection.Flow.{Flow}
+use Rattle.fw_cmp_jobs.specs.declared.connection.Slot.TheVariants.{Free, Making, Established, Restoring, Gone}
+use Rattle.fw_cmp_jobs.specs.declared.job.Ending.{Ending}
+use Rattle.fw_cmp_jobs.specs.declared.job.Ending.TheVariants as ending
+use Rattle.fw_cmp_jobs.specs.declared.job.HeldResources.{HeldResources}
+use Rattle.fw_cmp_jobs.specs.declared.job.Purpose.{Purpose}
+use Rattle.fw_cmp_jobs.specs.declared.job.Purpose.TheVariants.{Make, Restore, Break}
+use Rattle.fw_cmp_jobs.specs.declared.job.Then.{Then}
+use Rattle.fw_cmp_jobs.specs.declared.job.Then.TheVariants.{EndsAs, Again}
+use Rattle.fw_cmp_jobs.specs.declared.stage.Stage.TheVariants.{Begin, ReadOutput, ReadChannels, SwapChannels, ReadBandwidth, SwapBandwidth, ConnectOutput}
+use Rattle.fw_cmp_jobs.specs.declared.stage.Stage.TheVariants.{OverlayOutput, ReadInput, ConnectInput, ReadInputToLeave, LeaveInput, ReadOutputToLeave, LeaveOutput}
+use Rattle.fw_cmp_jobs.specs.declared.stage.Stage.TheVariants.{ReadBandwidthToRelease, RaiseBandwidth, ReadChannelsToRelease, RestoreChannel, Made, Ended}
+use Rattle.fw_cmp_jobs.specs.declared.outcome.Outcome.TheVariants as outcome
+use Rattle.fw_cmp_jobs.specs.Connections.{kind_of, is_listen, is_point_to_point}
 use Rattle.fw_cmp.specs.Controllers.{with_slot, CurrentFits, Fits}
-use Rattle.fw_cmp.specs.Decisions.{restores, goes_on, give_back, leave_output, is_lost, decide_free, decide_connected, decide_out, decide_any, decide_channel, needs}
-use Rattle.fw_cmp.specs.Decisions.{decide_units, first_flow, overlaid_flow, output_joined, decide_in, input_left, decide_leave_in, decide_leave_out, output_left, decide_raise}
-use Rattle.fw_cmp.specs.Fits.{ConnectionFits, JobFits, StageFits}
-use Rattle.fw_cmp.specs.Nodes.{node_of}
-use Rattle.fw_cmp.specs.Plugs.{is_full, has_broadcast, counter_of, channel_of, is_bit, shows_connection, one_less, remainder_of, half_of}
+use Rattle.fw_cmp_jobs.specs.Decisions.{restores, goes_on, give_back, leave_output, is_lost, decide_free, decide_connected, decide_out, decide_any, decide_channel, needs}
+use Rattle.fw_cmp_jobs.specs.Decisions.{decide_units, first_flow, overlaid_flow, output_joined, decide_in, input_left, decide_leave_in, decide_leave_out, output_left, decide_raise}
+use Rattle.fw_cmp_jobs.specs.Fits.{ConnectionFits, JobFits, StageFits}
+use Rattle.fw_cmp_jobs.specs.Nodes.{node_of}
+use Rattle.fw_cmp_jobs.specs.Plugs.{is_full, has_broadcast, counter_of, channel_of, is_bit, shows_connection, one_less, remainder_of, half_of}
 use Rattle.fw_cmp.specs.Resets.{interrupted, decided, overtaken, current_reset, after_reset, lost_reset, after_lost_reset, state_reset}
-use Rattle.fw_cmp.specs.Stages.{hear, refuse, hear_reply}
+use Rattle.fw_cmp_jobs.specs.Stages.{hear, refuse, hear_reply}
 use Rattle.fw_cmp.specs.Turns.{after_asking}
-use Rattle.fw_cmp.specs.Jobs.{without_node, absent_of, begin_managed, begin_present, begin_making, begin_leaving, begin_breaking, begin, begun, is_late, resumed_current, picked, ready, current_for}
+use Rattle.fw_cmp.specs.Jobs.{resumed_current, picked, ready, current_for}
+use Rattle.fw_cmp_jobs.specs.Jobs.{without_node, absent_of, begin_managed, begin_present, begin_making, begin_leaving, begin_breaking, begin, begun, is_late}
 use Rattle.fw_cmp.proofs.Picking.{picked_fits, picked_holds}
 use Rattle.fw_model_run.specs.Entries.{coded}
 use Rattle.fw_model_run.specs.Numbers.{EndingShows, ThenShows, StageShows, CurrentShows}
@@ -46,7 +47,7 @@ on_shows : (next : Then) → ThenShows next → StageShows (goes_on next)
 on_shows (EndsAs e) f = f
 on_shows Again f = tt
 
-back_shows : (held : Option Held) (next : Then) → ThenShows next → StageShows (give_back held next)
+back_shows : (held : Option HeldResources) (next : Then) → ThenShows next → StageShows (give_back held next)
 back_shows None next f = on_shows next f
 back_shows (Some h) next f = either (h.units == 0) _ _ f f
 
@@ -57,15 +58,15 @@ lost_shows : (b : Bool) → ThenShows (cond b (EndsAs ending.Late) Again)
 lost_shows true = tt
 lost_shows false = tt
 
-connected_shows : (j : Job) (held : Option Held) (w : ℕ) → StageShows (decide_connected j held w)
+connected_shows : (j : Job) (held : Option HeldResources) (w : ℕ) → StageShows (decide_connected j held w)
 connected_shows j None w = either (is_lost j w) _ _ tt tt
 connected_shows j (Some h) w = back_shows (Some h) (cond (is_lost j w) (EndsAs ending.Late) Again) (lost_shows (is_lost j w))
 
-free_shows : (j : Job) (held : Option Held) (w : ℕ) → StageShows (decide_free j held w)
+free_shows : (j : Job) (held : Option HeldResources) (w : ℕ) → StageShows (decide_free j held w)
 free_shows j None w = tt
 free_shows j (Some h) w = tt
 
-out_shows : (j : Job) (held : Option Held) (w : ℕ) → w < 2 ^ 32 → StageShows (decide_out j held w)
+out_shows : (j : Job) (held : Option HeldResources) (w : ℕ) → w < 2 ^ 32 → StageShows (decide_out j held w)
 out_shows j held w low = either (is_full (kind_of j.connection) w) _ _ (back_shows held (EndsAs (ending.PlugFull w)) low) (either (is_connected w) _ _ (connected_shows j held w) (free_shows j held w))
 
 any_shows : (o : Option ℕ) (base w v : ℕ) → v < 2 ^ 32 → StageShows (decide_any o base w v)
@@ -180,7 +181,7 @@ leaving_shows (BroadcastOut out) f = tt
 leaving_shows (BroadcastIn into) f = tt
 
 breaking_shows : (slot : Slot) → StageShows (begin_breaking slot)
-breaking_shows (Standing conn f) = leaving_shows conn f
+breaking_shows (Established conn f) = leaving_shows conn f
 breaking_shows Free = tt
 breaking_shows (Making conn asked overhead) = tt
 breaking_shows (Restoring conn f over) = tt
@@ -216,7 +217,7 @@ going_fits d c (Overtaken i o) fits f = (fits, f)
 current_shows : (i : ℕ) (s : Slot) → CurrentShows (current_for i s)
 current_shows i Free = tt
 current_shows i (Making conn asked overhead) = tt
-current_shows i (Standing conn f) = tt
+current_shows i (Established conn f) = tt
 current_shows i (Restoring conn f over) = tt
 current_shows i (Gone conn) = tt
 

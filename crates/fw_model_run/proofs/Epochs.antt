@@ -1,6 +1,26 @@
 -- The epoch of a state is that of the latest reset among the entries that led to it.
 use Rattle.fw_model_run.proofs.Common.{◌≡◌, ℕ, ◌==◌, ◌&&◌, cond, Bool, true, false, List, [], ◌∷◌, Option, Some, None, is_some, refl, ap, sym, ◌∙◌, quadlet_at, PlugAt, Head, Packet, ReadQuadletReply}
-use Rattle.fw_model_run.proofs.Common.{LockReply, device_of_id, Entry, Reset, Async, Iso, Event, Outcome, Shown, End, Timed, Account, next_account, Register, register_of, Action, Step, Steps, IsGood}
+use Rattle.fw_model_run.proofs.Common.{
+  LockReply,
+  device_of_id,
+  Entry,
+  Reset,
+  Async,
+  Iso,
+  Event,
+  Outcome,
+  Shown,
+  End,
+  Timed,
+  Account,
+  next_account,
+  Register,
+  register_of,
+  Action,
+  Transition,
+  Transitions,
+  IsGood,
+}
 use Rattle.fw_model_run.proofs.Common.{at_most, State, epoch_of, first_state, Run, Command}
 use Rattle.std.proofs.Common.{is_none}
 use Rattle.fw_async.specs.declared.packet.Packet.TheVariants.{WriteQuadlet, WriteBlock, WriteReply, ReadQuadlet, ReadBlock, ReadBlockReply, CycleStart, Lock}
@@ -103,12 +123,12 @@ led_epoch cycle l m None same = ap (λ (x : Account). epoch_of x.latest) same
 led_epoch cycle l m (Some e) next = next_epoch l m e next
 
 -- an action leads from the epoch of its state to that of the next
-pub step_epoch : (s t : State) (a : Action) (out : List Timed) → IsGood s → Step s a out t → epoch_of t.account.latest ≡ latest_epoch (epoch_of s.account.latest) out
+pub step_epoch : (s t : State) (a : Action) (out : List Timed) → IsGood s → Transition s a out t → epoch_of t.account.latest ≡ latest_epoch (epoch_of s.account.latest) out
 step_epoch s t a out g f =
     let w = step_led s t a out g f in
     led_epoch t.clock.cycle s.account t.account w.entry w.next ∙ ap (latest_epoch (epoch_of s.account.latest)) (sym w.is)
 
-pub steps_epoch : (s t : State) (actions : List Action) (out : List Timed) → IsGood s → Steps s actions out t → epoch_of t.account.latest ≡ latest_epoch (epoch_of s.account.latest) out
+pub steps_epoch : (s t : State) (actions : List Action) (out : List Timed) → IsGood s → Transitions s actions out t → epoch_of t.account.latest ≡ latest_epoch (epoch_of s.account.latest) out
 steps_epoch s t [] out g f = ap (λ (x : State). epoch_of x.account.latest) f.1 ∙ ap (latest_epoch (epoch_of s.account.latest)) (sym f.0)
 steps_epoch s t (a ∷ actions) out g f =
     steps_epoch f.2 t actions f.1 (step_good s a f.0 f.2 g f.3) f.5
@@ -116,7 +136,7 @@ steps_epoch s t (a ∷ actions) out g f =
     ∙ sym (latest_append (epoch_of s.account.latest) f.0 f.1) ∙ ap (latest_epoch (epoch_of s.account.latest)) (sym f.4)
 
 -- and its entry has the epoch of the state after it in its head
-pub entry_epoch : (s t : State) (a : Action) (cycle : ℕ) (e : Entry) → IsGood s → Step s a (at_most cycle (Some e)) t
+pub entry_epoch : (s t : State) (a : Action) (cycle : ℕ) (e : Entry) → IsGood s → Transition s a (at_most cycle (Some e)) t
     → epoch_after (epoch_of t.account.latest) e ≡ epoch_after (epoch_of s.account.latest) e
 entry_epoch s t a cycle e g f = by e (step_epoch s t a (at_most cycle (Some e)) g f)
   where

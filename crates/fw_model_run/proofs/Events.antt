@@ -6,8 +6,9 @@ use Rattle.fw_model_run.proofs.Common.{Shows, goes_on_reclaiming, AsksWhatStands
 use Rattle.fw_model_run.proofs.Common.{BroadcastIn, State, linked_number, is_linked, is_living, with_controller, slot_of, start_of, with_connection, after_death, IsGood, IsLatest, world_of}
 use Rattle.std.proofs.Common.{Ok, Err}
 use Rattle.fw_cmp.specs.declared.outcome.StartFault.TheVariants.{NotOwnPlug}
-use Rattle.fw_cmp.specs.Fits.{SlotFits}
-use Rattle.fw_cmp.specs.Starts.{IsMaking, start, started, with_task}
+use Rattle.fw_cmp_jobs.specs.Fits.{SlotFits}
+use Rattle.fw_cmp.specs.Starts.{start, started, with_task}
+use Rattle.fw_cmp_jobs.specs.Slots.{IsMaking}
 use Rattle.fw_model_reclaim.specs.Worlds.{CanReclaim, Death, NewConnection, BreakOf}
 use Rattle.fw_model_run.proofs.Buses.{linked_small}
 use Rattle.fw_model_run.proofs.Counts.{silent}

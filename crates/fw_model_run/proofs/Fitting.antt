@@ -7,25 +7,27 @@ use Rattle.fw_model_run.proofs.Common.{Next, Idle, Waiting, Access, Target, Stag
 use Rattle.fw_model_run.proofs.Common.{access_of, addressee_of, request_at, next, packet_of, response_head, old_bytes, procedure_head}
 use Rattle.fw_model_run.proofs.Common.{State, directory_of, is_living, said, asks, half, half_of, IsGood, HasNumbers}
 use Rattle.std.specs.Int.{byte_at}
-use Rattle.fw_async.specs.Async.{AreBytes, HeadFits, is_reply_size}
+use Rattle.fw_async.specs.Async.{HeadFits}
+use Rattle.fw_async_fields.specs.Data.{AreBytes, is_reply_size}
 use Rattle.fw_async.specs.Async as Async
 use Rattle.fw_log_entry.specs.Log.{Fits}
-use Rattle.fw_cmp.specs.declared.connection.Connection.{Connection}
-use Rattle.fw_cmp.specs.declared.connection.Connection.TheVariants.{PlugToPlug, BroadcastOut, BroadcastIn}
-use Rattle.fw_cmp.specs.declared.job.Ending.{Ending}
-use Rattle.fw_cmp.specs.declared.job.Ending.TheVariants as ending
+use Rattle.fw_cmp_jobs.specs.declared.connection.Connection.{Connection}
+use Rattle.fw_cmp_jobs.specs.declared.connection.Connection.TheVariants.{PlugToPlug, BroadcastOut, BroadcastIn}
+use Rattle.fw_cmp_jobs.specs.declared.job.Ending.{Ending}
+use Rattle.fw_cmp_jobs.specs.declared.job.Ending.TheVariants as ending
 use Rattle.fw_cmp.specs.declared.outcome.Next.TheVariants.{End}
-use Rattle.fw_cmp.specs.declared.outcome.Outcome.{Outcome}
-use Rattle.fw_cmp.specs.declared.outcome.Outcome.TheVariants.{Connected, Broken, Restored, NoChannel, NoUnits, PlugFull, InputBusy, NoPlug, NoManager, Absent, Reset, Late}
-use Rattle.fw_cmp.specs.declared.request.Target.TheVariants.{OutputPlug, InputPlug, Channels, BandwidthAvailable}
-use Rattle.fw_cmp.specs.declared.stage.Stage.TheVariants.{Begin, ReadOutput, ReadChannels, SwapChannels, ReadBandwidth, SwapBandwidth, ConnectOutput}
-use Rattle.fw_cmp.specs.declared.stage.Stage.TheVariants.{OverlayOutput, ReadInput, ConnectInput, ReadInputToLeave, LeaveInput, ReadOutputToLeave, LeaveOutput}
-use Rattle.fw_cmp.specs.declared.stage.Stage.TheVariants.{ReadBandwidthToRelease, RaiseBandwidth, ReadChannelsToRelease, RestoreChannel, Made, Ended}
-use Rattle.fw_cmp.specs.Connections.{output_of, input_of}
-use Rattle.fw_cmp.specs.Decisions.{restores}
-use Rattle.fw_cmp.specs.Fits.{ConnectionFits}
-use Rattle.fw_cmp.specs.Requests.{target_of, swap_of, access_at}
-use Rattle.fw_cmp.specs.Turns.{outcome_for, outcome_of, sending, asks_or_ends, rests}
+use Rattle.fw_cmp_jobs.specs.declared.outcome.Outcome.{Outcome}
+use Rattle.fw_cmp_jobs.specs.declared.outcome.Outcome.TheVariants.{Connected, Broken, Restored, NoChannel, NoUnits, PlugFull, InputBusy, NoPlug, NoManager, Absent, Reset, Late}
+use Rattle.fw_cmp_jobs.specs.declared.request.Target.TheVariants.{OutputPlug, InputPlug, Channels, BandwidthAvailable}
+use Rattle.fw_cmp_jobs.specs.declared.stage.Stage.TheVariants.{Begin, ReadOutput, ReadChannels, SwapChannels, ReadBandwidth, SwapBandwidth, ConnectOutput}
+use Rattle.fw_cmp_jobs.specs.declared.stage.Stage.TheVariants.{OverlayOutput, ReadInput, ConnectInput, ReadInputToLeave, LeaveInput, ReadOutputToLeave, LeaveOutput}
+use Rattle.fw_cmp_jobs.specs.declared.stage.Stage.TheVariants.{ReadBandwidthToRelease, RaiseBandwidth, ReadChannelsToRelease, RestoreChannel, Made, Ended}
+use Rattle.fw_cmp_jobs.specs.Connections.{output_of, input_of}
+use Rattle.fw_cmp_jobs.specs.Decisions.{restores}
+use Rattle.fw_cmp_jobs.specs.Fits.{ConnectionFits}
+use Rattle.fw_cmp_jobs.specs.Requests.{target_of, swap_of, access_at}
+use Rattle.fw_cmp.specs.Turns.{sending, asks_or_ends, rests}
+use Rattle.fw_cmp_jobs.specs.Jobs.{outcome_for, outcome_of}
 use Rattle.fw_cmp.specs.Jobs.{is_empty, ready}
 use Rattle.fw_node.specs.Packets.{response_to}
 use Rattle.fw_model_controllers.specs.Requests.{PlugNumberFits}

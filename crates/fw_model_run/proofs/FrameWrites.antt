@@ -1,14 +1,14 @@
 -- The packets by which frames are written, and those that answer them: the account does not see them, and they may be written.
 use Rattle.fw_model_run.proofs.Common.{◌≡◌, ℕ, zero, suc, ◌<◌, ◌^◌, ◌==◌, cond, List, ◌∷◌, length, Bool, true, false, Option, Some, None, refl, sym, subst, ◌∙◌, arith, w32, same_Some, Head, Packet}
-use Rattle.fw_model_run.proofs.Common.{ReadSwap, Reply, Request, Timed, Account, node_of, packet_of, response_head, Space, answer_of, Frame, spelling, Obeyed, FrameWrite, request_of, frame_packet}
-use Rattle.fw_model_run.proofs.Common.{response_write, Receives, IsGood, answer_packet, reply_from, space_of_node, State}
+use Rattle.fw_model_run.proofs.Common.{ReadSwap, Reply, Request, Account, node_of, packet_of, response_head, Space, answer_of, Frame, spelling, Obeyed, FrameWrite, request_of, frame_packet}
+use Rattle.fw_model_run.proofs.Common.{response_write, IsGood, answer_packet, reply_from, space_of_node, State}
 use Rattle.std.proofs.Common.{slice_index}
 use Rattle.std.specs.Int.{from_be_bytes}
 use Rattle.fw_async.specs.Async as Async
-use Rattle.fw_async.specs.Async.{AreBytes}
+use Rattle.fw_async_fields.specs.Data.{AreBytes}
 use Rattle.fw_async.specs.declared.packet.Packet.TheVariants.{WriteReply}
-use Rattle.fw_csr.specs.declared.register.Register.{Register}
-use Rattle.fw_csr.specs.declared.register.Register.TheVariants.{ReadOnly, WriteOnly}
+use Rattle.fw_csr.specs.declared.register.RegisterAccess.{RegisterAccess}
+use Rattle.fw_csr.specs.declared.register.RegisterAccess.TheVariants.{ReadOnly, WriteOnly}
 use Rattle.fw_csr.specs.declared.request.Request.TheVariants as Asks
 use Rattle.fw_csr.specs.Replies.{reply}
 use Rattle.fw_log_entry.specs.declared.entry.Entry.TheVariants.{Async as AsyncEntry}
@@ -17,6 +17,8 @@ use Rattle.fw_node.specs.Packets.{response_to, RequestFits}
 use Rattle.fw_node.specs.Space.{register_at}
 use Rattle.fw_node.specs.Fcp.{IsSendable}
 use Rattle.fw_model_run.specs.Frames.{frame_head}
+use Rattle.fw_model_run.specs.Found.{FoundWrite}
+use Rattle.fw_model_run.specs.TransactionDeeds.{MayReceive}
 use Rattle.fw_model_run.proofs.Bounds.{node_few}
 use Rattle.fw_model_run.proofs.Led.{LeavesAccount, unread}
 
@@ -93,7 +95,7 @@ answer_is s w p is = same_Some (answer_to s w) p (sym (write_answered s w) ∙ i
 pub received_leaves : (s : State) (w : FrameWrite) (p : Packet) → IsAnswerTo s w p → LeavesAccount s.account (Some (AsyncEntry p))
 received_leaves s w p is = subst (λ z. LeavesAccount s.account (Some (AsyncEntry z))) (answer_is s w p is) (refl, ((tt, tt), unread s.account (answer_to s w) (λ q. tt)))
 
-register_low : (o : Option Register) (b : Bool) (offset : ℕ) (bytes : List ℕ) → (reply o (write_by b offset bytes)).rcode < 2 ^ 4
+register_low : (o : Option RegisterAccess) (b : Bool) (offset : ℕ) (bytes : List ℕ) → (reply o (write_by b offset bytes)).rcode < 2 ^ 4
 register_low None true offset bytes = omega arith
 register_low None false offset bytes = omega arith
 register_low (Some (ReadOnly word)) true offset bytes = omega arith
@@ -107,10 +109,11 @@ reply_low : (p : Space) (b : Bool) (offset : ℕ) (bytes : List ℕ) → (answer
 reply_low p true offset bytes = register_low (register_at p offset) true offset bytes
 reply_low p false offset bytes = register_low (register_at p offset) false offset bytes
 
-pub received_fits : (s : State) (o : Option Obeyed) (out : List Timed) (t : State) → IsGood s → (x : Receives s o out t) → Async.Fits x.response
-received_fits s o out t g x =
-    let n = node_of s.account.latest x.write.to in
-    let few = node_few s x.write.to g in
-    let head = heads_fit s x.write g in
-    subst Async.Fits (answer_is s x.write x.response x.answered)
-    ((head.4, head.1, omega arith, omega arith, omega (arith, few)), reply_low (space_of_node s n) (length x.write.bytes == 4) x.write.offset x.write.bytes)
+pub received_fits : (s : State) (o : Option Obeyed) (found : FoundWrite) → IsGood s → MayReceive s o found → Async.Fits found.response
+received_fits s o found g may =
+    let w = found.write in
+    let n = node_of s.account.latest w.to in
+    let few = node_few s w.to g in
+    let head = heads_fit s w g in
+    subst Async.Fits (answer_is s w found.response may.answered)
+    ((head.4, head.1, omega arith, omega arith, omega (arith, few)), reply_low (space_of_node s n) (length w.bytes == 4) w.offset w.bytes)

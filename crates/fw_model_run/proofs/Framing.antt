@@ -1,7 +1,7 @@
 -- What a deck is told and what it sends, and tapes that go in and out: they lead from a good state to a good state.
-use Rattle.fw_model_run.proofs.Common.{◌≡◌, ℕ, List, Bool, true, false, cond, Option, Some, None, option_map, ap, sym, subst, IsTrue, update, Timed, NodeRow, node_of, node_number, Frame}
-use Rattle.fw_model_run.proofs.Common.{DeckState, Obeyed, FrameWrite, next_frame, after_frame, response_write, next_told, Sends}
-use Rattle.fw_model_run.proofs.Common.{Receives, State, device_in, number_in, is_linked, has_deck, IsGood}
+use Rattle.fw_model_run.proofs.Common.{◌≡◌, ℕ, Bool, true, false, cond, Option, Some, None, option_map, ap, sym, subst, IsTrue, update, NodeRow, node_of, node_number, Frame}
+use Rattle.fw_model_run.proofs.Common.{DeckState, Obeyed, FrameWrite, next_frame, after_frame, response_write, next_told}
+use Rattle.fw_model_run.proofs.Common.{State, device_in, number_in, is_linked, has_deck, IsGood}
 use Rattle.fw_tape.specs.declared.system.TapeSystem.{TapeSystem}
 use Rattle.fw_tape.specs.Motion.{inserted}
 use Rattle.fw_model_run.specs.Afterwards.{with_cassette}
@@ -9,6 +9,8 @@ use Rattle.fw_node.specs.Fcp.{IsSendable}
 use Rattle.fw_model_run.specs.Decks.{after_command, with_tape}
 use Rattle.fw_model_run.specs.Frames.{decks_after, IsFollowedBy}
 use Rattle.fw_model_run.specs.Good.{IsDeck, IsLinkedNode}
+use Rattle.fw_model_run.specs.Found.{FoundFrame, FoundWrite}
+use Rattle.fw_model_run.specs.TransactionDeeds.{MayReceive, MaySendFrame, receiving, sending_frame}
 use Rattle.fw_model_run.proofs.Decks.{each_deck, next_sendable, sent_is, commanded_is, inserted_is, ejected_is}
 use Rattle.fw_model_run.proofs.Leads.{linked_of}
 use Rattle.fw_model_run.proofs.Transactions.{linked_number_of}
@@ -52,20 +54,21 @@ told_sendable s d told g e = go (has_deck s d) e
     go true f = next_sendable s.account.latest s.clock.cycle d (s.decks d) told (g.decks d) f
     go false f = let no : ⊥ = cc f in absurd no
 
-pub send_good : (s : State) (d : ℕ) (out : List Timed) (t : State) → IsGood s → Sends s d out t → IsGood t
-send_good s d out t g x =
-    subst IsGood (sym x.state_is) (with_frame_good s (update s.decks d (after_frame (s.decks d))) (Some (response_write d x.to x.told.1)) g
-    (each_deck s.account.latest s.clock.cycle d s.decks (after_frame (s.decks d)) (sent_is s.account.latest s.clock.cycle d (s.decks d) x.on (g.decks d)) g.decks))
+pub send_good : (s : State) (d : ℕ) (found : FoundFrame) → IsGood s → MaySendFrame s d found → IsGood (sending_frame s d found).after
+send_good s d found g may =
+    with_frame_good s (update s.decks d (after_frame (s.decks d))) (Some (response_write d found.to found.frame)) g
+    (each_deck s.account.latest s.clock.cycle d s.decks (after_frame (s.decks d)) (sent_is s.account.latest s.clock.cycle d (s.decks d) may.on (g.decks d)) g.decks)
 
-pub receive_good : (s : State) (o : Option Obeyed) (out : List Timed) (t : State) → IsGood s → Receives s o out t → IsGood t
-receive_good s o out t g x = subst IsGood (sym x.state_is) (with_frame_good s (decks_after s x.write o) None g (go o x.followed))
+pub receive_good : (s : State) (o : Option Obeyed) (found : FoundWrite) → IsGood s → MayReceive s o found → IsGood (receiving s o found).after
+receive_good s o found g may = with_frame_good s (decks_after s found.write o) None g (go o may.followed)
   where
-    go : (o : Option Obeyed) → IsFollowedBy s x.write o → (d : ℕ) → IsDeck s.account.latest s.clock.cycle d (decks_after s x.write o d)
+    go : (o : Option Obeyed) → IsFollowedBy s found.write o → (d : ℕ) → IsDeck s.account.latest s.clock.cycle d (decks_after s found.write o d)
     go None f = g.decks
     go (Some y) f =
-        let from = node_of s.account.latest x.write.from in
-        each_deck s.account.latest s.clock.cycle x.write.to s.decks (after_command from y.command y.response (s.decks x.write.to))
-        (commanded_is s.account.latest s.clock.cycle x.write.to from y.command y.response (s.decks x.write.to) x.to (linked_node s x.write.from g x.from) f.4 (g.decks x.write.to)) g.decks
+        let w = found.write in
+        let from = node_of s.account.latest w.from in
+        each_deck s.account.latest s.clock.cycle w.to s.decks (after_command from y.command y.response (s.decks w.to))
+        (commanded_is s.account.latest s.clock.cycle w.to from y.command y.response (s.decks w.to) may.to (linked_node s w.from g may.from) f.4 (g.decks w.to)) g.decks
 
 -- ---- tapes
 

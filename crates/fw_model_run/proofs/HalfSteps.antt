@@ -1,4 +1,4 @@
--- A half step leads from a good state to a good state, whether a request stands or not.
+-- A half step leads from a good state to a good state, whether a request is outstanding or not.
 use Rattle.fw_model_run.proofs.Common.{◌≡◌, ℕ, refl, sym, subst, IsTrue, ◌≢◌, ◌⊎◌, inl, inr, ◌<◌, Bool, true}
 use Rattle.fw_model_run.proofs.Common.{false, is_some, ap, ◌∙◌, arith, IsFalse, Current, Nothing, Asking, Hearing}
 use Rattle.fw_model_run.proofs.Common.{Overtaken, IsHeard, ControllerState, new_controller, MOST_RESETS, State, is_living, is_deaf}
@@ -21,9 +21,9 @@ half_good s d g lives quiet = go (s.controllers d).current refl
     go (Hearing j stage) e = hears_good s d j stage g lives quiet e
     go (Overtaken i o) e = rests (Overtaken i o) e tt refl
 
--- ---- a request that stands
+-- ---- an outstanding request
 
--- if a request stands no response was lost
+-- if a request is outstanding no response was lost
 pub stands_quiet : (s : State) (d : ℕ) → IsGood s → IsTrue (has_request (s.controllers d).current) → IsFalse (is_deaf s d)
 stands_quiet s d g stands = go (is_deaf s d) refl
   where

@@ -2,7 +2,7 @@
 use Rattle.fw_model_run.proofs.Common.{◌≡◌, ℕ, ◌<◌, ◌||◌, ◌&&◌, List, Bool, true, false, Option, Some, None}
 use Rattle.fw_model_run.proofs.Common.{is_some, refl, ap, sym, subst, ◌∙◌, arith, IsTrue, nat_tests, input_plugs_of, PlugAt, at_plug}
 use Rattle.fw_model_run.proofs.Common.{ResetEntry, Timed, node_number, row_of, kind_at, Account, is_input, is_input_of, IsSound, InputPlug, word_of, node_of, any_at, IsGood, IsLatest, State, Declared}
-use Rattle.fw_model_run.proofs.Common.{first_state, number_in, is_on, Action, Step, Resets}
+use Rattle.fw_model_run.proofs.Common.{first_state, number_in, is_on, Action, Transition, Resets}
 use Rattle.fw_plug.specs.Plugs.{is_active}
 use Rattle.fw_model_account.specs.Account.{has_connection}
 use Rattle.fw_model_controllers.proofs.Words.{channel_shown, input_shows, shows_connected}
@@ -11,13 +11,13 @@ use Rattle.fw_model_run.specs.Dubs.{hears_in}
 use Rattle.fw_model_run.specs.Hearing.{AreQuiet, HasHearing}
 use Rattle.fw_model_run.proofs.Buses.{row_place}
 use Rattle.fw_model_run.proofs.Grows.{stays_node}
-use Rattle.fw_model_run.proofs.Resets.{declaring, MayReset, reset_follows}
+use Rattle.fw_model_run.proofs.Resets.{declaring, MayReset, reset_follows, numbered}
 use Rattle.fw_model_run.proofs.Settling.{half_turn}
 use Rattle.fw_model_run.proofs.Times.{second_ends}
 use Rattle.fw_model_run.proofs.Withholds.{withholding_keeps}
 use Rattle.fw_model_run.proofs.Words.{number_of_on}
 use Rattle.fw_model_run.proofs.Alterations.{Allows, Alteration, Halved, Over, Withheld, altered}
-use Rattle.fw_model_run.proofs.Effects.{Effect, altering, effect, numbered, resetting}
+use Rattle.fw_model_run.proofs.Effects.{Effect, altering, effect, resetting}
 
 pub first_hearing : HasHearing first_state
 first_hearing = record { quiet = λ d k off. refl }
@@ -109,7 +109,7 @@ resets_hearing s n initiator out t m h r = subst HasHearing (sym r.state_is) (re
 
 -- ---- each action
 
-pub step_hearing : (s : State) (a : Action) (out : List Timed) (t : State) → IsGood s → HasHearing s → Step s a out t → HasHearing t
+pub step_hearing : (s : State) (a : Action) (out : List Timed) (t : State) → IsGood s → HasHearing s → Transition s a out t → HasHearing t
 step_hearing s a out t g h x = go (effect s a out t x)
   where
     by : (y : Alteration) → Allows s a y → HasHearing (altered s y)

@@ -12,7 +12,7 @@ use Rattle.fw_model_account.specs.Moves.{Move, AllocateChannel, AllocateUnits, C
 use Rattle.fw_model_account.specs.Packets.{ended}
 use Rattle.fw_cmp.specs.Controllers.{CurrentFits, RunsFitting}
 use Rattle.fw_cmp.specs.Holdings.{StageReached, CurrentReached}
-use Rattle.fw_cmp.specs.Requests.{target_of, swap_of, access_at, request_of}
+use Rattle.fw_cmp_jobs.specs.Requests.{target_of, swap_of, access_at, request_of}
 use Rattle.fw_node.specs.Packets.{response_to}
 use Rattle.fw_model_controllers.specs.Controllers.{IsDirectory}
 use Rattle.fw_model_controllers.specs.Moves.{move_of, after_move, carried_out}
@@ -101,7 +101,7 @@ answered s d j stage r = record s {
   dub = dub_between s.account (ended d (carried_out d j stage r s.account)) s.dub;
 }
 
--- a request that stands: its register, and the node that it went to
+-- an outstanding request: its register, and the node that it went to
 pub record Asked (s : State) (d : ℕ) (j : Job) (stage : Stage) (t : Target) (to : ℕ) (r : Reply) : Type 0 where
   pub current : (s.controllers d).current ≡ Hearing j stage
   pub target : target_of j stage ≡ Some t
@@ -155,7 +155,7 @@ with_answer s d r l = record s {
   dub = dub_between s.account l s.dub;
 }
 
--- a request that stands, whose controller's device and addressee are nodes
+-- an outstanding request, whose controller's device and addressee are nodes
 pub record Heard (s : State) (d : ℕ) (j : Job) (stage : Stage) : Type 0 where
   pub entry : ResetEntry
   pub is : s.account.latest ≡ Some entry
@@ -235,7 +235,7 @@ heard_good s d j stage g lives quiet current x h =
     r : Reply
     r = reply_heard s d j stage x
 
--- if a request stands there is its node
+-- if a request is outstanding there is its node
 pub heard_of : (s : State) (d : ℕ) (j : Job) (stage : Stage) → IsGood s → IsTrue (is_living s d) → (s.controllers d).current ≡ Hearing j stage → Heard s d j stage
 heard_of s d j stage g lives current = of_latest s.account.latest refl (living_linked s d lives) g.latest
   where

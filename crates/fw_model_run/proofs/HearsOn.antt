@@ -1,14 +1,17 @@
 -- Each action leaves the input plugs that go on hearing as its entry says, and a half step as their words say.
 use Rattle.fw_model_run.proofs.Common.{◌≡◌, ℕ, ◌+◌, ◌==◌, ◌&&◌, List, [], ◌∷◌, Bool, true, false, Option, Some}
 use Rattle.fw_model_run.proofs.Common.{None, refl, sym, subst, arith, nat_tests, InputPlug, word_of, Entry, Reset, Async, Iso, Event}
-use Rattle.fw_model_run.proofs.Common.{Outcome, Shown, End, Timed, Action, AddCable, AddDevice, CarryOut, EndSecond, HalfStep, Lose, Pass, ResetBus, Step, Declares, Joins, Resets, at_most, IsGood}
-use Rattle.fw_model_run.proofs.Common.{after_half, half, Declared, State, is_on, with_device}
+use Rattle.fw_model_run.proofs.Common.{Outcome, Shown, End, Timed, Action, AddCable, AddDevice, CarryOut, EndSecond, HalfStep, Lose, Pass, ResetBus, Transition, Resets, at_most, IsGood}
+use Rattle.fw_model_run.proofs.Common.{DeviceKind, Topology, after_half, half, Declared, State, is_on, with_device, with_topology}
+use Rattle.fw_tree.specs.declared.facts.End.{End as EndOfCable}
+use Rattle.fw_model_run.specs.BusDeeds.{declaring_beside, joining_ends, with_declared}
 use Rattle.fw_model_run.specs.Hearing.{HasHearing, HearActive, HearBy, HearHalf, HearThrough, HearUnchanged, NoneHears, SameHear}
 use Rattle.fw_model_run.proofs.Alterations.{Allows, Alteration, Halved, IsHalf, IsTimeless, MayBegin, Over, altered}
-use Rattle.fw_model_run.proofs.Effects.{Effect, altering, effect, numbered, resetting}
+use Rattle.fw_model_run.proofs.Done.{Done, done}
+use Rattle.fw_model_run.proofs.Effects.{Effect, altering, effect, resetting}
 use Rattle.fw_model_run.proofs.Hearing.{hears_by_word, off_hears}
 use Rattle.fw_model_run.proofs.Lingers.{IsOfHalf, says_half}
-use Rattle.fw_model_run.proofs.Resets.{declaring}
+use Rattle.fw_model_run.proofs.Resets.{declaring, numbered, resets_by}
 use Rattle.fw_model_run.proofs.Taking.{Taken, listens, keeps_deaf, forces_reset, taken_as}
 
 -- ---- bus resets
@@ -31,16 +34,21 @@ silent_by : (s u : State) (out : List Timed) (t : State) → SameHear s u → ou
 silent_by s u out t same said is = subst (λ o. HearBy o s t) (sym said) (subst (SameHear s) (sym is) same)
 
 -- a device more
-declared_hears : (s : State) (n : Declared) (names : List (List ℕ)) (out : List Timed) (t : State) → IsGood s → HasHearing s → Declares names (declaring s n) out t → HearBy out s t
-declared_hears s n [] out t g h r = reset_by s n 1 s.half_steps 0 out t g h r
-declared_hears s n (x ∷ names) out t g h r = silent_by s (declaring s n) out t (λ q. refl) r.0 r.1
+declared_hears : (names : List (List ℕ)) (s : State) (name : List ℕ) (kind : DeviceKind) (ports speed : ℕ) (out : List Timed) (t : State) → IsGood s → HasHearing s
+    → Done (declaring_beside names s name kind ports speed) out t → HearBy out s t
+declared_hears [] s name kind ports speed out t g h x =
+    reset_by s (with_device s.declared name kind ports speed) 1 s.half_steps 0 out t g h (resets_by 1 s.half_steps x.may.reset x.out_is x.state_is)
+declared_hears (y ∷ names) s name kind ports speed out t g h x = silent_by s (with_declared s name kind ports speed) out t (λ q. refl) x.out_is x.state_is
 
 -- a cable more
-joined_hears : (s : State) (n : Declared) (x y : Bool) (a b : ℕ) (out : List Timed) (t : State) → IsGood s → HasHearing s → Joins x y a b (declaring s n) out t → HearBy out s t
-joined_hears s n true false a b out t g h r = reset_by s n (s.resets + 1) s.half_steps a out t g h r.1
-joined_hears s n false true a b out t g h r = reset_by s n (s.resets + 1) s.half_steps b out t g h r.1
-joined_hears s n true true a b out t g h r = silent_by s (declaring s n) out t (λ q. refl) r.0 r.1
-joined_hears s n false false a b out t g h r = silent_by s (declaring s n) out t (λ q. refl) r.0 r.1
+joined_hears : (one other : Bool) (s : State) (a b : EndOfCable) (u : Topology) (out : List Timed) (t : State) → IsGood s → HasHearing s → Done (joining_ends one other s a b u) out t
+    → HearBy out s t
+joined_hears true false s a b u out t g h x =
+    reset_by s (record s.declared { topology = u }) (s.resets + 1) s.half_steps a.device out t g h (resets_by (s.resets + 1) s.half_steps x.may.begins.reset x.out_is x.state_is)
+joined_hears false true s a b u out t g h x =
+    reset_by s (record s.declared { topology = u }) (s.resets + 1) s.half_steps b.device out t g h (resets_by (s.resets + 1) s.half_steps x.may.begins.reset x.out_is x.state_is)
+joined_hears true true s a b u out t g h x = silent_by s (with_topology s u) out t (λ q. refl) x.out_is x.state_is
+joined_hears false false s a b u out t g h x = silent_by s (with_topology s u) out t (λ q. refl) x.out_is x.state_is
 
 -- ---- a half step
 
@@ -87,13 +95,14 @@ leaves s a out t unbegun whole timeless (altering y waits out_is is ok) = subst 
     go Over ok = absurd (subst IsTimeless ok.0 timeless)
     go _ ok = λ q. refl
 
-pub step_hears : (s : State) (a : Action) (out : List Timed) (t : State) → IsGood s → HasHearing s → Step s a out t → HearThrough a out s t
-step_hears s (AddDevice name kind ports speed) out t g h x = declared_hears s (with_device s.declared name kind ports speed) s.declared.names out t g h x.1.4
-step_hears s (AddCable a b) out t g h x = joined_hears s (record s.declared { topology = x.1.0 }) (is_on s a.device) (is_on s b.device) a.device b.device out t g h x.1.2
-step_hears s (ResetBus d) out t g h x = reset_by s s.declared (s.resets + 1) s.half_steps d out t g h x.1.1.1
-step_hears s (HalfStep d) out t g h x = taken_hears s d out t g h (taken_as s d out t x.1.2)
-step_hears s (CarryOut d) out t g h x = subst (HearUnchanged s) (sym x.1.3) (half_hears s d)
-step_hears s (Lose d) out t g h x = subst (HearUnchanged s) (sym x.1.4) (half_hears s d)
-step_hears s (Pass n) out t g h x = subst (SameHear s) (sym x.1.3) (λ q. refl)
-step_hears s EndSecond out t g h x = let P : State → Type 0 = NoneHears in subst P (sym x.1.4) (λ q. refl)
+pub step_hears : (s : State) (a : Action) (out : List Timed) (t : State) → IsGood s → HasHearing s → Transition s a out t → HearThrough a out s t
+step_hears s (AddDevice name kind ports speed) out t g h x = declared_hears s.declared.names s name kind ports speed out t g h (done s (AddDevice name kind ports speed) out t x)
+step_hears s (AddCable a b) out t g h x = joined_hears (is_on s a.device) (is_on s b.device) s a b x.found.topology out t g h
+    (record { found = x.found.begun; may = x.may; out_is = x.out_is; state_is = x.state_is })
+step_hears s (ResetBus d) out t g h x = reset_by s s.declared (s.resets + 1) s.half_steps d out t g h (resets_by (s.resets + 1) s.half_steps x.may.begins.reset x.out_is x.state_is)
+step_hears s (HalfStep d) out t g h x = taken_hears s d out t g h (taken_as s d out t x)
+step_hears s (CarryOut d) out t g h x = subst (HearUnchanged s) (sym x.state_is) (half_hears s d)
+step_hears s (Lose d) out t g h x = subst (HearUnchanged s) (sym x.state_is) (half_hears s d)
+step_hears s (Pass n) out t g h x = subst (SameHear s) (sym x.state_is) (λ q. refl)
+step_hears s EndSecond out t g h x = let P : State → Type 0 = NoneHears in subst P (sym x.state_is) (λ q. refl)
 step_hears s a out t g h x = leaves s a out t (λ no. no) (λ no. no) tt (effect s a out t x)

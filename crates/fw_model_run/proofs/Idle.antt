@@ -2,7 +2,26 @@
 use Rattle.fw_model_run.proofs.Common.{◌≡◌, ℕ, zero, suc, ◌+◌, ◌*◌, ◌<◌, ◌&&◌, ◌||◌, List, [], ◌∷◌, ◌++◌, length, cond}
 use Rattle.fw_model_run.proofs.Common.{Bool, true, false, Option, Some, None, is_some, refl, ap, sym, subst, ◌∙◌, arith, ◌≢◌}
 use Rattle.fw_model_run.proofs.Common.{IsTrue, ⊤, update, Timed, Current, Nothing, Asking, Hearing, Overtaken, Next, Send, Idle, Waiting, Deaf, Force, IsHeard, next, dub_between, at_most, State}
-use Rattle.fw_model_run.proofs.Common.{while_talking, is_living, living, directory_of, is_deaf, said, asks, half, half_of, taken, after_half, has_request, Action, HalfStep, Rest, Step, Steps, counted}
+use Rattle.fw_model_run.proofs.Common.{
+  while_talking,
+  is_living,
+  living,
+  directory_of,
+  is_deaf,
+  said,
+  asks,
+  half,
+  half_of,
+  taken,
+  after_half,
+  has_request,
+  Action,
+  HalfStep,
+  Rest,
+  Transition,
+  Transitions,
+  counted,
+}
 use Rattle.fw_model_run.proofs.Common.{half_steps_of, Rounds, none, round, rest, IsGood, Asks}
 use Rattle.fw_terms.specs.Tables.{find_to}
 use Rattle.fw_terms.proofs.Tables.{IsFirst, find_to_is}
@@ -136,8 +155,8 @@ deaf_busy s d g deaf = go (s.controllers d).current refl (g.losses.asks d deaf)
     go (Hearing j stage) e asks = absurd asks
     go (Overtaken k o) e asks = absurd asks
 
-idle_step : (s : State) (d : ℕ) (out : List Timed) (t : State) → IsGood s → is_busy_at s d ≡ false → Step s (HalfStep d) out t → (out ≡ []) × (t ≡ counted s 1)
-idle_step s d out t g idle f = go (taken_as s d out t f.1.2)
+idle_step : (s : State) (d : ℕ) (out : List Timed) (t : State) → IsGood s → is_busy_at s d ≡ false → Transition s (HalfStep d) out t → (out ≡ []) × (t ≡ counted s 1)
+idle_step s d out t g idle f = go (taken_as s d out t f)
   where
     busy : (c : Current) → (s.controllers d).current ≡ c → Asks c → ⊥
     busy Nothing e asks = asks
@@ -155,12 +174,12 @@ idle_step s d out t g idle f = go (taken_as s d out t f.1.2)
     go (keeps_deaf deaf said is) = (said, is)
     go (forces_reset deaf r) = absurd (busy (s.controllers d).current refl (g.losses.asks d deaf))
 
-idle_steps : (s : State) (ds : List ℕ) (out : List Timed) (t : State) → IsGood s → AreIdle s ds → Steps s (half_steps_of ds) out t → (out ≡ []) × (t ≡ counted s (length ds))
+idle_steps : (s : State) (ds : List ℕ) (out : List Timed) (t : State) → IsGood s → AreIdle s ds → Transitions s (half_steps_of ds) out t → (out ≡ []) × (t ≡ counted s (length ds))
 idle_steps s [] out t g idle f = (f.0, f.1 ∙ counted_by s s.half_steps (s.half_steps + 0) (omega arith))
 idle_steps s (d ∷ ds) out t g idle f =
     let now = idle_step s d f.0 f.2 g idle.0 f.3 in
     let later = idle_steps (counted s 1) ds f.1 t (subst IsGood now.1 (step_good s (HalfStep d) f.0 f.2 g f.3)) (idle_counted s 1 ds idle.1)
-    (subst (λ z. Steps z (half_steps_of ds) f.1 t) now.1 f.5) in
+    (subst (λ z. Transitions z (half_steps_of ds) f.1 t) now.1 f.5) in
     (f.4 ∙ (ap (λ z. z ++ f.1) now.0 ∙ later.0), later.1 ∙ counted_by s (s.half_steps + 1 + length ds) (s.half_steps + length (d ∷ ds)) (omega arith))
 
 -- ---- rounds
@@ -168,9 +187,9 @@ idle_steps s (d ∷ ds) out t g idle f =
 -- what rounds are: none, one and then the others, or rest
 pub data RoundsAre (n : ℕ) (s : State) (out : List Timed) (t : State) : Type 0 where
   are_none : n ≡ 0 → out ≡ [] → t ≡ s → RoundsAre n s out t
-  are_round : (k : ℕ) (m : State) (more : List Action) (first last : List Timed) → n ≡ suc k → Steps s (half_steps_of (living s)) first m → Rounds k m more last t → out ≡ first ++ last
+  are_round : (k : ℕ) (m : State) (more : List Action) (first last : List Timed) → n ≡ suc k → Transitions s (half_steps_of (living s)) first m → Rounds k m more last t → out ≡ first ++ last
       → RoundsAre n s out t
-  are_rest : Steps s (Rest (n * length (living s)) ∷ []) out t → RoundsAre n s out t
+  are_rest : Transitions s (Rest (n * length (living s)) ∷ []) out t → RoundsAre n s out t
 
 pub rounds_are : (n : ℕ) (s : State) (xs : List Action) (out : List Timed) (t : State) → Rounds n s xs out t → RoundsAre n s out t
 rounds_are n s xs out t none = are_none refl refl refl
@@ -187,7 +206,7 @@ idle_by n s t out g calm later (are_none z empty is) = (
   empty,
   is ∙ counted_by s s.half_steps (s.half_steps + n * length (living s)) (let e : n * length (living s) ≡ 0 = ap (λ k. k * length (living s)) z ∙ omega arith in omega (arith, e)),
 )
-idle_by n s t out g calm later (are_rest f) = (f.4 ∙ (ap (λ z. z ++ f.1) f.3.1.2 ∙ f.5.0), f.5.1 ∙ f.3.1.3)
+idle_by n s t out g calm later (are_rest f) = (f.4 ∙ (ap (λ z. z ++ f.1) f.3.out_is ∙ f.5.0), f.5.1 ∙ f.3.state_is)
 idle_by n s t out g calm later (are_round k m more first last z f h is) =
     let now = idle_steps s (living s) first m g (living_idle s calm) f in
     let good = subst IsGood now.1 (steps_good s m (half_steps_of (living s)) first g f) in

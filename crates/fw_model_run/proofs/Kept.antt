@@ -1,8 +1,8 @@
 -- The numbers that a state keeps stay in their fields.
-use Rattle.fw_model_run.proofs.Common.{◌≡◌, ℕ, ◌+◌, ◌^◌, ◌<◌, ◌==◌, ◌++◌, List, Bool, true, false, cond, Some, None, refl, sym, subst, ◌∙◌, arith, IsTrue, Ok, update, quadlet_at, swap_bytes, Timed}
+use Rattle.fw_model_run.proofs.Common.{◌≡◌, ℕ, ◌+◌, ◌^◌, ◌<◌, ◌==◌, List, Bool, true, false, cond, Some, None, refl, sym, subst, ◌∙◌, arith, IsTrue, Ok, update, quadlet_at, swap_bytes, Timed}
 use Rattle.fw_model_run.proofs.Common.{first_address, Slot, Current, Nothing, Asking, Hearing, Overtaken, ControllerState, new_controller, break_started, Transaction, State, Declared, first_state}
 use Rattle.fw_model_run.proofs.Common.{directory_of, is_linked, is_living, is_deaf, access_request, target_node, is_manager, bus_manager_id_after}
-use Rattle.fw_model_run.proofs.Common.{asks, half, half_of, after_half, Action, Step, Resets}
+use Rattle.fw_model_run.proofs.Common.{asks, half, half_of, after_half, Action, Transition, Resets}
 use Rattle.fw_model_run.proofs.Common.{after_reset_entry, slot_of, start_of, IsGood, HasNumbers}
 use Rattle.std.specs.Prelude.{Err}
 use Rattle.std.specs.declared.result.Result.{Result}
@@ -17,11 +17,11 @@ use Rattle.fw_model_run.proofs.Endings.{next_shows, hears_shows, reset_shows}
 use Rattle.fw_model_run.proofs.Events.{break_current}
 use Rattle.fw_model_run.proofs.Fitting.{heard_fits}
 use Rattle.fw_model_run.proofs.Hears.{heard_of, half_hears, reply_heard}
-use Rattle.fw_model_run.proofs.Resets.{declaring}
+use Rattle.fw_model_run.proofs.Resets.{declaring, numbered}
 use Rattle.fw_model_run.proofs.Bidding.{bid_below}
 use Rattle.fw_model_run.proofs.Turns.{each_of}
 use Rattle.fw_model_run.proofs.Alterations.{Allows, Alteration, Answered, Asked, Bid, Breaks, Connected, Died, Halved, Started, Waits, altered}
-use Rattle.fw_model_run.proofs.Effects.{Effect, altering, effect, numbered, resetting}
+use Rattle.fw_model_run.proofs.Effects.{Effect, altering, effect, resetting}
 
 pub first_numbers : HasNumbers first_state
 first_numbers = record { shows = λ d. tt; bus_manager_id = omega arith; asks = λ x waits. absurd (cc waits) }
@@ -99,7 +99,7 @@ id_below s x b = either (is_manager s.account.latest (target_node s x)) _ s.bus_
 
 -- ---- each action
 
-pub step_numbers : (s : State) (a : Action) (out : List Timed) (t : State) → IsGood s → HasNumbers s → Step s a out t → HasNumbers t
+pub step_numbers : (s : State) (a : Action) (out : List Timed) (t : State) → IsGood s → HasNumbers s → Transition s a out t → HasNumbers t
 step_numbers s a out t g b x = go (effect s a out t x)
   where
     by : (y : Alteration) → Waits s y → Allows s a y → HasNumbers (altered s y)

@@ -6,7 +6,7 @@ use Rattle.fw_model_run.proofs.Common.{entered, linked_number, directory_of, is_
 use Rattle.fw_csr.specs.declared.request.Request.{Request as Asked}
 use Rattle.fw_model_account.specs.Packets.{asked}
 use Rattle.fw_cmp.specs.declared.outcome.Next.TheVariants.{End}
-use Rattle.fw_cmp.specs.Requests.{request_of}
+use Rattle.fw_cmp_jobs.specs.Requests.{request_of}
 use Rattle.fw_model_controllers.specs.Requests.{Tells, request_to}
 use Rattle.fw_model_controllers.proofs.Leads.{turn_tells, turn_leads}
 use Rattle.fw_model_run.specs.State.{entered_by}
@@ -46,7 +46,7 @@ linked_of s d g on = of_latest s.account.latest refl on g.latest
 pub own_row : (s : State) (d : ℕ) → (x : IsLinked s d) → row_of_node s.account.latest (node_of s.account.latest d) ≡ Some (row_of d (kind_at s.declared.kinds d))
 own_row s d x = subst (λ o. row_of_node o (node_of o d) ≡ Some (row_of d (kind_at s.declared.kinds d))) (sym x.is) (linked_at s x.entry d x.number x.shows.1 x.linked)
 
--- ---- no request stands
+-- ---- no request is outstanding
 
 turn_next : (s : State) (d : ℕ) → IsGood s → IsLinked s d → IsHeard (s.controllers d).current → NextIs s.account (asks s d).says (entered_by s.account (asks s d).says)
 turn_next s d g x heard = go (next s.clock.cycle (directory_of s) (s.controllers d)) refl

@@ -7,7 +7,7 @@ use Rattle.fw_model_run.proofs.Common.{request_at, swap_bytes, next, after_next,
 use Rattle.fw_model_run.proofs.Common.{access_request, said, asks, half, half_of, Resets, IsAnswered, IsGood}
 use Rattle.fw_async.specs.declared.packet.Packet.TheVariants.{WriteQuadlet, WriteBlock, WriteReply, ReadQuadlet, ReadBlock, ReadBlockReply, CycleStart, Lock}
 use Rattle.fw_csr.specs.declared.request.Request.{Request as Asked}
-use Rattle.fw_cmp.specs.Requests.{request_of}
+use Rattle.fw_cmp_jobs.specs.Requests.{request_of}
 use Rattle.fw_model_controllers.specs.Requests.{Tells, IsResponse}
 use Rattle.fw_model_controllers.proofs.Leads.{turn_tells}
 use Rattle.fw_model_run.specs.HalfSteps.{HalfStep}

@@ -1,3 +1,4 @@
+pub mod BusResets
 pub mod Common
 pub mod Counts
 pub mod Times
@@ -18,6 +19,8 @@ pub mod Grows
 pub mod Resets
 pub mod Cables
 pub mod Declares
+pub mod Done
+pub mod Forms
 pub mod Leads
 pub mod Words
 pub mod Watched
@@ -28,6 +31,7 @@ pub mod Framing
 pub mod Units
 pub mod Commands
 pub mod SendsAll
+pub mod Each
 pub mod Given
 pub mod Beside
 pub mod FrameWrites
@@ -50,8 +54,10 @@ pub mod Ended
 pub mod Idle
 pub mod OneReset
 pub mod OneFrame
+pub mod OneFound
 pub mod OneStep
 pub mod OneCycle
+pub mod Decided
 pub mod OneResult
 pub mod OneLog
 pub mod Logs

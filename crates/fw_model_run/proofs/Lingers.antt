@@ -6,8 +6,8 @@ use Rattle.fw_model_run.proofs.Common.{word_of, node_of, any_at, Current, Nothin
 use Rattle.fw_model_run.proofs.Common.{EndOf, Idle, Waiting, Deaf, Force, Access, access_of, addressee_of, next, kind_at}
 use Rattle.fw_model_run.proofs.Common.{row_of, at_most, State, directory_of, number_in, is_on, is_living, answer_packet, head_from}
 use Rattle.fw_model_run.proofs.Common.{said, half, half_of, after_half, Action, AddDevice, AddCable, ResetBus}
-use Rattle.fw_model_run.proofs.Common.{HalfStep, Pass, EndSecond, Lose, CarryOut, Step, IsGood, IsLatest}
-use Rattle.fw_cmp.specs.Requests.{request_of}
+use Rattle.fw_model_run.proofs.Common.{HalfStep, Pass, EndSecond, Lose, CarryOut, Transition, IsGood, IsLatest}
+use Rattle.fw_cmp_jobs.specs.Requests.{request_of}
 use Rattle.fw_plug.specs.Plugs.{is_active}
 use Rattle.fw_model_controllers.specs.Lingering.{SameLinger, LingerUnchanged}
 use Rattle.fw_model_controllers.proofs.Lingers.{talks_shown}
@@ -20,7 +20,7 @@ use Rattle.fw_model_run.proofs.Leads.{NextIs, half_next}
 use Rattle.fw_model_run.proofs.Led.{Led}
 use Rattle.fw_model_run.proofs.Times.{second_ends}
 use Rattle.fw_model_run.proofs.Words.{number_of_on}
-use Rattle.fw_model_run.proofs.Taking.{Taken, listens, keeps_deaf, forces_reset, taken_as}
+use Rattle.fw_model_run.proofs.Taking.{Taken, listens, keeps_deaf, forces_reset, may_step, taken_as}
 use Rattle.fw_model_run.proofs.Withholds.{withholding_keeps}
 use Rattle.fw_model_run.proofs.Alterations.{Allows, Alteration, Halved, IsHalf, IsTimeless, MayBegin, Over, Withheld, altered}
 use Rattle.fw_model_run.proofs.Effects.{Effect, altering, effect, resetting}
@@ -135,16 +135,16 @@ leaves s a out t unbegun whole timeless (altering y waits out_is is ok) = leads_
     go Withheld ok = λ p. withholding_keeps (λ (l : Account). l.continues p) s.account refl
     go _ ok = λ p. refl
 
-pub step_lingers : (s : State) (a : Action) (out : List Timed) (t : State) → IsGood s → Step s a out t → LingerThrough a out s.account t.account
+pub step_lingers : (s : State) (a : Action) (out : List Timed) (t : State) → IsGood s → Transition s a out t → LingerThrough a out s.account t.account
 step_lingers s (AddDevice name kind ports speed) out t g x = by_entry s t out g (step_led s t (AddDevice name kind ports speed) out g x)
 step_lingers s (AddCable a b) out t g x = by_entry s t out g (step_led s t (AddCable a b) out g x)
 step_lingers s (ResetBus d) out t g x = by_entry s t out g (step_led s t (ResetBus d) out g x)
-step_lingers s (HalfStep d) out t g x = taken_lingers s d out t g x.1.0 (step_led s t (HalfStep d) out g x) (taken_as s d out t x.1.2)
-step_lingers s (CarryOut d) out t g x = leads_to (LingerUnchanged s.account) t _ x.1.3 (half_lingers s d g x.1.0)
-step_lingers s (Lose d) out t g x = leads_to (LingerUnchanged s.account) t _ x.1.4 (half_lingers s d g x.1.0)
-step_lingers s (Pass n) out t g x = leads_to (SameLinger s.account) t _ x.1.3 (λ p. refl)
+step_lingers s (HalfStep d) out t g x = taken_lingers s d out t g (may_step s d x.found x.may).lives (step_led s t (HalfStep d) out g x) (taken_as s d out t x)
+step_lingers s (CarryOut d) out t g x = leads_to (LingerUnchanged s.account) t _ x.state_is (half_lingers s d g x.may.lives)
+step_lingers s (Lose d) out t g x = leads_to (LingerUnchanged s.account) t _ x.state_is (half_lingers s d g x.may.request.lives)
+step_lingers s (Pass n) out t g x = leads_to (SameLinger s.account) t _ x.state_is (λ p. refl)
 step_lingers s EndSecond out t g x =
-    let P : Account → Type 0 = λ l. (p : PlugAt) → l.continues p ≡ false in leads_to P t _ x.1.4 (subst P (sym (second_ends s.account x.1.1)) (λ p. refl))
+    let P : Account → Type 0 = λ l. (p : PlugAt) → l.continues p ≡ false in leads_to P t _ x.state_is (subst P (sym (second_ends s.account x.may.runs)) (λ p. refl))
 step_lingers s a out t g x = leaves s a out t (λ no. no) (λ no. no) tt (effect s a out t x)
 
 -- ---- devices on the bus and off it

@@ -5,8 +5,8 @@ use Rattle.fw_model_run.proofs.Common.{Next, Access, access_of, addressee_of, ne
 use Rattle.fw_model_run.proofs.Common.{bid_step, epoch_at, at_cycle, at_most, half, half_of, head_from, said, answer_packet, State, directory_of}
 use Rattle.fw_log_entry.specs.declared.codes.event.TheConstants.{SECOND_OVER}
 use Rattle.fw_manager.specs.declared.bid.Bid.TheVariants.{Defeated, Elected}
-use Rattle.fw_manager.specs.declared.candidate.Stage.{Stage as BidStage}
-use Rattle.fw_cmp.specs.Requests.{request_of}
+use Rattle.fw_manager.specs.declared.candidate.BidProgress.{BidProgress as BidStage}
+use Rattle.fw_cmp_jobs.specs.Requests.{request_of}
 use Rattle.fw_model_run.specs.Bidding.{bid_said}
 use Rattle.fw_model_run.specs.HalfSteps.{hears, hears_from}
 

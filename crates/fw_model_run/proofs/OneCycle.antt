@@ -1,7 +1,23 @@
 -- Cycles that are written have one result, if a desk gives one block for each place.
 use Rattle.fw_model_run.proofs.Common.{◌≡◌, ℕ, zero, suc, List, [], ◌∷◌, ◌++◌, Option, Some, None, refl}
 use Rattle.fw_model_run.proofs.Common.{ap, sym, subst, ◌∙◌, same_Some, PlugAt, ResetEntry, Timed, State, GivenBlock, GivesBlock, talkers}
-use Rattle.fw_model_run.proofs.Common.{Action, StartCycle, SendPacket, KeepBlock, Steps, heard_in, next_cycle, SendsPackets, HasCycle, HasCycles, DeskRelations, IsFunction, IsGiven, AreGiven, IsGood}
+use Rattle.fw_model_run.proofs.Common.{
+  Action,
+  StartCycle,
+  SendPacket,
+  KeepBlock,
+  Transitions,
+  heard_in,
+  next_cycle,
+  SendsPackets,
+  HasCycle,
+  HasCycles,
+  DeskRelations,
+  IsFunction,
+  IsGiven,
+  AreGiven,
+  IsGood,
+}
 use Rattle.fw_tape.specs.declared.cassette.BlockPlace.{BlockPlace}
 use Rattle.fw_model_run.specs.Carrying.{WritesCycle}
 use Rattle.fw_model_run.proofs.Given.{given_append}
@@ -26,8 +42,8 @@ one_packets D only [] s t u xs ys out other g give gave f h = (f.1 ∙ sym h.1, 
 one_packets D only (p ∷ plugs) s t u xs ys out other g give gave f h =
     let given = subst (AreGiven D) f.7 give in
     let given2 = subst (AreGiven D) h.7 gave in
-    let same : f.0 ≡ h.0 = one_block D only s p f.0 h.0 f.5.3.1.1 h.5.3.1.1 given.0 given2.0 in
-    let now = one_steps s f.1 h.1 (SendPacket p f.0 ∷ []) f.3 h.3 g f.5 (subst (λ b. Steps s (SendPacket p b ∷ []) h.3 h.1) (sym same) h.5) in
+    let same : f.0 ≡ h.0 = one_block D only s p f.0 h.0 f.5.3.may.gives h.5.3.may.gives given.0 given2.0 in
+    let now = one_steps s f.1 h.1 (SendPacket p f.0 ∷ []) f.3 h.3 g f.5 (subst (λ b. Transitions s (SendPacket p b ∷ []) h.3 h.1) (sym same) h.5) in
     let good : IsGood f.1 = steps_good s f.1 (SendPacket p f.0 ∷ []) f.3 g f.5 in
     let later = one_packets D only plugs f.1 t u f.2 h.2 f.4 h.4 good given.1 given2.1 f.6 (subst (λ z. SendsPackets plugs z h.2 h.4 u) (sym now.1) h.6) in
     (f.8 ∙ (ap (λ z. z ++ f.4) now.0 ∙ (ap (λ z. h.3 ++ z) later.0 ∙ sym h.8)), later.1)
@@ -51,8 +67,8 @@ one_cycle D only (Some e) s t u xs ys out other g give gave f h =
     let given2 = (given_append D h.written (KeepBlock (heard_in h.sent other) ∷ []) (subst (AreGiven D) h.actions_are gave)).0 in
     let sent = one_write D only s f.sent h.sent f.written h.written out other g given given2 f.writes h.writes in
     let good : IsGood f.sent = steps_good s f.sent f.written out g (writes_steps s f.written out f.sent f.writes) in
-    let keeps : Steps f.sent (KeepBlock (heard_in f.sent out) ∷ []) [] u =
-    subst (λ z. Steps z (KeepBlock (heard_in z out) ∷ []) [] u) (sym sent.1) (subst (λ o. Steps h.sent (KeepBlock (heard_in h.sent o) ∷ []) [] u) (sym sent.0) h.keeps) in
+    let keeps : Transitions f.sent (KeepBlock (heard_in f.sent out) ∷ []) [] u =
+    subst (λ z. Transitions z (KeepBlock (heard_in z out) ∷ []) [] u) (sym sent.1) (subst (λ o. Transitions h.sent (KeepBlock (heard_in h.sent o) ∷ []) [] u) (sym sent.0) h.keeps) in
     let kept = one_steps f.sent t u (KeepBlock (heard_in f.sent out) ∷ []) [] [] good f.keeps keeps in
     (sent.0, kept.1)
 

@@ -1,6 +1,6 @@
 -- What follows from a frame is one thing, if the vendor makes one thing of each byte.
 use Rattle.fw_model_run.proofs.Common.{◌≡◌, ℕ, ◌+◌, ◌*◌, ◌<◌, List, [], ◌∷◌, Option, Some, None, refl, ap, sym, subst, ◌∙◌, arith, same_Some, Timed, Frame, spelling, Obeyed, FrameWrite, DeskRelations}
-use Rattle.fw_model_run.proofs.Common.{IsFunction, request_of, Receives, IsGiven, Receive, State}
+use Rattle.fw_model_run.proofs.Common.{IsFunction, request_of, Transition, IsGiven, Receive, State}
 use Rattle.std.proofs.Common.{drop}
 use Rattle.fw_fcp.specs.Frames.{Fits}
 use Rattle.fw_tape.specs.declared.row.TapeRow.TheVariants.{Eject, Enter, TransportState, TimeCode}
@@ -74,8 +74,8 @@ one_followed D only s w (Some x) (Some y) f g given other =
     let response = one_response D only x.unit x.command (ruling x.unit x.command) x.response y.response given moved in
     λ i. Some (record { unit = unit i; command = command i; response = response i })
 
-pub one_obeyed : (D : DeskRelations) (only : IsFunction D) (s t u : State) (x y : Option Obeyed) (out other : List Timed) → Receives s x out t → Receives s y other u → IsGiven D (Receive x)
-    → IsGiven D (Receive y) → x ≡ y
+pub one_obeyed : (D : DeskRelations) (only : IsFunction D) (s t u : State) (x y : Option Obeyed) (out other : List Timed) → Transition s (Receive x) out t → Transition s (Receive y) other u
+    → IsGiven D (Receive x) → IsGiven D (Receive y) → x ≡ y
 one_obeyed D only s t u x y out other f g given after =
-    let same : g.write ≡ f.write = same_Some g.write f.write (sym g.waits ∙ f.waits) in
-    one_followed D only s f.write x y f.followed (subst (λ w. IsFollowedBy s w y) same g.followed) given after
+    let same : g.found.write ≡ f.found.write = same_Some g.found.write f.found.write (sym g.may.waits ∙ f.may.waits) in
+    one_followed D only s f.found.write x y f.may.followed (subst (λ w. IsFollowedBy s w y) same g.may.followed) given after

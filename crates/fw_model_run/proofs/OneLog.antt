@@ -10,7 +10,8 @@ use Rattle.fw_model_run.specs.Rules.{Connects, IsOrder, system_with, Transacts, 
 use Rattle.fw_model_run.specs.Named.{IsNamed, IsEnd, IsShown, IsWanted, plug_of}
 use Rattle.fw_model_run.proofs.Given.{given_append}
 use Rattle.fw_model_run.proofs.OneStep.{Same}
-use Rattle.fw_model_run.proofs.OneResult.{CarriedBy, carried, one_carried}
+use Rattle.fw_model_run.proofs.Decided.{CarriedBy, carried}
+use Rattle.fw_model_run.proofs.OneResult.{one_carried}
 use Rattle.fw_model_run.proofs.Runs.{run_steps}
 use Rattle.fw_model_run.proofs.Steps.{steps_good}
 use Rattle.fw_model_run.proofs.Times.{first_good}
@@ -110,26 +111,26 @@ snoc_same (w ∷ xs) (z ∷ ys) x y e =
 
 pub record Last (commands : List Command) (c : Command) (actions : List Action) (log : List Timed) (t : State) : Type 0 where
   pub early : List Action
-  pub front : List Timed
+  pub prefix : List Timed
   pub state : State
-  pub run : Run commands early front state
+  pub run : Run commands early prefix state
   pub order : Order
   pub decided : Decides state c (Ok order)
   pub more : List Action
   pub out : List Timed
   pub carries : Carries state order more out t
   pub actions_are : actions ≡ early ++ more
-  pub log_is : log ≡ front ++ out
+  pub log_is : log ≡ prefix ++ out
 
 pub last_of : (all commands : List Command) (c : Command) (actions : List Action) (log : List Timed) (t : State) → Run all actions log t → all ≡ commands ++ c ∷ [] → Last commands c actions log t
 last_of all commands c actions log t begun e = absurd (no_snoc commands c e)
-last_of all commands c actions log t (and_then {commands = cs} {actions = xs} {log = front} {s = mid} r d o more out u decided f) e =
+last_of all commands c actions log t (and_then {commands = cs} {actions = xs} {log = prefix} {s = mid} r d o more out u decided f) e =
     let same = snoc_same cs commands d c e in
     record {
       early = xs;
-      front = front;
+      prefix = prefix;
       state = mid;
-      run = subst (λ z. Run z xs front mid) same.0 r;
+      run = subst (λ z. Run z xs prefix mid) same.0 r;
       order = o;
       decided = subst (λ z. Decides mid z (Ok o)) same.1 decided;
       more = more;
@@ -153,18 +154,18 @@ pub one_run : (D : DeskRelations) (only : IsFunction D) (commands : List Command
     → Run commands others other t
     → AreGiven D actions → AreGiven D others → Same log s other t
 one_run D only commands actions others log other s t begun g v w = nothing_done commands others other t g refl
-one_run D only commands actions others log other s t (and_then {commands = cs} {actions = xs} {log = front} {s = mid} r c o more out u decided f) g v w =
-    go (last_of commands cs c others other t g refl) (λ others other t g w. one_run D only cs xs others front other mid t r g (given_append D xs more v).0 w)
+one_run D only commands actions others log other s t (and_then {commands = cs} {actions = xs} {log = prefix} {s = mid} r c o more out u decided f) g v w =
+    go (last_of commands cs c others other t g refl) (λ others other t g w. one_run D only cs xs others prefix other mid t r g (given_append D xs more v).0 w)
   where
-    go : Last cs c others other t → ((others : List Action) (other : List Timed) (t : State) → Run cs others other t → AreGiven D others → Same front mid other t) → Same (front ++ out) u other t
+    go : Last cs c others other t → ((others : List Action) (other : List Timed) (t : State) → Run cs others other t → AreGiven D others → Same prefix mid other t) → Same (prefix ++ out) u other t
     go l same_before =
         let given = given_append D l.early l.more (subst (AreGiven D) l.actions_are w) in
-        let before = same_before l.early l.front l.state l.run given.0 in
+        let before = same_before l.early l.prefix l.state l.run given.0 in
         let order : o ≡ l.order = one_order mid c o l.order decided.0 (subst (λ z. IsOrder z c l.order) (sym before.1) l.decided.0) in
         let here : CarriedBy mid l.order l.more l.out t = subst (λ z. CarriedBy z l.order l.more l.out t) (sym before.1) (carried l.state l.order l.more l.out t l.carries) in
-        let result = one_carried D only mid o more l.more out l.out u t (run_good cs xs front mid r) (given_append D xs more v).1 given.1 (carried mid o more out u f)
+        let result = one_carried D only mid o more l.more out l.out u t (run_good cs xs prefix mid r) (given_append D xs more v).1 given.1 (carried mid o more out u f)
         (subst (λ z. CarriedBy mid z l.more l.out t) (sym order) here) in
-        (ap (λ z. z ++ out) before.0 ∙ (ap (λ z. l.front ++ z) result.0 ∙ sym l.log_is), result.1)
+        (ap (λ z. z ++ out) before.0 ∙ (ap (λ z. l.prefix ++ z) result.0 ∙ sym l.log_is), result.1)
 
 -- ---- what decides
 

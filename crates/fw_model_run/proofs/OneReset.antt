@@ -31,24 +31,24 @@ one_manager devices a b (Some d) (Some e) same f g =
 
 -- ---- self-ID packets
 
-abbrev Behind : List PhyFacts → Peers → List (Option ℕ) → List (Option ℕ) → ℕ → ℕ → List PhyPacket → Type 0
-Behind devices g number parents initiator zero qs = qs ≡ []
-Behind devices g number parents initiator (suc n) qs =
+abbrev Subsequent : List PhyFacts → Peers → List (Option ℕ) → List (Option ℕ) → ℕ → ℕ → List PhyPacket → Type 0
+Subsequent devices g number parents initiator zero qs = qs ≡ []
+Subsequent devices g number parents initiator (suc n) qs =
     (ps : List PhyPacket) × ArePackets devices g number parents initiator n ps
     × ((d : ℕ) × (number_at number d ≡ Some n) × (qs ≡ ps ++ node_packets (facts_at devices d) (slice_index_or g d []) (number_at parents d) n (d == initiator)))
 
-behind : (devices : List PhyFacts) (g : Peers) (number parents : List (Option ℕ)) (initiator n : ℕ) (qs : List PhyPacket)
-    → ArePackets devices g number parents initiator n qs → Behind devices g number parents initiator n qs
-behind devices g number parents initiator n qs no_node = refl
-behind devices g number parents initiator n qs (node {n = m} {ps = ps} p d at is) = (ps, p, (d, at, is))
+following : (devices : List PhyFacts) (g : Peers) (number parents : List (Option ℕ)) (initiator n : ℕ) (qs : List PhyPacket)
+    → ArePackets devices g number parents initiator n qs → Subsequent devices g number parents initiator n qs
+following devices g number parents initiator n qs no_node = refl
+following devices g number parents initiator n qs (node {n = m} {ps = ps} p d at is) = (ps, p, (d, at, is))
 
 one_packets : (devices : List PhyFacts) (g : Peers) (a b x y : List (Option ℕ)) (initiator n : ℕ) (ps qs : List PhyPacket)
     → ((d : ℕ) → number_at a d ≡ number_at b d) → ((d : ℕ) → number_at x d ≡ number_at y d)
     → ((d e n : ℕ) → number_at b d ≡ Some n → number_at b e ≡ Some n → d ≡ e) → ArePackets devices g a x initiator n ps → ArePackets devices g b y initiator n qs → ps ≡ qs
-one_packets devices g a b x y initiator zero ps qs numbers parents one f h = behind devices g a x initiator 0 ps f ∙ sym (behind devices g b y initiator 0 qs h)
+one_packets devices g a b x y initiator zero ps qs numbers parents one f h = following devices g a x initiator 0 ps f ∙ sym (following devices g b y initiator 0 qs h)
 one_packets devices g a b x y initiator (suc n) ps qs numbers parents one f h =
-    let u = behind devices g a x initiator (suc n) ps f in
-    let v = behind devices g b y initiator (suc n) qs h in
+    let u = following devices g a x initiator (suc n) ps f in
+    let v = following devices g b y initiator (suc n) qs h in
     let early = one_packets devices g a b x y initiator n u.0 v.0 numbers parents one u.1 v.1 in
     let d : u.2.0 ≡ v.2.0 = one u.2.0 v.2.0 n (sym (numbers u.2.0) ∙ u.2.1) v.2.1 in
     u.2.2
@@ -91,5 +91,6 @@ one_entry t kinds epoch initiator e u s f g = λ i. record { epoch = epochs i; r
     nodes = same_lists e.nodes u.nodes (f.size ∙ (same.count ∙ sym g.size)) row
 
     ids : e.ids ≡ u.ids
-    ids = one_packets t.devices t.cables f.numbering.number g.numbering.number f.numbering.parent_port g.numbering.parent_port initiator f.numbering.count e.ids u.ids same.number same.parent_port g.numbered.nodes.one f.ids
+    ids = one_packets t.devices t.cables f.numbering.number g.numbering.number f.numbering.parent_port g.numbering.parent_port initiator f.numbering.count e.ids u.ids same.number same.parent_port
+        g.numbered.nodes.one f.ids
         (subst (λ n. ArePackets t.devices t.cables g.numbering.number g.numbering.parent_port initiator n u.ids) (sym same.count) g.ids)

@@ -2,10 +2,10 @@
 use Rattle.fw_model_run.proofs.Common.{◌≡◌, ℕ, List, [], ◌∷◌, Bool, true, false, refl, ap, sym, subst, ◌∙◌, IsTrue, ◌&&◌, arith, Reset, ResetEntry, Timed, Current, Nothing, Asking, Hearing, Overtaken}
 use Rattle.fw_model_run.proofs.Common.{Directory, Job, Next, Idle, Stage, ControllerState, new_controller, IsHeard, next}
 use Rattle.fw_model_run.proofs.Common.{at_cycle, State, Declared, first_state, is_living, directory_of, is_deaf, asks}
-use Rattle.fw_model_run.proofs.Common.{taken, Action, Step, Resets, IsGood, world_of}
+use Rattle.fw_model_run.proofs.Common.{taken, Action, Transition, Resets, IsGood, world_of}
 use Rattle.fw_terms.specs.Tables.{find_to}
 use Rattle.fw_cmp.specs.declared.outcome.Next.TheVariants.{End}
-use Rattle.fw_cmp.specs.declared.outcome.Outcome.{Outcome}
+use Rattle.fw_cmp_jobs.specs.declared.outcome.Outcome.{Outcome}
 use Rattle.fw_model_reclaim.specs.Worlds.{IsReset}
 use Rattle.fw_model_reclaim.specs.Whole.{EndsRestored}
 use Rattle.fw_model_reclaim.proofs.Living.{turn_meets, facts_in}
@@ -14,13 +14,13 @@ use Rattle.fw_model_reclaim.proofs.Reclaim.{reclaims}
 use Rattle.fw_model_run.specs.Reclaiming.{Reclaims, RestoresInSecond}
 use Rattle.fw_model_run.proofs.Changes.{turn_change, reset_is, steps_path}
 use Rattle.fw_model_run.proofs.Leads.{linked_of}
-use Rattle.fw_model_run.proofs.Resets.{MayReset, declaring}
+use Rattle.fw_model_run.proofs.Resets.{MayReset, declaring, numbered}
 use Rattle.fw_model_run.proofs.Steps.{step_good, steps_good}
 use Rattle.fw_model_run.proofs.Times.{first_good}
 use Rattle.fw_model_run.proofs.Turns.{living_linked}
 use Rattle.fw_cmp.specs.Holdings.{is_current_slot}
 use Rattle.fw_model_run.proofs.Alterations.{marked, told_by}
-use Rattle.fw_model_run.proofs.Effects.{Effect, altering, effect, numbered, resetting}
+use Rattle.fw_model_run.proofs.Effects.{Effect, altering, effect, resetting}
 use Rattle.fw_model_run.proofs.Marks.{no_reset}
 
 -- ---- an action that is a bus reset
@@ -43,7 +43,7 @@ as_before s u t same deaf r = record {
   quiet = r.quiet;
 }
 
-pub bus_resets : (s t : State) (a : Action) (e : ResetEntry) (c : ℕ) → IsGood s → Step s a (at_cycle c (Reset e) ∷ []) t → BusResets s t
+pub bus_resets : (s t : State) (a : Action) (e : ResetEntry) (c : ℕ) → IsGood s → Transition s a (at_cycle c (Reset e) ∷ []) t → BusResets s t
 bus_resets s t a e c g x = go (effect s a (at_cycle c (Reset e) ∷ []) t x)
   where
     go : Effect s a (at_cycle c (Reset e) ∷ []) t → BusResets s t

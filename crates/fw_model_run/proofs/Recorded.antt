@@ -1,7 +1,7 @@
 -- What a deck records in a cycle is a block of the one plug that talks on the channel that it hears.
 use Rattle.fw_model_run.proofs.Common.{◌≡◌, ℕ, ◌+◌, ◌==◌, ◌&&◌, ◌++◌, ◌⊎◌, inl, inr, cond, List, [], ◌∷◌, Bool, true, false, Option, Some, None, refl, ap, sym, subst, ◌∙◌, append_assoc, arith, IsTrue}
 use Rattle.fw_model_run.proofs.Common.{nat_tests, same_Some, PlugAt, at_plug, Async, Iso, Timed, talks, Action}
-use Rattle.fw_model_run.proofs.Common.{Pass, EndSecond, StartCycle, SendPacket, KeepBlock, Step, Steps, next_cycle, SendsPackets}
+use Rattle.fw_model_run.proofs.Common.{Pass, EndSecond, StartCycle, SendPacket, KeepBlock, Transition, Transitions, next_cycle, SendsPackets}
 use Rattle.fw_model_run.proofs.Common.{DeskRelations, IsGiven, AreGiven, at_cycle, IsGood, heard_in, State, GivenBlock, GivesBlock, bytes_of, cycle_start, tape_at, stream_packet, talkers}
 use Rattle.std.specs.Option.{option_or}
 use Rattle.fw_model_account.specs.Sound.{IsConflictFree}
@@ -45,45 +45,45 @@ sent_by D [] s xs out t channel bytes f given e = absurd (let wrong : None ≡ S
 sent_by D (p ∷ plugs) s xs out t channel bytes f given e = go (sent_by D plugs f.1 f.2 f.4 t channel bytes f.6 gives.1)
     (or_later ((s.account.settings p).channel == channel) (bytes_of f.0) (block_among channel f.4) bytes (sym (ap (block_among channel) (f.8 ∙ ap (λ z. z ++ f.4) one)) ∙ e))
   where
-    x : Step s (SendPacket p f.0) f.5.0 f.5.2
+    x : Transition s (SendPacket p f.0) f.5.0 f.5.2
     x = f.5.3
 
     packet : Timed
     packet = at_cycle s.clock.cycle (Iso (stream_packet s p (bytes_of f.0)))
 
     one : f.3 ≡ packet ∷ []
-    one = f.5.4 ∙ (ap (λ z. z ++ f.5.1) x.1.2 ∙ ap (λ z. packet ∷ z) f.5.5.0)
+    one = f.5.4 ∙ (ap (λ z. z ++ f.5.1) x.out_is ∙ ap (λ z. packet ∷ z) f.5.5.0)
 
     same : f.1 ≡ s
-    same = f.5.5.1 ∙ x.1.3
+    same = f.5.5.1 ∙ x.state_is
 
     gives : IsGiven D (SendPacket p f.0) × AreGiven D f.2
     gives = subst (AreGiven D) f.7 given
 
     go : (block_among channel f.4 ≡ Some bytes → Sent D f.1 channel bytes) → (((s.account.settings p).channel == channel) ≡ true) × (bytes_of f.0 ≡ Some bytes) ⊎ (block_among channel f.4 ≡ Some bytes)
         → Sent D s channel bytes
-    go later (inl h) = let t = h.0 in one_sent D s p f.0 channel bytes x.1.0 x.1.1 gives.0 (grind (arith, nat_tests, t)) h.1
+    go later (inl h) = let t = h.0 in one_sent D s p f.0 channel bytes x.may.talks x.may.gives gives.0 (grind (arith, nat_tests, t)) h.1
     go later (inr h) = subst (λ z. Sent D z channel bytes) same (later h)
 
 -- ---- what comes before them
 
 -- an entry that is no packet of a stream
-comes_quiet : (s : State) (out : List Timed) (t : State) (channel : ℕ) (rest : List Timed) → Step s (next_cycle s) out t → block_among channel (out ++ rest) ≡ block_among channel rest
+comes_quiet : (s : State) (out : List Timed) (t : State) (channel : ℕ) (rest : List Timed) → Transition s (next_cycle s) out t → block_among channel (out ++ rest) ≡ block_among channel rest
 comes_quiet s out t channel rest = go (s.account.reclaiming && (s.clock.cycle + 1 == s.clock.over_at))
   where
-    go : (b : Bool) → Step s (cond b EndSecond (Pass 1)) out t → block_among channel (out ++ rest) ≡ block_among channel rest
-    go true x = ap (λ z. block_among channel (z ++ rest)) x.1.3
-    go false x = ap (λ z. block_among channel (z ++ rest)) x.1.2
+    go : (b : Bool) → Transition s (cond b EndSecond (Pass 1)) out t → block_among channel (out ++ rest) ≡ block_among channel rest
+    go true x = ap (λ z. block_among channel (z ++ rest)) x.out_is
+    go false x = ap (λ z. block_among channel (z ++ rest)) x.out_is
 
-pub begins_quiet : (s : State) (first : List Timed) (mid : State) (channel : ℕ) (rest : List Timed) → Steps s (next_cycle s ∷ StartCycle ∷ []) first mid
+pub begins_quiet : (s : State) (first : List Timed) (mid : State) (channel : ℕ) (rest : List Timed) → Transitions s (next_cycle s ∷ StartCycle ∷ []) first mid
     → block_among channel (first ++ rest) ≡ block_among channel rest
 begins_quiet s first mid channel rest f =
-    let start = f.5.3.1.1.2 in
+    let start = f.5.3.out_is in
     let tail : f.1 ≡ f.5.0 ++ f.5.1 = f.5.4 in
     ap (λ z. block_among channel (z ++ rest)) f.4
     ∙ (ap (block_among channel) (append_assoc f.0 f.1 rest)
     ∙ (comes_quiet s f.0 f.2 channel (f.1 ++ rest) f.3
-    ∙ (ap (λ z. block_among channel (z ++ rest)) (tail ∙ (ap (λ z. z ++ f.5.1) start ∙ ap (λ z. at_cycle f.2.clock.cycle (Async (cycle_start f.5.3.1.1.0.root f.2.clock.cycle)) ∷ z) f.5.5.0)))))
+    ∙ (ap (λ z. block_among channel (z ++ rest)) (tail ∙ (ap (λ z. z ++ f.5.1) start ∙ ap (λ z. at_cycle f.2.clock.cycle (Async (cycle_start f.5.3.found.root f.2.clock.cycle)) ∷ z) f.5.5.0)))))
 
 -- ---- a cycle
 

@@ -1,15 +1,15 @@
 -- What comes of what a swap took whose response was lost.
 use Rattle.fw_model_run.proofs.Common.{◌≡◌, ◌≢◌, ◌⊎◌, inl, inr, ℕ, zero, suc, ◌+◌, ◌<◌, ◌&&◌, ◌||◌, not, nat_lt, List}
 use Rattle.fw_model_run.proofs.Common.{Bool, true, false, cond, Option, Some, None, refl, ap, sym, subst, ◌∙◌, arith, IsTrue}
-use Rattle.fw_model_run.proofs.Common.{IsFalse, nat_tests, PlugAt, Timed, Account, Slot, ControllerState, slot_at, Action, Steps, IsGood, Asks, State, first_state, directory_of, is_deaf}
+use Rattle.fw_model_run.proofs.Common.{IsFalse, nat_tests, PlugAt, Timed, Account, Slot, ControllerState, slot_at, Action, Transitions, IsGood, Asks, State, first_state, directory_of, is_deaf}
 use Rattle.fw_terms.specs.declared.plug.ConnectionKind.{ConnectionKind}
 use Rattle.fw_terms.specs.declared.plug.ConnectionKind.TheVariants.{PointToPoint, Broadcast}
 use Rattle.fw_terms.specs.Tables.{sum_to}
 use Rattle.fw_terms.proofs.Tables.{same_plug-true, sum_to_some}
 use Rattle.fw_plug.specs.Words.{units_of}
 use Rattle.fw_model_account.specs.Account.{Allocation, Connected, Orphaned, Owner, Of, Dead, Connections, counter, is_there, has_connection}
-use Rattle.fw_cmp.specs.declared.connection.Slot.TheVariants.{Free, Making, Standing, Restoring, Gone}
-use Rattle.fw_cmp.specs.Connections.{output_of, kind_of}
+use Rattle.fw_cmp_jobs.specs.declared.connection.Slot.TheVariants.{Free, Making, Established, Restoring, Gone}
+use Rattle.fw_cmp_jobs.specs.Connections.{output_of, kind_of}
 use Rattle.fw_cmp.specs.Controllers.{count_of}
 use Rattle.fw_cmp.specs.Holdings.{is_plug, same_kind, is_current_slot, stands_at_output}
 use Rattle.fw_cmp.specs.Losses.{Listening}
@@ -71,7 +71,7 @@ standing_at s d i p kind Free g other at e = absurd (grind (arith, e))
 standing_at s d i p kind (Making conn asked overhead) g other at e = absurd (grind (arith, e))
 standing_at s d i p kind (Restoring conn f over) g other at e = absurd (grind (arith, e))
 standing_at s d i p kind (Gone conn) g other at e = absurd (grind (arith, e))
-standing_at s d i p kind (Standing conn f) g other at e =
+standing_at s d i p kind (Established conn f) g other at e =
     let output = plug_of (output_of conn) p (same_kind kind (kind_of conn)) e in
     let w = whole s.account d (s.controllers d) i conn f (g.reclaims.step.fits d) (g.reclaims.step.each d) at other in
     record { device = d; slot = i; connection = conn; flow = f; stands = at; output = output; channel = sym (w.output p output).1.channel; whole = w }
@@ -118,7 +118,7 @@ settled_belongs s ch x g idle at = go ((settled (directory_of s) s.account s.con
 
 -- ---- the whole
 
-pub loses_nothing : (actions : List Action) (log : List Timed) (s : State) → Steps first_state actions log s → LosesNothing s
+pub loses_nothing : (actions : List Action) (log : List Timed) (s : State) → Transitions first_state actions log s → LosesNothing s
 loses_nothing actions log s f =
     let g = steps_good first_state s actions log first_good f in record {
       freed = λ a t r. reset_frees s t a g r;
@@ -127,5 +127,5 @@ loses_nothing actions log s f =
       belongs = λ idle ch x at. settled_belongs s ch x g idle at;
     }
 
-pub recovers : (actions : List Action) (log : List Timed) (s : State) → Steps first_state actions log s → RecoversThroughout actions
-recovers actions log s f = record { states = λ done later front t is steps. loses_nothing done front t steps }
+pub recovers : (actions : List Action) (log : List Timed) (s : State) → Transitions first_state actions log s → RecoversThroughout actions
+recovers actions log s f = record { states = λ done later prefix t is steps. loses_nothing done prefix t steps }

@@ -1,13 +1,12 @@
 -- Each block of the reel was recorded in the course of the run.
 use Rattle.fw_model_run.proofs.Common.{◌≡◌, ℕ, zero, suc, ◌+◌, ◌==◌, ◌&&◌, cond, List, [], ◌∷◌, ◌++◌, length, Bool, true, false, Option, Some, None, refl, ap, sym, subst, ◌∙◌, append_assoc, ⊤, PlugAt}
-use Rattle.fw_model_run.proofs.Common.{ResetEntry, Timed, Command, Order, Action, HalfStep, Unsettled, Pass, EndSecond, Contend}
-use Rattle.fw_model_run.proofs.Common.{KeepBlock, Step, Steps, times, half_steps_of, Rounds, none, round, rest}
-use Rattle.fw_model_run.proofs.Common.{SendsAll, quiet, sends, next_cycle, SendsPackets, HasCycle, HasCycles, Carries, withholds, withholds_already, declares, joins, resets, connects, breaks, steps}
-use Rattle.fw_model_run.proofs.Common.{settled, waits, waits_over, writes_cycles, dies, dies_late, dies_idle, loses, starts, goes_on, transacts, shows, commanded, inserts, ejects, ejects_nothing}
-use Rattle.fw_model_run.proofs.Common.{becomes_candidate, stays_candidate, contends, dubs, ends, DeskRelations, AreGiven, IsGood, heard_in, Run, begun, and_then, State, first_state, living, talkers}
+use Rattle.fw_model_run.proofs.Common.{ResetEntry, Timed, Command, Order, Action, Pass, EndSecond}
+use Rattle.fw_model_run.proofs.Common.{KeepBlock, Transition, Transitions}
+use Rattle.fw_model_run.proofs.Common.{next_cycle, SendsPackets, HasCycle, HasCycles, Carries}
+use Rattle.fw_model_run.proofs.Common.{writes_cycles}
+use Rattle.fw_model_run.proofs.Common.{DeskRelations, AreGiven, IsGood, heard_in, Run, begun, and_then, State, first_state, talkers}
 use Rattle.std.specs.Prelude.{nat_lt}
 use Rattle.fw_model_run.specs.Carrying.{KeepsCycle}
-use Rattle.fw_model_run.specs.Carrying.{unsettled}
 use Rattle.fw_model_run.specs.Recorded.{IsKeptAmong, EachOf, AreRecorded}
 use Rattle.fw_model_run.specs.Recording.{reel_keeping, room_of, tape_in}
 use Rattle.fw_model_run.proofs.Given.{given_append}
@@ -17,6 +16,7 @@ use Rattle.fw_model_run.proofs.Steps.{steps_good}
 use Rattle.fw_model_run.proofs.Times.{first_good}
 use Rattle.fw_model_run.proofs.Alterations.{Allows, Alteration, Kept, Tied, altered}
 use Rattle.fw_model_run.proofs.Effects.{Effect, altering, effect, resetting}
+use Rattle.fw_model_run.proofs.Each.{Each, IsCycles, IsPartOf, each_carried, each_then as actions_then}
 
 -- ---- what actions keep
 
@@ -30,12 +30,10 @@ HoldsOf P (Some bytes) = P bytes
 
 -- it holds of each block that one of the actions keeps
 abbrev AllKept : (List ℕ → Type 0) → List Action → Type 0
-AllKept P [] = ⊤
-AllKept P (a ∷ actions) = HoldsOf P (kept_by a) × AllKept P actions
+AllKept P actions = Each (λ a. HoldsOf P (kept_by a)) actions
 
 kept_then : (P : List ℕ → Type 0) (xs ys : List Action) → AllKept P xs → AllKept P ys → AllKept P (xs ++ ys)
-kept_then P [] ys f g = g
-kept_then P (x ∷ xs) ys f g = (f.0, kept_then P xs ys f.1 g)
+kept_then P xs ys f g = actions_then (λ a. HoldsOf P (kept_by a)) xs ys f g
 
 holds_map : (P Q : List ℕ → Type 0) → ((bytes : List ℕ) → P bytes → Q bytes) → (o : Option (List ℕ)) → HoldsOf P o → HoldsOf Q o
 holds_map P Q f None h = tt
@@ -67,7 +65,7 @@ keeping P s (Some d) (Some bytes) h k = go (nat_lt (length s.dub.reel) (room_of 
 reel_as : (P : List ℕ → Type 0) (s u t : State) → t ≡ u → u.dub.reel ≡ s.dub.reel → EachOf P s.dub.reel → EachOf P t.dub.reel
 reel_as P s u t is same h = subst (λ (z : State). EachOf P z.dub.reel) (sym is) (subst (EachOf P) (sym same) h)
 
-step_reel : (P : List ℕ → Type 0) (s : State) (a : Action) (out : List Timed) (t : State) → Step s a out t → HoldsOf P (kept_by a) → EachOf P s.dub.reel → EachOf P t.dub.reel
+step_reel : (P : List ℕ → Type 0) (s : State) (a : Action) (out : List Timed) (t : State) → Transition s a out t → HoldsOf P (kept_by a) → EachOf P s.dub.reel → EachOf P t.dub.reel
 step_reel P s a out t x k h = go (effect s a out t x)
   where
     by : (y : Alteration) → Allows s a y → EachOf P (altered s y).dub.reel
@@ -79,29 +77,11 @@ step_reel P s a out t x k h = go (effect s a out t x)
     go (resetting counts half_steps n initiator free begins may r) = reel_as P s _ t r.state_is refl h
     go (altering y w out_is is ok) = subst (λ (z : State). EachOf P z.dub.reel) (sym is) (by y ok)
 
-steps_reel : (P : List ℕ → Type 0) (s : State) (actions : List Action) (out : List Timed) (t : State) → Steps s actions out t → AllKept P actions → EachOf P s.dub.reel → EachOf P t.dub.reel
+steps_reel : (P : List ℕ → Type 0) (s : State) (actions : List Action) (out : List Timed) (t : State) → Transitions s actions out t → AllKept P actions → EachOf P s.dub.reel → EachOf P t.dub.reel
 steps_reel P s [] out t f k h = reel_as P s s t f.1 refl h
 steps_reel P s (a ∷ actions) out t f k h = steps_reel P f.2 actions f.1 t f.5 k.1 (step_reel P s a f.0 f.2 f.3 k.0 h)
 
 -- ---- actions that keep nothing
-
-times_kept : (P : List ℕ → Type 0) (n : ℕ) (a : Action) → HoldsOf P (kept_by a) → AllKept P (times n a)
-unfolding times
-times_kept P zero a k = tt
-times_kept P (suc n) a k = kept_then P (times n a) (a ∷ []) (times_kept P n a k) (k, tt)
-
-halves_kept : (P : List ℕ → Type 0) (ds : List ℕ) → AllKept P (half_steps_of ds)
-halves_kept P [] = tt
-halves_kept P (d ∷ ds) = (tt, halves_kept P ds)
-
-rounds_kept : (P : List ℕ → Type 0) (n : ℕ) (s : State) (xs : List Action) (out : List Timed) (t : State) → Rounds n s xs out t → AllKept P xs
-rounds_kept P n s xs out t none = tt
-rounds_kept P n s xs out t (round {n = k} m more first last f g) = kept_then P (half_steps_of (living s)) more (halves_kept P (living s)) (rounds_kept P k m more last t g)
-rounds_kept P n s xs out t (rest f) = (tt, tt)
-
-frames_kept : (P : List ℕ → Type 0) (d : ℕ) (s : State) (xs : List Action) (out : List Timed) (t : State) → SendsAll d s xs out t → AllKept P xs
-frames_kept P d s xs out t (quiet e) = tt
-frames_kept P d s xs out t (sends m more first last f g) = (tt, (tt, frames_kept P d m more last t g))
 
 packets_kept : (P : List ℕ → Type 0) (plugs : List PlugAt) (s : State) (xs : List Action) (out : List Timed) (t : State) → SendsPackets plugs s xs out t → AllKept P xs
 packets_kept P [] s xs out t f = subst (AllKept P) (sym f.0) tt
@@ -127,9 +107,9 @@ kept_before D s xs ys bytes k = record {
   actions_are = ap (λ z. z ++ ys) k.actions_are ∙ append_assoc k.before (KeepBlock (Some bytes) ∷ k.rest) ys;
 }
 
-kept_behind : (D : DeskRelations) (s m : State) (xs : List Action) (out : List Timed) (ys : List Action) → Steps s xs out m → (bytes : List ℕ) → IsKeptAmong D m ys bytes
+kept_following : (D : DeskRelations) (s m : State) (xs : List Action) (out : List Timed) (ys : List Action) → Transitions s xs out m → (bytes : List ℕ) → IsKeptAmong D m ys bytes
     → IsKeptAmong D s (xs ++ ys) bytes
-kept_behind D s m xs out ys f bytes k = record {
+kept_following D s m xs out ys f bytes k = record {
   before = xs ++ k.before;
   rest = k.rest;
   out = out ++ k.out;
@@ -178,54 +158,31 @@ cycles_kept D (suc n) s actions out t g f given =
     let good = steps_good s f.0 f.1 f.3 g first in
     let P : List ℕ → Type 0 = IsKeptAmong D s (f.1 ++ f.2) in
     let now = kept_map (IsKeptAmong D s f.1) P (kept_before D s f.1 f.2) f.1 (comes_or_keeps D s.account.latest s f.1 f.3 f.0 g f.5 gives.0) in
-    let later = kept_map (IsKeptAmong D f.0 f.2) P (kept_behind D s f.0 f.1 f.3 f.2 first) f.2 (cycles_kept D n f.0 f.2 f.4 t good f.6 gives.1) in
+    let later = kept_map (IsKeptAmong D f.0 f.2) P (kept_following D s f.0 f.1 f.3 f.2 first) f.2 (cycles_kept D n f.0 f.2 f.4 t good f.6 gives.1) in
     subst (λ xs. AllKept (IsKeptAmong D s xs) xs) (sym f.7) (kept_then P f.1 f.2 now later)
 
 -- ---- orders
 
+-- none but the writing of cycles keeps a block
+keeps_none : (P : List ℕ → Type 0) (o : Order) → (IsCycles o → ⊥) → (a : Action) → IsPartOf o a → HoldsOf P (kept_by a)
+keeps_none P o other (KeepBlock block) is = absurd (other is)
+keeps_none P o other _ is = tt
+
 carries_kept : (D : DeskRelations) (s : State) (o : Order) (actions : List Action) (out : List Timed) (t : State) → IsGood s → Carries s o actions out t → AreGiven D actions
     → AllKept (IsKeptAmong D s actions) actions
-carries_kept D s o xs out t g (withholds f) given = (tt, tt)
-carries_kept D s o xs out t g (withholds_already e) given = tt
-carries_kept D s o xs out t g (declares f) given = (tt, tt)
-carries_kept D s o xs out t g (joins f) given = (tt, tt)
-carries_kept D s o xs out t g (resets f) given = (tt, tt)
-carries_kept D s o xs out t g (connects f) given = (tt, tt)
-carries_kept D s o xs out t g (breaks f) given = (tt, tt)
-carries_kept D s o xs out t g (steps {d = d} {count = n} f) given = times_kept (IsKeptAmong D s xs) n (HalfStep d) tt
-carries_kept D s o xs out t g (settled {n = k} f e) given = rounds_kept (IsKeptAmong D s xs) k s xs out t f
-carries_kept D s o xs out t g (unsettled {n = k} m more first last f r) given = kept_then (IsKeptAmong D s xs) more (Unsettled ∷ []) (rounds_kept (IsKeptAmong D s xs) k s more first m f) (tt, tt)
-carries_kept D s o xs out t g (waits f) given = (tt, tt)
-carries_kept D s o xs out t g (waits_over e f) given = (tt, (tt, (tt, tt)))
 carries_kept D s o xs out t g (writes_cycles {n = n} f) given = cycles_kept D n s xs out t g f given
-carries_kept D s o xs out t g (dies f) given = (tt, tt)
-carries_kept D s o xs out t g (dies_late f) given = (tt, (tt, tt))
-carries_kept D s o xs out t g (dies_idle e f) given = (tt, tt)
-carries_kept D s o xs out t g (loses f) given = (tt, (tt, tt))
-carries_kept D s o xs out t g (starts f) given = (tt, tt)
-carries_kept D s o xs out t g (goes_on e) given = tt
-carries_kept D s o xs out t g (transacts f) given = (tt, (tt, tt))
-carries_kept D s o xs out t g (shows f) given = (tt, tt)
-carries_kept D s o xs out t g (commanded {b = b} x m more first last f r) given = (tt, (tt, frames_kept (IsKeptAmong D s xs) b m more last t r))
-carries_kept D s o xs out t g (inserts {d = d} m more first last f r) given = (tt, frames_kept (IsKeptAmong D s xs) d m more last t r)
-carries_kept D s o xs out t g (ejects {d = d} m more first last f r) given = (tt, frames_kept (IsKeptAmong D s xs) d m more last t r)
-carries_kept D s o xs out t g (ejects_nothing e) given = tt
-carries_kept D s o xs out t g (becomes_candidate f) given = (tt, tt)
-carries_kept D s o xs out t g (stays_candidate e) given = tt
-carries_kept D s o xs out t g (contends {d = d} {count = n} f) given = times_kept (IsKeptAmong D s xs) n (Contend d) tt
-carries_kept D s o xs out t g (dubs f) given = (tt, tt)
-carries_kept D s o xs out t g (ends f) given = (tt, tt)
+carries_kept D s o xs out t g f given = each_carried (λ a. HoldsOf (IsKeptAmong D s xs) (kept_by a)) s o xs out t (keeps_none (IsKeptAmong D s xs) o (λ is. is)) f
 
 -- ---- runs
 
 pub run_recorded : (D : DeskRelations) (commands : List Command) (actions : List Action) (log : List Timed) (s : State) → Run commands actions log s → AreGiven D actions
     → AreRecorded D first_state actions s.dub.reel
 run_recorded D commands actions log s begun given = tt
-run_recorded D commands actions log s (and_then {commands = cs} {actions = xs} {log = front} {s = mid} r c o more out t decided f) given =
-    let before = run_steps cs xs front mid r in
+run_recorded D commands actions log s (and_then {commands = cs} {actions = xs} {log = prefix} {s = mid} r c o more out t decided f) given =
+    let before = run_steps cs xs prefix mid r in
     let gives = given_append D xs more given in
-    let good = steps_good first_state mid xs front first_good before in
+    let good = steps_good first_state mid xs prefix first_good before in
     let P : List ℕ → Type 0 = IsKeptAmong D first_state (xs ++ more) in
-    let old = each_map (IsKeptAmong D first_state xs) P (kept_before D first_state xs more) mid.dub.reel (run_recorded D cs xs front mid r gives.0) in
-    let new = kept_map (IsKeptAmong D mid more) P (kept_behind D first_state mid xs front more before) more (carries_kept D mid o more out s good f gives.1) in
+    let old = each_map (IsKeptAmong D first_state xs) P (kept_before D first_state xs more) mid.dub.reel (run_recorded D cs xs prefix mid r gives.0) in
+    let new = kept_map (IsKeptAmong D mid more) P (kept_following D first_state mid xs prefix more before) more (carries_kept D mid o more out s good f gives.1) in
     steps_reel P mid more out s (carries_steps mid o more out s f) new old

@@ -2,12 +2,13 @@
 use Rattle.fw_model_run.proofs.Common.{◌≡◌, ℕ, ◌+◌, ◌<◌, ◌≤◌, ◌&&◌, not, List, length, Bool, true, false, Option}
 use Rattle.fw_model_run.proofs.Common.{Some, None, is_some, refl, ap, sym, subst, cond, arith, IsTrue, IsFalse, ◌∙◌, ResetEntry}
 use Rattle.fw_model_run.proofs.Common.{Timed, IsOnBus, new_controller, IsResetEntry, Shows, goes_on_reclaiming, MOST_RESETS, State, Declared, epoch_of, linked_number, is_living, is_deaf, Resets}
-use Rattle.fw_model_run.proofs.Common.{after_reset_entry, IsGood, IsLatest, AreDeclared, world_of}
+use Rattle.fw_model_run.proofs.Common.{Reset, after_reset_entry, at_most, IsGood, IsLatest, AreDeclared, world_of}
 use Rattle.fw_cmp.specs.Resets.{state_reset as controller_reset}
 use Rattle.fw_devices.proofs.EntryLaws.{entry_shows, entry_fits}
 use Rattle.fw_model_reclaim.specs.Worlds.{BusReset, Grows}
 use Rattle.fw_model_reclaim.specs.Worlds as Worlds
 use Rattle.fw_model_rounds.proofs.Stands.{reset_stands}
+use Rattle.fw_model_run.specs.Deed.{IsNextReset}
 use Rattle.fw_model_run.specs.Good.{ManagerContends}
 use Rattle.fw_model_run.proofs.Decks.{reset_is}
 use Rattle.fw_model_run.proofs.Grows.{Follows, number_there, stays_linked, grows, grows_first, manager_contends}
@@ -17,6 +18,15 @@ use Rattle.fw_model_run.proofs.Turns.{living_linked}
 -- the state with these devices and cables
 abbrev pub declaring : State → Declared → State
 declaring s n = record s { declared = n }
+
+-- so many bus resets count, and so many half steps were given
+abbrev pub numbered : State → ℕ → ℕ → State
+numbered s resets half_steps = record s { resets = resets; half_steps = half_steps }
+
+-- a deed that writes the entry of the next bus reset is a bus reset
+pub resets_by : {s : State} {initiator : ℕ} {e : ResetEntry} {out : List Timed} {t : State} → (resets half_steps : ℕ) → IsNextReset s initiator e → out ≡ at_most s.clock.cycle (Some (Reset e))
+    → t ≡ after_reset_entry (numbered s resets half_steps) e → Resets (numbered s resets half_steps) initiator out t
+resets_by {e = e} resets half_steps next said is = record { entry = e; is_entry = next.is_entry; few = next.few; out_is = said; state_is = is }
 
 -- A bus reset may begin: each device of the bus stays on it, with its kind.
 pub record MayReset (s : State) (n : Declared) : Type 0 where

@@ -6,8 +6,8 @@ use Rattle.fw_model_run.proofs.Common.{Hearing, Job, Target, Stage, offset_of, p
 use Rattle.std.proofs.lemmas.Nat.{from_be_bytes-to_be_bytes_4}
 use Rattle.fw_log_entry.specs.Network.{first_id, row_of_id}
 use Rattle.fw_model_account.specs.Account.{Request}
-use Rattle.fw_cmp.specs.declared.request.Target.TheVariants.{OutputPlug, InputPlug, Channels, BandwidthAvailable}
-use Rattle.fw_cmp.specs.Requests.{swap_of}
+use Rattle.fw_cmp_jobs.specs.declared.request.Target.TheVariants.{OutputPlug, InputPlug, Channels, BandwidthAvailable}
+use Rattle.fw_cmp_jobs.specs.Requests.{swap_of}
 use Rattle.fw_model_controllers.specs.Requests.{IsDevice, IsNodeOf, request_to, outstanding_of, requested, requested_of}
 use Rattle.fw_model_controllers.proofs.Addressees.{node_is}
 use Rattle.fw_model_run.specs.Headline.{shown_in, IsShownWord}

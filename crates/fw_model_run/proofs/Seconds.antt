@@ -1,7 +1,7 @@
 -- Each end of a second in a log is one of a second of the run.
 use Rattle.fw_model_run.proofs.Common.{◌≡◌, ◌⊎◌, inl, inr, ℕ, ◌==◌, List, [], ◌∷◌, ◌++◌, Bool, true, false, Option}
 use Rattle.fw_model_run.proofs.Common.{Some, None, refl, ap, sym, subst, ◌∙◌, IsTrue, Entry, Reset, Async, Iso, Event, Outcome}
-use Rattle.fw_model_run.proofs.Common.{Shown, EndEntry, Timed, Account, at_cycle, at_most, second_over, State, first_state, Action, EndSecond, Step, Steps, IsGood}
+use Rattle.fw_model_run.proofs.Common.{Shown, EndEntry, Timed, Account, at_cycle, at_most, second_over, State, first_state, Action, EndSecond, Transition, Transitions, IsGood}
 use Rattle.fw_log_entry.specs.declared.codes.event.TheConstants.{SECOND_OVER}
 use Rattle.fw_model_run.specs.Reclaiming.{IsBusReset, GoesOn, IsSecond, EndsAreSeconds}
 use Rattle.fw_model_run.proofs.Along.{step_led}
@@ -20,7 +20,7 @@ use Rattle.fw_model_run.proofs.Marks.{Ends, Marks, Neither, closes, ends, event_
 as_before : (s u t : State) → t ≡ u → u.account.reclaiming ≡ s.account.reclaiming → IsTrue t.account.reclaiming → IsTrue s.account.reclaiming
 as_before s u t is same runs = sym (ap (λ (z : State). z.account.reclaiming) is ∙ same) ∙ runs
 
-begins : (s : State) (a : Action) (out : List Timed) (t : State) → IsGood s → Step s a out t → IsBusReset s a t ⊎ (IsTrue t.account.reclaiming → IsTrue s.account.reclaiming)
+begins : (s : State) (a : Action) (out : List Timed) (t : State) → IsGood s → Transition s a out t → IsBusReset s a t ⊎ (IsTrue t.account.reclaiming → IsTrue s.account.reclaiming)
 begins s a out t g x = go (effect s a out t x)
   where
     before : (y : Alteration) → Allows s a y → (altered s y).account.reclaiming ≡ true → IsTrue s.account.reclaiming
@@ -30,16 +30,16 @@ begins s a out t g x = go (effect s a out t x)
     before _ ok runs = runs
 
     go : Effect s a out t → IsBusReset s a t ⊎ (IsTrue t.account.reclaiming → IsTrue s.account.reclaiming)
-    go (resetting resets half_steps n initiator free may_begin may r) = inl (record { entry = r.entry; step = subst (λ o. Step s a o t) r.out_is x })
+    go (resetting resets half_steps n initiator free may_begin may r) = inl (record { entry = r.entry; step = subst (λ o. Transition s a o t) r.out_is x })
     go (altering y waits out_is is ok) = inr (λ runs. before y ok (subst (λ (z : State). IsTrue z.account.reclaiming) is runs))
 
 -- ---- the bus reset after a state in which a second runs
 
 -- the second does not run after an action that ends it
-goes_on : (s : State) (a : Action) (xs : List Action) (out : List Timed) (t : State) → Step s a out t → IsTrue t.account.reclaiming
+goes_on : (s : State) (a : Action) (xs : List Action) (out : List Timed) (t : State) → Transition s a out t → IsTrue t.account.reclaiming
     → GoesOn xs → GoesOn (a ∷ xs)
 goes_on s EndSecond xs out t x runs on =
-    let ended : t.account.reclaiming ≡ false = ap (λ (z : State). z.account.reclaiming) x.1.4 ∙ ap (λ (l : Account). l.reclaiming) (second_ends s.account x.1.1) in
+    let ended : t.account.reclaiming ≡ false = ap (λ (z : State). z.account.reclaiming) x.state_is ∙ ap (λ (l : Account). l.reclaiming) (second_ends s.account x.may.runs) in
     let wrong : true ≡ false = sym runs ∙ ended in
     cc wrong
 goes_on s _ xs out t x runs on = on
@@ -47,15 +47,15 @@ goes_on s _ xs out t x runs on = on
 -- actions with a bus reset among them, since which no second ended
 record Opened (s t : State) (xs : List Action) : Type 0 where
   early : List Action
-  front : List Timed
+  prefix : List Timed
   before : State
-  run : Steps s early front before
+  run : Transitions s early prefix before
   reset : Action
   opened : State
   opens : IsBusReset before reset opened
   during : List Action
   out : List Timed
-  steps : Steps opened during out t
+  steps : Transitions opened during out t
   all : xs ≡ early ++ reset ∷ during
   on : IsTrue t.account.reclaiming → GoesOn during
 
@@ -63,7 +63,7 @@ record Opened (s t : State) (xs : List Action) : Type 0 where
 abbrev Runs : State → State → List Action → Type 0
 Runs s t xs = IsTrue t.account.reclaiming → IsTrue s.account.reclaiming × GoesOn xs
 
-opened_of : (s t : State) (xs : List Action) (out : List Timed) → IsGood s → Steps s xs out t → Opened s t xs ⊎ Runs s t xs
+opened_of : (s t : State) (xs : List Action) (out : List Timed) → IsGood s → Transitions s xs out t → Opened s t xs ⊎ Runs s t xs
 opened_of s t [] out g f = inr (λ runs. (as_before s s t f.1 refl runs, tt))
 opened_of s t (a ∷ xs) out g f = go (opened_of f.2 t xs f.1 (step_good s a f.0 f.2 g f.3) f.5) (begins s a f.0 f.2 g f.3)
   where
@@ -71,9 +71,9 @@ opened_of s t (a ∷ xs) out g f = go (opened_of f.2 t xs f.1 (step_good s a f.0
         → IsBusReset s a f.2 ⊎ (IsTrue f.2.account.reclaiming → IsTrue s.account.reclaiming) → Opened s t (a ∷ xs) ⊎ Runs s t (a ∷ xs)
     go (inl o) b = inl (record {
       early = a ∷ o.early;
-      front = f.0 ++ o.front;
+      prefix = f.0 ++ o.prefix;
       before = o.before;
-      run = (f.0, o.front, f.2, f.3, refl, o.run);
+      run = (f.0, o.prefix, f.2, f.3, refl, o.run);
       reset = o.reset;
       opened = o.opened;
       opens = o.opens;
@@ -85,7 +85,7 @@ opened_of s t (a ∷ xs) out g f = go (opened_of f.2 t xs f.1 (step_good s a f.0
     })
     go (inr on) (inl r) = inl (record {
       early = [];
-      front = [];
+      prefix = [];
       before = s;
       run = (refl, refl);
       reset = a;
@@ -128,48 +128,48 @@ never : (out others : List Timed) → opens_over out ≡ true → out ≡ others
 never out others over is f = let clash : true ≡ false = sym over ∙ (ap opens_over is ∙ f) in cc clash
 
 -- it is the end of the second
-ends_it : (s : State) (a : Action) (out : List Timed) (t : State) → Step s a out t → opens_over out ≡ true → Step s EndSecond out t
+ends_it : (s : State) (a : Action) (out : List Timed) (t : State) → Transition s a out t → opens_over out ≡ true → Transition s EndSecond out t
 ends_it s a out t x over = go (effect s a out t x)
   where
-    by : (c : ℕ) (o : Option Entry) → out ≡ at_most c o → Marks a o → Step s EndSecond out t
+    by : (c : ℕ) (o : Option Entry) → out ≡ at_most c o → Marks a o → Transition s EndSecond out t
     by c o is (nothing f) = absurd (never out (at_most c o) over is (no_over c o f))
-    by c o is (ends e f) = subst (λ b. Step s b out t) e x
+    by c o is (ends e f) = subst (λ b. Transition s b out t) e x
     by c (Some EndEntry) is (closes e f) = absurd (never out (at_most c (Some EndEntry)) over is refl)
     by c _ is (closes e f) = absurd (cc f)
 
-    go : Effect s a out t → Step s EndSecond out t
+    go : Effect s a out t → Transition s EndSecond out t
     go (resetting resets half_steps n initiator free begins may r) = absurd (never out (at_most s.clock.cycle (Some (Reset r.entry))) over r.out_is refl)
     go (altering y waits out_is is ok) = by _ (told_by s y) out_is (marked s a y ok)
 
 -- ---- if a log has the end of a second
 
-record Ended (s : State) (xs : List Action) (front : List Timed) : Type 0 where
+record Ended (s : State) (xs : List Action) (prefix : List Timed) : Type 0 where
   done : List Action
   after : State
-  run : Steps s done front after
+  run : Transitions s done prefix after
   last : List Timed
   end : State
-  ends : Step after EndSecond last end
+  ends : Transition after EndSecond last end
   later : List Action
   all : xs ≡ done ++ later
 
 -- the action that writes the first entry is the end of the second, or writes nothing
-ended_of : (s t : State) (xs : List Action) (out front rest : List Timed) (e : Timed) → IsGood s → Steps s xs out t → out ≡ front ++ e ∷ rest → e.what ≡ second_over → Ended s xs front
-ended_of s t [] out front rest e g f is over = absurd (none front (sym f.0 ∙ is))
+ended_of : (s t : State) (xs : List Action) (out prefix rest : List Timed) (e : Timed) → IsGood s → Transitions s xs out t → out ≡ prefix ++ e ∷ rest → e.what ≡ second_over → Ended s xs prefix
+ended_of s t [] out prefix rest e g f is over = absurd (none prefix (sym f.0 ∙ is))
   where
-    none : (front : List Timed) → [] ≡ front ++ e ∷ rest → ⊥
+    none : (prefix : List Timed) → [] ≡ prefix ++ e ∷ rest → ⊥
     none [] x = cc x
-    none (y ∷ front) x = cc x
-ended_of s t (a ∷ xs) out front rest e g f is over = go front (λ front same. ended_of f.2 t xs f.1 front rest e (step_good s a f.0 f.2 g f.3) f.5 same over) led.entry led.is (sym f.4 ∙ is)
+    none (y ∷ prefix) x = cc x
+ended_of s t (a ∷ xs) out prefix rest e g f is over = go prefix (λ prefix same. ended_of f.2 t xs f.1 prefix rest e (step_good s a f.0 f.2 g f.3) f.5 same over) led.entry led.is (sym f.4 ∙ is)
   where
     led : Led s f.0 f.2
     led = step_led s f.2 a f.0 g f.3
 
-    after : (front : List Timed) → Ended f.2 xs front → (all : List Timed) → all ≡ f.0 ++ front → Ended s (a ∷ xs) all
-    after front h all same = record {
+    after : (prefix : List Timed) → Ended f.2 xs prefix → (all : List Timed) → all ≡ f.0 ++ prefix → Ended s (a ∷ xs) all
+    after prefix h all same = record {
       done = a ∷ h.done;
       after = h.after;
-      run = (f.0, front, f.2, f.3, same, h.run);
+      run = (f.0, prefix, f.2, f.3, same, h.run);
       last = h.last;
       end = h.end;
       ends = h.ends;
@@ -177,9 +177,9 @@ ended_of s t (a ∷ xs) out front rest e g f is over = go front (λ front same. 
       all = ap (λ z. a ∷ z) h.all;
     }
 
-    go : (front : List Timed) → ((front : List Timed) → f.1 ≡ front ++ e ∷ rest → Ended f.2 xs front)
-        → (o : Option Entry) → f.0 ≡ at_most f.2.clock.cycle o → f.0 ++ f.1 ≡ front ++ e ∷ rest → Ended s (a ∷ xs) front
-    go front later None empty same = after front (later front (sym (ap (λ z. z ++ f.1) empty) ∙ same)) front (sym (ap (λ z. z ++ front) empty))
+    go : (prefix : List Timed) → ((prefix : List Timed) → f.1 ≡ prefix ++ e ∷ rest → Ended f.2 xs prefix)
+        → (o : Option Entry) → f.0 ≡ at_most f.2.clock.cycle o → f.0 ++ f.1 ≡ prefix ++ e ∷ rest → Ended s (a ∷ xs) prefix
+    go prefix later None empty same = after prefix (later prefix (sym (ap (λ z. z ++ f.1) empty) ∙ same)) prefix (sym (ap (λ z. z ++ prefix) empty))
     go [] later (Some y) one same =
         let both : at_cycle f.2.clock.cycle y ∷ f.1 ≡ e ∷ rest = sym (ap (λ z. z ++ f.1) one) ∙ same in
         let first : at_cycle f.2.clock.cycle y ≡ e = cc in
@@ -195,42 +195,42 @@ ended_of s t (a ∷ xs) out front rest e g f is over = go front (λ front same. 
           later = a ∷ xs;
           all = refl;
         }
-    go (x ∷ front) later (Some y) one same =
-        let both : at_cycle f.2.clock.cycle y ∷ f.1 ≡ x ∷ (front ++ e ∷ rest) = sym (ap (λ z. z ++ f.1) one) ∙ same in
+    go (x ∷ prefix) later (Some y) one same =
+        let both : at_cycle f.2.clock.cycle y ∷ f.1 ≡ x ∷ (prefix ++ e ∷ rest) = sym (ap (λ z. z ++ f.1) one) ∙ same in
         let first : at_cycle f.2.clock.cycle y ≡ x = cc in
-        let tail : f.1 ≡ front ++ e ∷ rest = cc in
-        after front (later front tail) (x ∷ front) (sym (ap (λ z. z ++ front) one ∙ ap (λ z. z ∷ front) first))
+        let tail : f.1 ≡ prefix ++ e ∷ rest = cc in
+        after prefix (later prefix tail) (x ∷ prefix) (sym (ap (λ z. z ++ prefix) one ∙ ap (λ z. z ∷ prefix) first))
 
 -- The second that ends after a prefix of a log, and the actions up to its end: those up to the bus reset that opened it, that reset,
 -- and those since, in which no second ends.
-pub record EndsAt (actions : List Action) (front : List Timed) : Type 0 where
+pub record EndsAt (actions : List Action) (prefix : List Timed) : Type 0 where
   pub before : State
   pub during : List Action
   pub after : State
   pub second : IsSecond before during after
   pub done : List Action
-  pub run : Steps first_state done front after
+  pub run : Transitions first_state done prefix after
   pub all : done ≡ second.actions ++ second.reset ∷ during
   pub on : GoesOn during
   pub later : List Action
   pub first : actions ≡ done ++ later
 
 -- each end of a second in a log has its second
-pub second_at : (actions : List Action) (log front rest : List Timed) (s : State) (t : Timed) → Steps first_state actions log s
-    → log ≡ front ++ t ∷ rest → t.what ≡ second_over → EndsAt actions front
-second_at actions log front rest s t f is over = go (opened_of first_state w.after w.done front first_good w.run)
+pub second_at : (actions : List Action) (log prefix rest : List Timed) (s : State) (t : Timed) → Transitions first_state actions log s
+    → log ≡ prefix ++ t ∷ rest → t.what ≡ second_over → EndsAt actions prefix
+second_at actions log prefix rest s t f is over = go (opened_of first_state w.after w.done prefix first_good w.run)
   where
-    w : Ended first_state actions front
-    w = ended_of first_state s actions log front rest t first_good f is over
+    w : Ended first_state actions prefix
+    w = ended_of first_state s actions log prefix rest t first_good f is over
 
-    go : Opened first_state w.after w.done ⊎ Runs first_state w.after w.done → EndsAt actions front
+    go : Opened first_state w.after w.done ⊎ Runs first_state w.after w.done → EndsAt actions prefix
     go (inl o) = record {
       before = o.before;
       during = o.during;
       after = w.after;
       second = record {
         actions = o.early;
-        log = o.front;
+        log = o.prefix;
         run = o.run;
         reset = o.reset;
         opened = o.opened;
@@ -244,13 +244,13 @@ second_at actions log front rest s t f is over = go (opened_of first_state w.aft
       done = w.done;
       run = w.run;
       all = o.all;
-      on = o.on w.ends.1.1;
+      on = o.on w.ends.may.runs;
       later = w.later;
       first = w.all;
     }
-    go (inr none) = absurd (let wrong : false ≡ true = (none w.ends.1.1).0 in cc wrong)
+    go (inr none) = absurd (let wrong : false ≡ true = (none w.ends.may.runs).0 in cc wrong)
 
 pub ends_are_seconds : EndsAreSeconds
-ends_are_seconds actions log front rest s t f is over =
-    let x = second_at actions log front rest s t f is over in
+ends_are_seconds actions log prefix rest s t f is over =
+    let x = second_at actions log prefix rest s t f is over in
     (x.before, x.during, x.after, x.second, (x.done, x.run), x.all, x.on, (x.later, x.first))

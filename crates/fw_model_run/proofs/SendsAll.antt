@@ -1,8 +1,25 @@
 -- All that a device has to send can be sent.
 use Rattle.fw_model_run.proofs.Common.{◌≡◌, ℕ, zero, suc, ◌+◌, ◌≤◌, ◌==◌, cond, List, [], ◌∷◌, ◌++◌, length}
 use Rattle.fw_model_run.proofs.Common.{Bool, true, false, Option, Some, None, is_some, option_map, refl, sym, subst, arith, update}
-use Rattle.fw_model_run.proofs.Common.{Async, Timed, Frame, spelling, SendFrame, Receive, Steps, quiet, sends, DeckState, FrameWrite, next_frame, after_frame, request_of, frame_packet, response_write}
-use Rattle.fw_model_run.proofs.Common.{next_told, Sends, Receives, at_most, IsGood, State, has_deck}
+use Rattle.fw_model_run.proofs.Common.{
+  Async,
+  Timed,
+  Frame,
+  spelling,
+  SendFrame,
+  Receive,
+  Transitions,
+  quiet,
+  sends,
+  DeckState,
+  FrameWrite,
+  next_frame,
+  after_frame,
+  request_of,
+  frame_packet,
+  response_write,
+}
+use Rattle.fw_model_run.proofs.Common.{next_told, Transition, at_most, IsGood, State, has_deck}
 use Rattle.std.specs.Prelude.{find}
 use Rattle.fw_avc.specs.declared.notify.Kept.{Kept}
 use Rattle.fw_avc.specs.Notices.{is_changed, told, without_first}
@@ -53,8 +70,8 @@ abbrev after_sent : State → ℕ → State
 after_sent s d = record s { decks = update s.decks d (after_frame (s.decks d)); frame = None }
 
 one_sent : (s : State) (d : ℕ) (x : ℕ × Frame) → IsGood s → s.transaction ≡ None → s.frame ≡ None → next_told s d ≡ Some x → (out : List Timed)
-    × Steps s (SendFrame d ∷ Receive None ∷ []) out (after_sent s d)
-one_sent s d x g answered none e = (first ++ (second ++ []), (first, second ++ [], mid, (answered, sent), refl, (second, [], after_sent s d, (answered, received), refl, (refl, refl))))
+    × Transitions s (SendFrame d ∷ Receive None ∷ []) out (after_sent s d)
+one_sent s d x g answered none e = (first ++ (second ++ []), (first, second ++ [], mid, sent, refl, (second, [], after_sent s d, received, refl, (refl, refl))))
   where
     a : IsAddressed s d x
     a = addressed s d x g e
@@ -71,18 +88,20 @@ one_sent s d x g answered none e = (first ++ (second ++ []), (first, second ++ [
     second : List Timed
     second = at_most s.clock.cycle (Some (Async (answer_to mid w)))
 
-    sent : Sends s d first mid
-    sent = record { told = x; next = e; on = a.on; to = a.to; addressee = a.addressee; linked = a.linked; out_is = refl; state_is = refl }
+    sent : Transition s (SendFrame d) first mid
+    sent = record {
+      found = record { node = x.0; frame = x.1; to = a.to };
+      waits = answered;
+      may = record { next = e; on = a.on; addressee = a.addressee; linked = a.linked };
+      out_is = refl;
+      state_is = refl;
+    }
 
-    received : Receives mid None second (after_sent s d)
+    received : Transition mid (Receive None) second (after_sent s d)
     received = record {
-      write = w;
-      waits = refl;
-      from = a.on;
-      to = a.linked;
-      followed = λ on f. response_no_command d a.to x.1 f;
-      response = answer_to mid w;
-      answered = write_answered mid w;
+      found = record { write = w; response = answer_to mid w };
+      waits = answered;
+      may = record { waits = refl; from = a.on; to = a.linked; followed = λ on f. response_no_command d a.to x.1 f; answered = write_answered mid w };
       out_is = refl;
       state_is = refl;
     }

@@ -5,18 +5,19 @@ use Rattle.fw_model_run.proofs.Common.{subst, ◌∙◌, arith, IsTrue, IsFalse,
 use Rattle.fw_model_run.proofs.Common.{Timed, Account, Current, Nothing, Asking, Hearing, Overtaken, Directory, Job, Next}
 use Rattle.fw_model_run.proofs.Common.{Send, Idle, Waiting, Deaf, Force, Stage, ControllerState, new_controller, slot_at}
 use Rattle.fw_model_run.proofs.Common.{IsHeard, after_hear, next, after_next, at_cycle, State, first_state, linked_number}
-use Rattle.fw_model_run.proofs.Common.{is_living, living, list_to, manager_in, directory_of, is_deaf, asks, taken, half_of, after_half, has_request, Action, HalfStep, Unsettled, Steps, counted}
+use Rattle.fw_model_run.proofs.Common.{is_living, living, list_to, manager_in, directory_of, is_deaf, asks, taken, half_of, after_half, has_request, Action, HalfStep, Unsettled, Transitions, counted}
 use Rattle.fw_model_run.proofs.Common.{half_steps_of, Rounds, IsGood, kind_at, row_of}
 use Rattle.std.proofs.Common.{position}
 use Rattle.std.proofs.lemmas.List.{get_or_past, get_or-replicate, length-replicate}
-use Rattle.fw_cmp.specs.declared.connection.Slot.TheVariants.{Free}
-use Rattle.fw_cmp.specs.declared.job.Purpose.{Purpose}
-use Rattle.fw_cmp.specs.declared.job.Purpose.TheVariants.{Make, Restore, Break}
+use Rattle.fw_cmp_jobs.specs.declared.connection.Slot.TheVariants.{Free}
+use Rattle.fw_cmp_jobs.specs.declared.job.Purpose.{Purpose}
+use Rattle.fw_cmp_jobs.specs.declared.job.Purpose.TheVariants.{Make, Restore, Break}
 use Rattle.fw_cmp.specs.declared.outcome.Next.TheVariants.{End}
-use Rattle.fw_cmp.specs.declared.outcome.Outcome.TheVariants as outcome
-use Rattle.fw_cmp.specs.declared.stage.Stage.TheVariants.{Begin, Made, Ended}
-use Rattle.fw_cmp.specs.declared.connection.Slot.TheVariants.{Gone}
-use Rattle.fw_cmp.specs.Controllers.{with_slot, is_restoring, Fits}
+use Rattle.fw_cmp_jobs.specs.declared.outcome.Outcome.TheVariants as outcome
+use Rattle.fw_cmp_jobs.specs.declared.stage.Stage.TheVariants.{Begin, Made, Ended}
+use Rattle.fw_cmp_jobs.specs.declared.connection.Slot.TheVariants.{Gone}
+use Rattle.fw_cmp.specs.Controllers.{with_slot, Fits}
+use Rattle.fw_cmp_jobs.specs.Slots.{is_restoring}
 use Rattle.fw_cmp.specs.Resets.{state_reset as controller_reset, current_reset, lost_reset, overtaken, interrupted, decided}
 use Rattle.fw_cmp.specs.Turns.{is_busy}
 use Rattle.fw_cmp.specs.Jobs.{waiting_break, is_break}
@@ -39,13 +40,13 @@ use Rattle.fw_model_run.proofs.Events.{living_small}
 use Rattle.fw_model_run.proofs.Hears.{heard_of, half_hears, reply_heard, carried_bus}
 use Rattle.fw_model_run.proofs.Idle.{RoundsAre, are_none, are_round, are_rest, rounds_are, nobody_busy}
 use Rattle.fw_model_run.proofs.Leads.{IsLinked, linked_of}
-use Rattle.fw_model_run.proofs.OneResult.{CarriedBy, carried}
+use Rattle.fw_model_run.proofs.Decided.{CarriedBy, carried}
 use Rattle.fw_model_run.proofs.Runs.{rounds_steps}
 use Rattle.fw_model_run.proofs.Reclaiming.{BusResets, bus_resets}
 use Rattle.fw_model_run.proofs.Steps.{step_good, steps_good}
 use Rattle.fw_model_run.proofs.Times.{first_good}
 use Rattle.fw_model_run.proofs.Turns.{Turns, sends, rests, turns, becomes, living_linked}
-use Rattle.fw_model_run.proofs.Taking.{Taken, listens, keeps_deaf, forces_reset, taken_as}
+use Rattle.fw_model_run.proofs.Taking.{Taken, listens, keeps_deaf, forces_reset, may_step, taken_as}
 
 -- ---- a half step
 
@@ -171,13 +172,14 @@ taken_heard s d out t quiet (listens heard said is) = is
 taken_heard s d out t quiet (keeps_deaf deaf said is) = absurd (grind (arith, quiet, deaf))
 taken_heard s d out t quiet (forces_reset deaf r) = absurd (grind (arith, quiet, deaf))
 
-round_settles : (ds : List ℕ) (s : State) (out : List Timed) (t : State) → IsGood s → AllHear s → Steps s (half_steps_of ds) out t → Settled s ds t × Stays s t
+round_settles : (ds : List ℕ) (s : State) (out : List Timed) (t : State) → IsGood s → AllHear s → Transitions s (half_steps_of ds) out t → Settled s ds t × Stays s t
 unfolding Settles
 round_settles [] s out t g quiet f = ((ap (λ (z : State). z.account) (sym f.1), ap (λ (z : State). z.controllers) (sym f.1)), subst (Stays s) (sym f.1) (stays_here s))
 round_settles (d ∷ ds) s out t g quiet f =
-    let turn = step_turn s d f.2 g f.3.1.0 (taken_heard s d f.0 f.2 (quiet d) (taken_as s d f.0 f.2 f.3.1.2)) in
+    let lives = (may_step s d f.3.found f.3.may).lives in
+    let turn = step_turn s d f.2 g lives (taken_heard s d f.0 f.2 (quiet d) (taken_as s d f.0 f.2 f.3)) in
     let rest = round_settles ds f.2 f.1 t (step_good s (HalfStep d) f.0 f.2 g f.3) (hear_still s f.2 turn.1 quiet) f.5 in
-    ((living_small s d g f.3.1.0, (f.2.account, f.2.controllers, turn.0, moved_back s f.2 t ds turn.1 rest.0)), stays_then s f.2 t turn.1 rest.1)
+    ((living_small s d g lives, (f.2.account, f.2.controllers, turn.0, moved_back s f.2 t ds turn.1 rest.0)), stays_then s f.2 t turn.1 rest.1)
 
 settles_append : (now : ℕ) (dir : Directory) (xs ys : List ℕ) (l m n : Account) (at mid end : ℕ → ControllerState) → Settles now dir xs l at m mid → Settles now dir ys m mid n end
     → Settles now dir (xs ++ ys) l at n end
@@ -257,7 +259,7 @@ more_rounds k s m t f h later =
 ends_by : (n : ℕ) (s t : State) (out : List Timed) → IsGood s → AllHear s → ((k : ℕ) → n ≡ suc k → RoundsEnd k) → RoundsAre n s out t → Ends n s t
 unfolding RoundsEnd
 ends_by n s t out g quiet later (are_none z empty is) = subst (λ k. Ends k s t) (sym z) (goes (no_rounds s t is))
-ends_by n s t out g quiet later (are_rest f) = idles (λ d i. ap (λ (x : State). is_restoring (slot_at (x.controllers d) i)) (f.5.1 ∙ f.3.1.3) ∙ idle_restored s g f.3.1.0 d i)
+ends_by n s t out g quiet later (are_rest f) = idles (λ d i. ap (λ (x : State). is_restoring (slot_at (x.controllers d) i)) (f.5.1 ∙ f.3.state_is) ∙ idle_restored s g f.3.may.settled d i)
 ends_by n s t out g quiet later (are_round k m more first last z f h is) = go (later k z m t more last (steps_good s m (half_steps_of (living s)) first g f) (hear_still s m now.1 quiet) h)
   where
     now : Settled s (living s) m × Stays s m
@@ -415,6 +417,6 @@ enough s t n actions out x many f = go c.4
     same : (m : State) → t.controllers ≡ m.controllers → AllRestored m → AllRestored t
     same m e h = subst (λ (u : ℕ → ControllerState). (d i : ℕ) → IsFalse (is_restoring (slot_at (u d) i))) (sym e) h
 
-    go : (IsFalse (is_unsettled c.1) × (out ≡ c.2) × (t ≡ c.1)) ⊎ ((last : List Timed) × Steps c.1 (Unsettled ∷ []) last t × (out ≡ c.2 ++ last)) → AllRestored t
+    go : (IsFalse (is_unsettled c.1) × (out ≡ c.2) × (t ≡ c.1)) ⊎ ((last : List Timed) × Transitions c.1 (Unsettled ∷ []) last t × (out ≡ c.2 ++ last)) → AllRestored t
     go (inl h) = same c.1 (ap (λ (z : State). z.controllers) h.2) all
-    go (inr h) = same c.1 (ap (λ (z : State). z.controllers) h.1.5.1 ∙ ap (λ (z : State). z.controllers) h.1.3.1.2) all
+    go (inr h) = same c.1 (ap (λ (z : State). z.controllers) h.1.5.1 ∙ ap (λ (z : State). z.controllers) h.1.3.state_is) all

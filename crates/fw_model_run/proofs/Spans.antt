@@ -1,7 +1,7 @@
 -- Each entry that actions write may be written, in cycles that never fall.
 use Rattle.fw_model_run.proofs.Common.{◌≡◌, ℕ, ◌+◌, ◌^◌, ◌<◌, ◌≤◌, ◌++◌, List, [], ◌∷◌, Option, Some, None, refl, ap, sym, subst, ◌∙◌, arith, IsTrue, ⊤, Packet, Request, Entry, Reset, Timed, node_of}
 use Rattle.fw_model_run.proofs.Common.{first_address, request_at, packet_of, Transaction, at_most, State, Declared, epoch_of, is_linked, access_request, target_node, transaction_head, answer_packet}
-use Rattle.fw_model_run.proofs.Common.{reply_from, Action, Step, Steps, Resets, IsGood, AreDeclared, HasNumbers}
+use Rattle.fw_model_run.proofs.Common.{reply_from, Action, Transition, Transitions, Resets, IsGood, AreDeclared, HasNumbers}
 use Rattle.fw_async.specs.Async as Async
 use Rattle.fw_words.specs.declared.swap.Swap.{Swap as Swapping}
 use Rattle.fw_log_entry.specs.declared.entry.Entry.TheVariants.{Async as AsyncEntry}
@@ -15,12 +15,12 @@ use Rattle.fw_model_run.proofs.Along.{step_led}
 use Rattle.fw_model_run.proofs.Alterations.{Allows, Alteration, Answered, Asked, AtUnits, Beside, Bid, Died, Halved, Over, Started, Tied, Waits, Withheld, altered, told_by}
 use Rattle.fw_model_run.proofs.Bidding.{bid_fits}
 use Rattle.fw_model_run.proofs.Bounds.{node_few, node_fits}
-use Rattle.fw_model_run.proofs.Effects.{Effect, altering, effect, numbered, resetting}
+use Rattle.fw_model_run.proofs.Effects.{Effect, altering, effect, resetting}
+use Rattle.fw_model_run.proofs.Resets.{numbered, declaring}
 use Rattle.fw_model_run.proofs.Events.{living_small}
 use Rattle.fw_model_run.proofs.Fitting.{EntryFits, request_fits, response_fits, half_fits}
 use Rattle.fw_model_run.proofs.Kept.{step_numbers}
 use Rattle.fw_model_run.proofs.Led.{Led}
-use Rattle.fw_model_run.proofs.Resets.{declaring}
 use Rattle.fw_model_run.proofs.Steps.{step_good}
 use Rattle.fw_model_run.proofs.Transactions.{linked_number_of}
 use Rattle.fw_model_run.proofs.Writable.{declared_few, linked_few}
@@ -102,7 +102,7 @@ effect_fits s a out t g b (altering y waits said is ok) = most_fit (altered s y)
     by (AtUnits says decks frame) waits ok = ok.5 g b
     by _ waits ok = tt
 
-pub step_fits : (s : State) (a : Action) (out : List Timed) (t : State) → IsGood s → HasNumbers s → Step s a out t → AllFit out
+pub step_fits : (s : State) (a : Action) (out : List Timed) (t : State) → IsGood s → HasNumbers s → Transition s a out t → AllFit out
 step_fits s a out t g b x = effect_fits s a out t g b (effect s a out t x)
 
 -- ---- actions
@@ -116,7 +116,7 @@ earlier : (b c d : ℕ) (out : List Timed) → b ≤ c → Spans c out d → Spa
 earlier b c d [] less f = omega (arith, less, f)
 earlier b c d (e ∷ es) less f = let first = f.0 in (omega (arith, less, first), f.1, f.2)
 
-pub steps_span : (s t : State) (xs : List Action) (out : List Timed) → IsGood s → HasNumbers s → Steps s xs out t → Spans s.clock.cycle out t.clock.cycle
+pub steps_span : (s t : State) (xs : List Action) (out : List Timed) → IsGood s → HasNumbers s → Transitions s xs out t → Spans s.clock.cycle out t.clock.cycle
 steps_span s t [] out g b f = subst (λ z. Spans s.clock.cycle z t.clock.cycle) (sym f.0) (let same = ap (λ (x : State). x.clock.cycle) f.1 in omega (arith, same))
 steps_span s t (x ∷ xs) out g b f = subst (λ z. Spans s.clock.cycle z t.clock.cycle) (sym (f.4 ∙ ap (λ z. z ++ f.1) led.is))
     (go (steps_span f.2 t xs f.1 good (step_numbers s x f.0 f.2 g b f.3) f.5) led.entry (subst AllFit led.is (step_fits s x f.0 f.2 g b f.3)))
@@ -131,10 +131,10 @@ steps_span s t (x ∷ xs) out g b f = subst (λ z. Spans s.clock.cycle z t.clock
     go later None fits = earlier s.clock.cycle f.2.clock.cycle t.clock.cycle f.1 led.later later
     go later (Some e) fits = let few = good.time.cycle in (led.later, record { cycle = omega (arith, few); entry = fits.0 }, later)
 
-pub spans_entry : (c d : ℕ) (front rest : List Timed) (t : Timed) → Spans c (front ++ t ∷ rest) d → TimedFits t
+pub spans_entry : (c d : ℕ) (prefix rest : List Timed) (t : Timed) → Spans c (prefix ++ t ∷ rest) d → TimedFits t
 spans_entry c d [] rest t f = f.1
-spans_entry c d (e ∷ front) rest t f = spans_entry e.cycle d front rest t f.2
+spans_entry c d (e ∷ prefix) rest t f = spans_entry e.cycle d prefix rest t f.2
 
-pub spans_pair : (c d : ℕ) (front rest : List Timed) (t u : Timed) → Spans c (front ++ t ∷ u ∷ rest) d → t.cycle ≤ u.cycle
+pub spans_pair : (c d : ℕ) (prefix rest : List Timed) (t u : Timed) → Spans c (prefix ++ t ∷ u ∷ rest) d → t.cycle ≤ u.cycle
 spans_pair c d [] rest t u f = f.2.0
-spans_pair c d (e ∷ front) rest t u f = spans_pair e.cycle d front rest t u f.2
+spans_pair c d (e ∷ prefix) rest t u f = spans_pair e.cycle d prefix rest t u f.2

@@ -21,14 +21,14 @@ get_back (y ∷ xs) ys (suc i) x e = go (get_back xs ys i x e)
     go (inl f) = inl f
     go (inr f) = inr (f.0, let same = f.1 in omega (arith, same), f.2)
 
-get_front : {A : Type 0} (xs ys : List A) (i : ℕ) (x : A) → slice_get xs i ≡ Some x → slice_get (xs ++ ys) i ≡ Some x
-get_front [] ys i x e = let no : ⊥ = cc e in absurd no
-get_front (y ∷ xs) ys zero x e = e
-get_front (y ∷ xs) ys (suc i) x e = get_front xs ys i x e
+get_prefix : {A : Type 0} (xs ys : List A) (i : ℕ) (x : A) → slice_get xs i ≡ Some x → slice_get (xs ++ ys) i ≡ Some x
+get_prefix [] ys i x e = let no : ⊥ = cc e in absurd no
+get_prefix (y ∷ xs) ys zero x e = e
+get_prefix (y ∷ xs) ys (suc i) x e = get_prefix xs ys i x e
 
-get_behind : {A : Type 0} (xs : List A) (x : A) → slice_get (xs ++ x ∷ []) (length xs) ≡ Some x
-get_behind [] x = refl
-get_behind (y ∷ xs) x = get_behind xs x
+get_after : {A : Type 0} (xs : List A) (x : A) → slice_get (xs ++ x ∷ []) (length xs) ≡ Some x
+get_after [] x = refl
+get_after (y ∷ xs) x = get_after xs x
 
 get_below : {A : Type 0} (xs : List A) (i : ℕ) (x : A) → slice_get xs i ≡ Some x → i < length xs
 get_below [] i x e = let no : ⊥ = cc e in absurd no
@@ -126,11 +126,11 @@ has_place zero l p s free on low = absurd (omega (arith, low))
 has_place (suc n) l p s free on low = go (has_place n l p s free on) (cases_lt (l.settings p).channel n)
   where
     last : (o : Option PlugAt) → o ≡ Some p → slice_get (talkers_to n l ++ those o) (length (talkers_to n l)) ≡ Some p
-    last o e = subst (λ o. slice_get (talkers_to n l ++ those o) (length (talkers_to n l)) ≡ Some p) (sym e) (get_behind (talkers_to n l) p)
+    last o e = subst (λ o. slice_get (talkers_to n l ++ those o) (length (talkers_to n l)) ≡ Some p) (sym e) (get_after (talkers_to n l) p)
 
     go : ((l.settings p).channel < n → (i : ℕ) × (slice_get (talkers_to n l) i ≡ Some p)) → ((l.settings p).channel < n) ⊎ (n ≤ (l.settings p).channel)
         → (i : ℕ) × (slice_get (talkers_to n l ++ those (talker_on l n)) i ≡ Some p)
-    go before (inl less) = let h = before less in (h.0, get_front (talkers_to n l) (those (talker_on l n)) h.0 p h.1)
+    go before (inl less) = let h = before less in (h.0, get_prefix (talkers_to n l) (those (talker_on l n)) h.0 p h.1)
     go before (inr more) =
         let same : (l.settings p).channel ≡ n = omega (arith, low, more) in
         (length (talkers_to n l), last (talker_on l n) (ap (talker_on l) (sym same) ∙ talker_found l p s free on))

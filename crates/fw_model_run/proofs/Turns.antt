@@ -1,4 +1,4 @@
--- The half step of a controller of which no request stands leads from a good state to a good state.
+-- The half step of a controller of which no request is outstanding leads from a good state to a good state.
 use Rattle.fw_model_run.proofs.Common.{◌≡◌, ◌≢◌, ◌⊎◌, inl, inr, ℕ, true, Option, Some, None, is_some, unwrap_or, refl}
 use Rattle.fw_model_run.proofs.Common.{ap, sym, subst, ◌∙◌, arith, IsTrue, IsFalse, false, ◌<◌, cases_eq, nat_tests, PlugAt}
 use Rattle.fw_model_run.proofs.Common.{update, Head, Swap, Async, ResetEntry, Account, row_of_node, node_of, Next, Send, Idle, Waiting, Deaf, Force, Access, ControllerState, new_controller, IsHeard}
@@ -8,7 +8,7 @@ use Rattle.fw_csr.specs.declared.request.Request.{Request as Asked}
 use Rattle.fw_model_account.specs.Account.{Request}
 use Rattle.fw_model_account.specs.Packets.{asked}
 use Rattle.fw_cmp.specs.declared.outcome.Next.TheVariants.{End}
-use Rattle.fw_cmp.specs.Requests.{request_of}
+use Rattle.fw_cmp_jobs.specs.Requests.{request_of}
 use Rattle.fw_async.specs.Quadlets.{request_with}
 use Rattle.fw_model_controllers.specs.Requests.{Tells, is_sent, request_to, outstanding_of}
 use Rattle.fw_model_controllers.specs.Together.{Becomes}

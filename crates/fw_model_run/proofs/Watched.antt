@@ -129,7 +129,7 @@ is_swap : (w : Option Swap) → IsQuadlet (operation_of w)
 is_swap None = tt
 is_swap (Some swap) = refl
 
--- a complete response to the request that stands shows the word of its register
+-- a complete response to the outstanding request shows the word of its register
 shows_watched : (s : State) (e n source d : ℕ) (w : Option Swap) (address : ℕ) → IsGood s → number_in s.account.latest e ≡ Some n → device_of_id s.account.latest (first_id + source) ≡ Some d
     → s.account.outstanding d ≡ Some (record { target = first_id + n; address = address; operation = operation_of w })
     → (y : Response) → y.requester ≡ first_id + source → y.rcode ≡ (reply_from s n (request_at address w)).rcode

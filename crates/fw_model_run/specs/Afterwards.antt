@@ -1,32 +1,29 @@
 -- The states that what is done in a run leaves, and what begins a bus reset.
-use Rattle.std.specs.Prelude.{ℕ, ◌≡◌, ◌+◌, ◌<◌, List, [], ◌∷◌, Bool, true, false, Option, Some, None, is_some, if◌then◌else◌}
+use Rattle.std.specs.Prelude.{ℕ, ◌+◌, Bool, true, false, Option, Some, None, is_some, if◌then◌else◌}
 use Rattle.std.specs.declared.result.Result.{Result}
 use Rattle.fw_terms.specs.Tables.{update}
-use Rattle.fw_log_entry.specs.declared.entry.Timed.{Timed}
 use Rattle.fw_log_entry.specs.declared.entry.Entry.TheVariants.{Reset}
 use Rattle.fw_log_entry.specs.declared.entry.ResetEntry.{ResetEntry}
 use Rattle.fw_tree.specs.Topology.{Topology}
-use Rattle.fw_devices.specs.Entries.{IsResetEntry}
-use Rattle.fw_cmp.specs.declared.connection.Slot.{Slot}
+use Rattle.fw_cmp_jobs.specs.declared.connection.Slot.{Slot}
 use Rattle.fw_cmp.specs.declared.outcome.StartFault.{StartFault}
 use Rattle.fw_cmp.specs.Controllers.{ControllerState, first_state as new_controller}
 use Rattle.fw_cmp.specs.declared.current.Current.{Current}
 use Rattle.fw_cmp.specs.declared.current.Current.TheVariants.{Nothing, Asking, Hearing, Overtaken}
-use Rattle.fw_cmp.specs.declared.stage.Stage.{Stage}
+use Rattle.fw_cmp_jobs.specs.declared.stage.Stage.{Stage}
 use Rattle.fw_cmp.specs.Resets.{state_reset as controller_reset, after_second as controller_second}
-use Rattle.fw_cmp.specs.Starts.{start, start_own, started as given, connect_slot, broadcast_slot, listen_slot}
-use Rattle.fw_order.specs.declared.limits.TheConstants.{MOST_RESETS}
+use Rattle.fw_cmp.specs.Starts.{start, start_own, started as given}
+use Rattle.fw_cmp_jobs.specs.Slots.{connect_slot, broadcast_slot, listen_slot}
 use Rattle.fw_order.specs.declared.order.Wanted.{Wanted}
 use Rattle.fw_order.specs.declared.order.Wanted.TheVariants.{PlugToPlug, BroadcastOut, BroadcastIn}
-use Rattle.fw_model_run.specs.Giving.{at_most}
 use Rattle.fw_model_run.specs.Entries.{second_over, died, started}
 use Rattle.fw_model_run.specs.Elections.{with_candidate}
 use Rattle.fw_model_run.specs.Dubs.{dub_after_reset, dub_after_second}
-use Rattle.fw_model_run.specs.State.{State, entered, while_talking, epoch_of, is_deaf}
+use Rattle.fw_model_run.specs.State.{State, entered, while_talking, is_deaf}
 use Rattle.fw_model_run.specs.Decks.{with_tape, passed as deck_passed, after_reset as deck_reset}
 use Rattle.fw_tape.specs.declared.cassette.Cassette.{Cassette}
 use Rattle.fw_tape.specs.Blocks.{blocks_among}
-use Rattle.fw_model_run.specs.HalfSteps.{half, with_controller, after_half}
+use Rattle.fw_model_run.specs.HalfSteps.{with_controller, after_half}
 
 -- ---- bus resets
 
@@ -46,37 +43,13 @@ after_reset_entry s e = record s {
   dub = dub_after_reset s.account s.dub;
 }
 
--- A device on the bus begins a bus reset, of which there are at most `MOST_RESETS`.
-pub record Resets (s : State) (initiator : ℕ) (out : List Timed) (t : State) : Type 0 where
-  pub entry : ResetEntry
-  pub is_entry : IsResetEntry s.declared.topology s.declared.kinds (epoch_of s.account.latest + 1) initiator entry
-  pub few : epoch_of s.account.latest < MOST_RESETS
-  pub out_is : out ≡ at_most s.clock.cycle (Some (Reset entry))
-  pub state_is : t ≡ after_reset_entry s entry
-
 -- one that counts
 abbrev pub counting : State → State
 counting s = record s { resets = s.resets + 1 }
 
--- A command begins a bus reset, which counts.
-abbrev pub Begins : State → ℕ → List Timed → State → Type 0
-Begins s initiator out t = (s.resets < MOST_RESETS) × Resets (counting s) initiator out t
-
 -- before the first bus reset none counted
 abbrev pub beginning : State → State
 beginning s = record s { resets = 1 }
-
--- the first device begins the first bus reset
-abbrev pub Declares : List (List ℕ) → State → List Timed → State → Type 0
-Declares [] s out t = Resets (beginning s) 0 out t
-Declares (x ∷ names) s out t = (out ≡ []) × (t ≡ s)
-
--- if a cable joins a device that is off to the bus, the end that was on the bus begins a bus reset (own)
-abbrev pub Joins : Bool → Bool → ℕ → ℕ → State → List Timed → State → Type 0
-Joins true false a b s out t = Begins s a out t
-Joins false true a b s out t = Begins s b out t
-Joins true true a b s out t = (out ≡ []) × (t ≡ s)
-Joins false false a b s out t = (out ≡ []) × (t ≡ s)
 
 -- the state with other devices and cables
 abbrev pub with_topology : State → Topology → State
@@ -149,7 +122,7 @@ counted s n = record s { half_steps = s.half_steps + n }
 
 -- ---- half steps, and lost responses
 
--- the stage of a request that stands
+-- the stage of an outstanding request
 abbrev pub stage_of : Current → Option Stage
 stage_of Nothing = None
 stage_of (Asking j stage) = None
@@ -159,10 +132,3 @@ stage_of (Overtaken slot outcome) = None
 -- The state after a response was lost: the request has been carried out, and the controller keeps its stage. It counts as a bus reset.
 abbrev pub after_loss : State → ℕ → State
 after_loss s d = record (after_half s d) { lost = update s.lost d (stage_of (s.controllers d).current); resets = s.resets + 1 }
-
--- A half step, of a controller that hears, of one that has lost a response and still waits, or of one that forces a bus reset, which
--- does not count again.
-abbrev pub Takes : Bool → Bool → State → ℕ → List Timed → State → Type 0
-Takes false waiting s d out t = (out ≡ at_most s.clock.cycle (half s d).says) × (t ≡ counted (after_half s d) 1)
-Takes true true s d out t = (out ≡ []) × (t ≡ counted s 1)
-Takes true false s d out t = Resets (counted s 1) d out t

@@ -1,5 +1,5 @@
 -- A half step of a candidate for the bus manager: its request is carried out and it hears the answer, or it says what it does next.
-use Rattle.std.specs.Prelude.{ℕ, ◌≡◌, ◌+◌, ◌<◌, Bool, List, Option, Some, None, is_some, IsTrue}
+use Rattle.std.specs.Prelude.{ℕ, ◌+◌, Bool, Option, Some, None, is_some}
 use Rattle.std.specs.Option.{option_map}
 use Rattle.fw_async.specs.declared.packet.Head.{Head}
 use Rattle.fw_async.specs.declared.packet.Packet.{Packet}
@@ -10,21 +10,18 @@ use Rattle.fw_csr.specs.Manager.{after_at}
 use Rattle.fw_csr.specs.declared.reply.Reply.{Reply}
 use Rattle.fw_log_entry.specs.declared.entry.Entry.{Entry}
 use Rattle.fw_log_entry.specs.declared.entry.Entry.TheVariants.{Async}
-use Rattle.fw_log_entry.specs.declared.entry.Timed.{Timed}
 use Rattle.fw_model_account.specs.Words.{node_of}
 use Rattle.fw_manager.specs.Bids.{CandidateState, stage_in, bid_request, bid_of, stage_after, after_hear}
 use Rattle.fw_manager.specs.declared.bid.Bid.{Bid}
 use Rattle.fw_manager.specs.declared.bid.Bid.TheVariants.{Send, Elected, Defeated, Done}
-use Rattle.fw_manager.specs.declared.candidate.Stage.{Stage}
-use Rattle.fw_manager.specs.declared.candidate.Stage.TheVariants.{Fresh, Asked, Heard, Answered}
+use Rattle.fw_manager.specs.declared.candidate.BidProgress.{BidProgress}
+use Rattle.fw_manager.specs.declared.candidate.BidProgress.TheVariants.{Fresh, Asked, Heard, Answered}
 use Rattle.fw_node.specs.Contents.{node_id}
 use Rattle.fw_node.specs.Packets.{packet_of, reply_in}
-use Rattle.fw_order.specs.declared.limits.TheConstants.{MOST_HALF_STEPS}
 use Rattle.fw_model_run.specs.Elections.{with_candidate}
 use Rattle.fw_model_run.specs.Entries.{elected, defeated}
-use Rattle.fw_model_run.specs.Giving.{at_most}
 use Rattle.fw_model_run.specs.Spaces.{answer_packet}
-use Rattle.fw_model_run.specs.State.{State, epoch_of, manager_in, is_living}
+use Rattle.fw_model_run.specs.State.{State, epoch_of}
 
 -- a packet of a candidate from one node to another: retry code 01, priority 0 (own)
 abbrev pub bid_head : ℕ → ℕ → Head
@@ -44,7 +41,7 @@ epoch_at s = epoch_of s.account.latest
 abbrev pub own_node : State → ℕ → ℕ
 own_node s d = node_of s.account.latest d
 
--- ---- no request stands: what the candidate does next
+-- ---- no request is outstanding: what the candidate does next
 
 -- what a candidate writes: its lock request, or that it is elected or defeated
 abbrev pub bid_said : State → ℕ → Bid → Option Entry
@@ -54,14 +51,14 @@ bid_said s d (Defeated by) = Some (defeated d)
 bid_said s d Done = None
 
 -- the half step of a candidate with no request outstanding
-abbrev pub bid_asks : State → ℕ → ℕ → Stage → BidStep
+abbrev pub bid_asks : State → ℕ → ℕ → BidProgress → BidStep
 bid_asks s d manager stage = record {
   says = bid_said s d (bid_of (own_node s d) manager stage);
   candidate = record { epoch = epoch_at s; stage = stage_after stage };
   bus_manager_id = s.bus_manager_id;
 }
 
--- ---- a request stands: the manager carries it out
+-- ---- a request is outstanding: the manager carries it out
 
 -- the word that a response shows; 0 if it shows none
 abbrev pub word_of_reply : Option Reply → ℕ
@@ -88,7 +85,7 @@ bid_hears s d manager c = record {
 -- ---- the half step
 
 -- the half step of a candidate, by its stage
-abbrev pub bid_at : State → ℕ → ℕ → CandidateState → Stage → BidStep
+abbrev pub bid_at : State → ℕ → ℕ → CandidateState → BidProgress → BidStep
 bid_at s d manager c Fresh = bid_asks s d manager Fresh
 bid_at s d manager c Asked = bid_hears s d manager c
 bid_at s d manager c (Heard word) = bid_asks s d manager (Heard word)
@@ -105,17 +102,6 @@ bidden s d b = record s {
   bus_manager_id = b.bus_manager_id;
   election = with_candidate s.election d (Some b.candidate);
 }
-
--- a candidate takes a half step, on a bus that has a manager
-pub record Bids (s : State) (d : ℕ) (out : List Timed) (t : State) : Type 0 where
-  pub lives : IsTrue (is_living s d)
-  pub few : s.half_steps < MOST_HALF_STEPS
-  pub candidate : CandidateState
-  pub is : s.election.candidates d ≡ Some candidate
-  pub manager : ℕ
-  pub manages : manager_in s.account.latest ≡ Some manager
-  pub out_is : out ≡ at_most s.clock.cycle (bid_step s d manager candidate).says
-  pub state_is : t ≡ bidden s d (bid_step s d manager candidate)
 
 -- ---- who is a candidate
 

@@ -14,7 +14,7 @@ pub record Dub : Type 0 where
 abbrev pub no_dub : Dub
 no_dub = record { tied = None; lingers = λ q. false; reel = [] }
 
--- an input plug hears if it is connected, and where it goes on since a bus reset
+-- an input plug hears if it is connected, and if it goes on since a bus reset
 abbrev pub hears_in : Account → Dub → PlugAt → Bool
 hears_in l k q = has_connection (l.inputs q) || k.lingers q
 

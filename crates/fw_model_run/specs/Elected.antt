@@ -12,11 +12,12 @@ use Rattle.fw_log_entry.specs.declared.entry.Timed.{Timed}
 use Rattle.fw_model_account.specs.Fold.{entries_of}
 use Rattle.fw_model_account.specs.Words.{node_of}
 use Rattle.fw_manager.specs.Bids.{CandidateState, stage_in}
-use Rattle.fw_manager.specs.declared.candidate.Stage.TheVariants.{Heard}
+use Rattle.fw_manager.specs.declared.candidate.BidProgress.TheVariants.{Heard}
 use Rattle.fw_node.specs.Contents.{node_id}
 use Rattle.fw_words.specs.Quadlet.{quadlet_at}
 use Rattle.fw_order.specs.declared.order.Transaction.{Transaction}
-use Rattle.fw_model_run.specs.Actions.{Action, IsSpared, Steps}
+use Rattle.fw_model_run.specs.Actions.{Action, IsSpared}
+use Rattle.fw_model_run.specs.Deeds.{Transitions}
 use Rattle.fw_model_run.specs.Entries.{elected, defeated}
 use Rattle.fw_model_run.specs.State.{State, first_state, epoch_of, linked_number, is_linked}
 
@@ -143,20 +144,20 @@ pub record IsElection (a : Answers) (s : State) : Type 0 where
 -- ---- the theorem
 
 -- An entry of a log, and the state in which it was written.
-pub record WrittenIn (actions : List Action) (front : List Timed) (t : Timed) : Type 0 where
+pub record WrittenIn (actions : List Action) (prefix : List Timed) (t : Timed) : Type 0 where
   pub done : List Action
   pub later : List Action
   pub state : State
   pub actions_are : actions ≡ done ++ later
-  pub steps : Steps first_state done front state
-  pub bid : IsBid (answers_of front) state t.what
+  pub steps : Transitions first_state done prefix state
+  pub bid : IsBid (answers_of prefix) state t.what
 
 -- Of actions and their log: between two bus resets one device at most is elected, and it is the winner; from the answer to it to the
 -- next bus reset BUS_MANAGER_ID holds its node number; each defeated candidate has heard another word, and each answer to a bid shows
 -- the word that BUS_MANAGER_ID held. Which device is elected, if any, is not said.
 pub record ElectsOne (actions : List Action) (log : List Timed) : Type 0 where
-  pub one : (front middle rest : List Timed) (t u : Timed) (d e : ℕ) → log ≡ front ++ t ∷ (middle ++ u ∷ rest) → t.what ≡ elected d → u.what ≡ elected e
+  pub one : (prefix middle rest : List Timed) (t u : Timed) (d e : ℕ) → log ≡ prefix ++ t ∷ (middle ++ u ∷ rest) → t.what ≡ elected d → u.what ≡ elected e
       → HasNoReset middle → d ≡ e
-  pub entries : (front rest : List Timed) (t : Timed) → log ≡ front ++ t ∷ rest → WrittenIn actions front t
-  pub holds : (done later : List Action) (front : List Timed) (s : State) (id : ℕ) → actions ≡ done ++ later → Steps first_state done front s
-      → (answers_of front).winner ≡ Some id → Holds id s.bus_manager_id
+  pub entries : (prefix rest : List Timed) (t : Timed) → log ≡ prefix ++ t ∷ rest → WrittenIn actions prefix t
+  pub holds : (done later : List Action) (prefix : List Timed) (s : State) (id : ℕ) → actions ≡ done ++ later → Transitions first_state done prefix s
+      → (answers_of prefix).winner ≡ Some id → Holds id s.bus_manager_id

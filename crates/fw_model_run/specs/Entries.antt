@@ -7,9 +7,9 @@ use Rattle.fw_log_entry.specs.declared.entry.Entry.{Entry}
 use Rattle.fw_log_entry.specs.declared.entry.Entry.TheVariants.{Event, Outcome as OutcomeOf, Shown}
 use Rattle.fw_tape.specs.declared.system.TapeSystem.{TapeSystem}
 use Rattle.fw_tape.specs.declared.system.TapeSystem.TheVariants.{Lines525, Lines625}
-use Rattle.fw_cmp.specs.declared.outcome.Outcome.{Outcome}
-use Rattle.fw_cmp.specs.declared.outcome.Outcome.TheVariants.{Connected, Broken, Restored, NoChannel, NoUnits, PlugFull, InputBusy}
-use Rattle.fw_cmp.specs.declared.outcome.Outcome.TheVariants.{NoPlug, NoManager, Absent, Reset, Late}
+use Rattle.fw_cmp_jobs.specs.declared.outcome.Outcome.{Outcome}
+use Rattle.fw_cmp_jobs.specs.declared.outcome.Outcome.TheVariants.{Connected, Broken, Restored, NoChannel, NoUnits, PlugFull, InputBusy}
+use Rattle.fw_cmp_jobs.specs.declared.outcome.Outcome.TheVariants.{NoPlug, NoManager, Absent, Reset, Late}
 
 -- ---- events
 

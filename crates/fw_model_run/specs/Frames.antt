@@ -7,19 +7,16 @@ use Rattle.fw_async.specs.declared.packet.Packet.{Packet}
 use Rattle.fw_csr.specs.declared.offset.TheConstants.{FCP_COMMAND, FCP_RESPONSE}
 use Rattle.fw_csr.specs.declared.request.Request.{Request}
 use Rattle.fw_csr.specs.declared.request.Request.TheVariants as Asks
-use Rattle.fw_log_entry.specs.declared.entry.Entry.TheVariants.{Async}
-use Rattle.fw_log_entry.specs.declared.entry.Timed.{Timed}
 use Rattle.fw_fcp.specs.declared.frame.Frame.{Frame}
 use Rattle.fw_fcp.specs.Frames.{spelling}
 use Rattle.fw_avc.specs.Replies.{IsResponse, ruling}
 use Rattle.fw_model_account.specs.Words.{node_of}
 use Rattle.fw_node.specs.Fcp.{IsCommand, IsSendable}
 use Rattle.fw_node.specs.Packets.{packet_of}
-use Rattle.fw_model_run.specs.Decks.{DeckState, Obeyed, FrameWrite, next_frame, after_frame, after_command}
+use Rattle.fw_model_run.specs.Decks.{DeckState, Obeyed, FrameWrite, next_frame, after_command}
 use Rattle.fw_model_run.specs.Desks.{AnyVendor}
-use Rattle.fw_model_run.specs.Giving.{at_most}
-use Rattle.fw_model_run.specs.State.{State, device_in, is_linked, has_deck}
-use Rattle.fw_model_run.specs.Spaces.{script_head, answer_packet}
+use Rattle.fw_model_run.specs.State.{State, has_deck}
+use Rattle.fw_model_run.specs.Spaces.{script_head}
 
 -- ---- the write of a frame
 
@@ -53,17 +50,6 @@ response_write from to response = record { from = from; to = to; offset = FCP_RE
 abbrev pub next_told : State → ℕ → Option (ℕ × Frame)
 next_told s d = if has_deck s d then next_frame (s.decks d) else None
 
--- a deck on the bus writes its next frame to the node with a link that it is for
-pub record Sends (s : State) (d : ℕ) (out : List Timed) (t : State) : Type 0 where
-  pub told : ℕ × Frame
-  pub next : next_told s d ≡ Some told
-  pub on : IsTrue (is_linked s d)
-  pub to : ℕ
-  pub addressee : device_in s.account.latest told.0 ≡ Some to
-  pub linked : IsTrue (is_linked s to)
-  pub out_is : out ≡ at_most s.clock.cycle (Some (Async (frame_packet s (response_write d to told.1))))
-  pub state_is : t ≡ record s { decks = update s.decks d (after_frame (s.decks d)); frame = Some (response_write d to told.1) }
-
 -- ---- the answer
 
 -- What follows from a write beside its answer. If it is a command to a device with a unit, the unit carries it out; any byte
@@ -78,15 +64,3 @@ IsFollowedBy s w (Some x) =
 abbrev pub decks_after : State → FrameWrite → Option Obeyed → ℕ → DeckState
 decks_after s w None = s.decks
 decks_after s w (Some x) = update s.decks w.to (after_command (node_of s.account.latest w.from) x.command x.response (s.decks w.to))
-
--- the node that a frame was written to answers the write
-pub record Receives (s : State) (obeyed : Option Obeyed) (out : List Timed) (t : State) : Type 0 where
-  pub write : FrameWrite
-  pub waits : s.frame ≡ Some write
-  pub from : IsTrue (is_linked s write.from)
-  pub to : IsTrue (is_linked s write.to)
-  pub followed : IsFollowedBy s write obeyed
-  pub response : Packet
-  pub answered : answer_packet s (node_of s.account.latest write.to) (frame_head s write) (request_of write) ≡ Some response
-  pub out_is : out ≡ at_most s.clock.cycle (Some (Async response))
-  pub state_is : t ≡ record s { decks = decks_after s write obeyed; frame = None }

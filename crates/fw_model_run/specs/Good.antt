@@ -12,7 +12,7 @@ use Rattle.fw_devices.specs.Entries.{IsResetEntry, node_number}
 use Rattle.fw_devices.specs.Resets.{Shows}
 use Rattle.fw_cmp.specs.declared.current.Current.{Current}
 use Rattle.fw_cmp.specs.declared.current.Current.TheVariants.{Asking}
-use Rattle.fw_cmp.specs.declared.stage.Stage.{Stage}
+use Rattle.fw_cmp_jobs.specs.declared.stage.Stage.{Stage}
 use Rattle.fw_cmp.specs.Controllers.{ControllerState, first_state as new_controller}
 use Rattle.fw_model_reclaim.specs.Worlds.{World, CanReclaim}
 use Rattle.fw_model_rounds.specs.HalfSteps.{AsksWhatStands}
@@ -105,7 +105,7 @@ pub record IsGood (s : State) : Type 0 where
   pub latest : IsLatest s.account.latest s.declared s.account
   -- the account is sound and all controllers are in step with it, and what reclaiming rests on holds
   pub reclaims : CanReclaim (world_of s)
-  -- a request stands only of a stage that makes one
+  -- a request is outstanding only of a stage that makes one
   pub stands : (d : ℕ) → AsksWhatStands (s.controllers d).current
   -- a device without a living controller has one that has just started
   pub unused : (d : ℕ) → IsFalse (is_living s d) → s.controllers d ≡ new_controller

@@ -10,9 +10,9 @@ use Rattle.fw_cmp.specs.declared.current.Current.{Current}
 use Rattle.fw_cmp.specs.declared.current.Current.TheVariants.{Nothing, Asking, Hearing, Overtaken}
 use Rattle.fw_cmp.specs.declared.outcome.Next.{Next}
 use Rattle.fw_cmp.specs.declared.outcome.Next.TheVariants.{Send, End, Idle, Waiting, Deaf, Force}
-use Rattle.fw_cmp.specs.declared.request.Access.{Access}
+use Rattle.fw_cmp_jobs.specs.declared.request.Access.{Access}
 use Rattle.fw_cmp.specs.Controllers.{ControllerState}
-use Rattle.fw_cmp.specs.Requests.{access_of, request_of, addressee_of}
+use Rattle.fw_cmp_jobs.specs.Requests.{access_of, request_of, addressee_of}
 use Rattle.fw_cmp.specs.Losses.{asked_by, split_timeout}
 use Rattle.fw_cmp.specs.Resets.{after_hear}
 use Rattle.fw_cmp.specs.Turns.{next, after_next, is_busy}
@@ -33,7 +33,7 @@ pub record HalfStep : Type 0 where
 abbrev pub head_from : State → ℕ → ℕ → Head
 head_from s d to = procedure_head to (node_of s.account.latest d)
 
--- ---- no request stands: what the controller does next
+-- ---- no request is outstanding: what the controller does next
 
 -- what a controller writes in its turn: the request that it sends, or the outcome of its job
 abbrev pub said : State → ℕ → Next → Option Entry
@@ -52,7 +52,7 @@ asks s d = record {
   asked_at = asked_by s.clock.cycle (s.asked_at d) (next s.clock.cycle (directory_of s) (s.controllers d));
 }
 
--- ---- a request stands: the node that it went to carries it out
+-- ---- a request is outstanding: the node that it went to carries it out
 
 -- the half step of a controller whose request the node that it went to carries out
 abbrev pub hears_from : State → ℕ → Option ℕ → Access → HalfStep
@@ -63,7 +63,7 @@ hears_from s d (Some to) a = record {
   asked_at = s.asked_at d;
 }
 
--- the half step of a controller whose request stands, by the node that it went to
+-- the half step of a controller whose request is outstanding, by the node that it went to
 abbrev pub hears : State → ℕ → Option Access → HalfStep
 hears s d None = record { says = None; controller = s.controllers d; asked_at = s.asked_at d }
 hears s d (Some a) = hears_from s d (addressee_of (directory_of s) a.target) a

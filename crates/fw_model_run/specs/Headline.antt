@@ -20,19 +20,20 @@ use Rattle.fw_model_account.specs.Words.{Register, register_of, word_of, word_of
 use Rattle.fw_model_account.specs.Fold.{account_of, entries_of}
 use Rattle.fw_model_account.specs.Sound.{IsSound, IsConflictFree}
 use Rattle.fw_model_audit.specs.Looked.{looked, ShowsWords}
-use Rattle.fw_cmp.specs.declared.connection.Connection.{Connection}
-use Rattle.fw_cmp.specs.declared.connection.Flow.{Flow}
-use Rattle.fw_cmp.specs.declared.connection.Slot.TheVariants.{Standing}
+use Rattle.fw_cmp_jobs.specs.declared.connection.Connection.{Connection}
+use Rattle.fw_cmp_jobs.specs.declared.connection.Flow.{Flow}
+use Rattle.fw_cmp_jobs.specs.declared.connection.Slot.TheVariants.{Established}
 use Rattle.fw_cmp.specs.Controllers.{slot_at}
 use Rattle.fw_model_controllers.specs.Together.{AreInStep, AreSettled, IsWhole}
 use Rattle.fw_model_run.specs.State.{State, first_state, directory_of, is_on}
-use Rattle.fw_model_run.specs.Actions.{Action, Steps}
+use Rattle.fw_model_run.specs.Actions.{Action}
+use Rattle.fw_model_run.specs.Deeds.{Transitions}
 
 -- in a settled state what is allocated is exactly what the standing flows take and what controllers left that died since the
 -- latest bus reset; and each standing connection is whole
 pub record IsCharged (s : State) : Type 0 where
   pub allocations : IsAllocatedForFlows s.account
-  pub connections : (d i : ℕ) (conn : Connection) (f : Flow) → slot_at (s.controllers d) i ≡ Standing conn f → IsWhole s.account d conn f
+  pub connections : (d i : ℕ) (conn : Connection) (f : Flow) → slot_at (s.controllers d) i ≡ Established conn f → IsWhole s.account d conn f
 
 -- a state to which these entries lead
 pub record IsSoundAt (log : List Timed) (s : State) : Type 0 where
@@ -106,11 +107,11 @@ IsReadIn l _ _ = ⊤
 -- complete answer, and each shown word, equals the account's word before it; and each entry may be written, in cycles that
 -- never fall.
 pub record IsSoundThroughout (actions : List Action) (log : List Timed) : Type 0 where
-  pub states : (done later : List Action) (front : List Timed) (s : State) → actions ≡ done ++ later → Steps first_state done front s → IsSoundAt front s
-  pub fronts : (front rest : List Timed) → log ≡ front ++ rest
-      → (done : List Action) × (later : List Action) × (s : State) × (actions ≡ done ++ later) × Steps first_state done front s
-  pub answers : (front rest : List Timed) (t : Timed) → log ≡ front ++ t ∷ rest → (l : Account) × (account_of (entries_of front) ≡ Some l) × IsAnswered l t.what
-  pub reads : (front rest : List Timed) (t u : Timed) → log ≡ front ++ t ∷ u ∷ rest
-      → (l : Account) × (account_of (entries_of front) ≡ Some l) × IsReadIn l t.what u.what
-  pub fits : (front rest : List Timed) (t : Timed) → log ≡ front ++ t ∷ rest → TimedFits t
-  pub cycles : (front rest : List Timed) (t u : Timed) → log ≡ front ++ t ∷ u ∷ rest → t.cycle ≤ u.cycle
+  pub states : (done later : List Action) (prefix : List Timed) (s : State) → actions ≡ done ++ later → Transitions first_state done prefix s → IsSoundAt prefix s
+  pub fronts : (prefix rest : List Timed) → log ≡ prefix ++ rest
+      → (done : List Action) × (later : List Action) × (s : State) × (actions ≡ done ++ later) × Transitions first_state done prefix s
+  pub answers : (prefix rest : List Timed) (t : Timed) → log ≡ prefix ++ t ∷ rest → (l : Account) × (account_of (entries_of prefix) ≡ Some l) × IsAnswered l t.what
+  pub reads : (prefix rest : List Timed) (t u : Timed) → log ≡ prefix ++ t ∷ u ∷ rest
+      → (l : Account) × (account_of (entries_of prefix) ≡ Some l) × IsReadIn l t.what u.what
+  pub fits : (prefix rest : List Timed) (t : Timed) → log ≡ prefix ++ t ∷ rest → TimedFits t
+  pub cycles : (prefix rest : List Timed) (t u : Timed) → log ≡ prefix ++ t ∷ u ∷ rest → t.cycle ≤ u.cycle

@@ -7,12 +7,13 @@ use Rattle.fw_devices.specs.Resets.{Shows}
 use Rattle.fw_model_controllers.specs.InStep.{IsRegister}
 use Rattle.fw_model_controllers.specs.Registers.{register_at, IsAnswer}
 use Rattle.fw_model_controllers.specs.Requests.{IsNodeOf, PlugNumberFits}
-use Rattle.fw_cmp.specs.declared.request.Target.{Target}
-use Rattle.fw_cmp.specs.Requests.{offset_of}
+use Rattle.fw_cmp_jobs.specs.declared.request.Target.{Target}
+use Rattle.fw_cmp_jobs.specs.Requests.{offset_of}
 use Rattle.fw_csr.specs.Requests.{request_at}
 use Rattle.fw_model_run.specs.State.{State, first_state}
 use Rattle.fw_model_run.specs.Spaces.{reply_from}
-use Rattle.fw_model_run.specs.Actions.{Action, Step, Steps}
+use Rattle.fw_model_run.specs.Actions.{Action}
+use Rattle.fw_model_run.specs.Deeds.{Transition, Transitions}
 use Rattle.fw_model_run.specs.Carrying.{Carries}
 use Rattle.fw_model_run.specs.Runs.{Run}
 use Rattle.fw_model_run.specs.Logs.{HasNoEnd}
@@ -41,29 +42,29 @@ NodesAnswerByTheAccount =
 
 -- each action leaves a good state good
 abbrev pub ActionsLeaveStatesGood : Type 0
-ActionsLeaveStatesGood = (s : State) (a : Action) (out : List Timed) (t : State) → IsGood s → Step s a out t → IsGood t
+ActionsLeaveStatesGood = (s : State) (a : Action) (out : List Timed) (t : State) → IsGood s → Transition s a out t → IsGood t
 
 -- what actions from the first state on write is sound at every prefix
 abbrev pub ActionsAreSound : Type 0
 ActionsAreSound =
-    (actions : List Action) (log : List Timed) (s : State) → Steps first_state actions log s → IsSoundThroughout actions log
+    (actions : List Action) (log : List Timed) (s : State) → Transitions first_state actions log s → IsSoundThroughout actions log
 
 -- what a command does is its actions, one after another
 abbrev pub CommandsAreActions : Type 0
 CommandsAreActions =
     (s : State) (o : Order) (actions : List Action) (out : List Timed) (t : State) → Carries s o actions out t
-    → Steps s actions out t
+    → Transitions s actions out t
 
 -- a run is the actions of its commands, from the first state on
 abbrev pub RunsAreActions : Type 0
 RunsAreActions =
     (commands : List Command) (actions : List Action) (log : List Timed) (s : State) → Run commands actions log s
-    → Steps first_state actions log s
+    → Transitions first_state actions log s
 
 -- an audit finds no fault in what actions from the first state on write
 abbrev pub RunsAreAudited : Type 0
 RunsAreAudited =
-    (actions : List Action) (log : List Timed) (s : State) → Steps first_state actions log s → IsAudited (entries_of log)
+    (actions : List Action) (log : List Timed) (s : State) → Transitions first_state actions log s → IsAudited (entries_of log)
 
 -- an audit finds no fault in a log that is sound at every prefix
 abbrev pub SoundLogsAreAudited : Type 0
@@ -85,14 +86,14 @@ RunsSpellLogs =
 abbrev pub CutRunsOpenLogs : Type 0
 CutRunsOpenLogs =
     (commands : List Command) (actions done later : List Action) (log out more : List Timed) (s t u : State) (o : Order)
-    → Run commands actions log s → HasNoEnd commands → Carries s o (done ++ later) more u → Steps s done out t
+    → Run commands actions log s → HasNoEnd commands → Carries s o (done ++ later) more u → Transitions s done out t
     → LogOpens (log ++ out) Two (header_bytes Two ++ log_bytes 0 (log ++ out))
 
 -- each prefix of a log is a log that may lack its end
 abbrev pub FrontsOpenLogs : Type 0
 FrontsOpenLogs =
-    (front rest : List Timed) (bytes : List ℕ) → LogOpens (front ++ rest) Two bytes
-    → LogOpens front Two (header_bytes Two ++ log_bytes 0 front)
+    (prefix rest : List Timed) (bytes : List ℕ) → LogOpens (prefix ++ rest) Two bytes
+    → LogOpens prefix Two (header_bytes Two ++ log_bytes 0 prefix)
 
 -- a command has one answer, its order or the first rule that it breaks
 abbrev pub CommandsHaveOneAnswer : Type 0
@@ -101,7 +102,7 @@ CommandsHaveOneAnswer = (s : State) (c : Command) (r q : Result Order RuleFault)
 -- in a run connections come back after a bus reset, at the end of each reclaim second
 abbrev pub ConnectionsComeBack : Type 0
 ConnectionsComeBack =
-    (actions : List Action) (log : List Timed) (s : State) → Steps first_state actions log s → ComesBack actions log
+    (actions : List Action) (log : List Timed) (s : State) → Transitions first_state actions log s → ComesBack actions log
 
 -- each `settle` of a script that has its rounds leaves no connection to be restored
 abbrev pub SettlesHaveEnoughRounds : Type 0

@@ -13,7 +13,6 @@ use Rattle.fw_devices.specs.Network.{device_named}
 use Rattle.fw_order.specs.declared.limits.TheConstants.{MOST_HALF_STEPS, MOST_RESETS, MOST_WRITTEN_CYCLES}
 use Rattle.fw_cmp.specs.declared.outcome.StartFault.{StartFault}
 use Rattle.fw_cmp.specs.Starts.{break_fault}
-use Rattle.fw_order.specs.declared.order.Access.TheVariants.{Read, Swap}
 use Rattle.fw_order.specs.declared.order.Wanted.{Wanted}
 use Rattle.fw_order.specs.declared.order.Wanted.TheVariants.{PlugToPlug, BroadcastOut, BroadcastIn}
 use Rattle.fw_model_run.specs.State.{State, device_in, manager_in, is_on, living}

@@ -1,8 +1,8 @@
 -- The reclaim theorem over a run: what was whole before the bus reset that opened a second is whole at its end.
 use Rattle.std.specs.Prelude.{ℕ, ◌≡◌, ◌≢◌, ◌⊎◌, List, [], ◌∷◌, ◌++◌, IsTrue, IsFalse, ⊤}
 use Rattle.fw_log_entry.specs.declared.entry.Timed.{Timed}
-use Rattle.fw_cmp.specs.declared.connection.Connection.{Connection}
-use Rattle.fw_cmp.specs.declared.connection.Flow.{Flow}
+use Rattle.fw_cmp_jobs.specs.declared.connection.Connection.{Connection}
+use Rattle.fw_cmp_jobs.specs.declared.connection.Flow.{Flow}
 use Rattle.fw_log_entry.specs.declared.entry.Entry.TheVariants.{Reset}
 use Rattle.fw_log_entry.specs.declared.entry.ResetEntry.{ResetEntry}
 use Rattle.fw_model_controllers.specs.Together.{IsWhole as IsThere}
@@ -10,13 +10,14 @@ use Rattle.fw_model_reclaim.specs.Whole.{IsWhole, IsUnbroken, HasFinished, EndsR
 use Rattle.fw_model_run.specs.Giving.{at_cycle}
 use Rattle.fw_model_run.specs.State.{State, first_state, directory_of, is_deaf}
 use Rattle.fw_model_run.specs.Entries.{second_over}
-use Rattle.fw_model_run.specs.Actions.{Action, StartBreak, EndSecond, Die, Step, Steps}
+use Rattle.fw_model_run.specs.Actions.{Action, StartBreak, EndSecond, Die}
+use Rattle.fw_model_run.specs.Deeds.{Transition, Transitions}
 use Rattle.fw_model_run.specs.Good.{world_of}
 
 -- an action that is a bus reset
 pub record IsBusReset (s : State) (a : Action) (t : State) : Type 0 where
   pub entry : ResetEntry
-  pub step : Step s a (at_cycle s.clock.cycle (Reset entry) ∷ []) t
+  pub step : Transition s a (at_cycle s.clock.cycle (Reset entry) ∷ []) t
 
 -- The action takes no connection of the controller of device d in slot i from it: it is not that controller's death, no break of
 -- the connection is asked for, and the second goes on.
@@ -41,15 +42,15 @@ GoesOn (_ ∷ actions) = GoesOn actions
 pub record IsSecond (before : State) (during : List Action) (after : State) : Type 0 where
   pub actions : List Action
   pub log : List Timed
-  pub run : Steps first_state actions log before
+  pub run : Transitions first_state actions log before
   pub reset : Action
   pub opened : State
   pub opens : IsBusReset before reset opened
   pub out : List Timed
-  pub steps : Steps opened during out after
+  pub steps : Transitions opened during out after
   pub last : List Timed
   pub end : State
-  pub ends : Step after EndSecond last end
+  pub ends : Transition after EndSecond last end
 
 -- A connection of a controller is whole: it is there at each of its plugs, and the controller has heard so, as far as its job has come.
 pub record IsKnownWhole (s : State) (d i : ℕ) (conn : Connection) (f : Flow) : Type 0 where
@@ -72,16 +73,16 @@ Reclaims = (before after : State) (during : List Action) → IsSecond before dur
 -- While a second runs no restoring of a slot whose own second runs ends in any other way than with its connection.
 abbrev pub RestoresInSecond : Type 0
 RestoresInSecond =
-    (actions : List Action) (log : List Timed) (s : State) → Steps first_state actions log s → IsTrue s.account.reclaiming
+    (actions : List Action) (log : List Timed) (s : State) → Transitions first_state actions log s → IsTrue s.account.reclaiming
     → (d : ℕ) → EndsRestored s.clock.cycle (directory_of s) (s.controllers d)
 
 -- each end of a second in a log is one of a second of the run, if one was opened by a bus reset
 abbrev pub EndsAreSeconds : Type 0
 EndsAreSeconds =
-    (actions : List Action) (log front rest : List Timed) (s : State) (t : Timed) → Steps first_state actions log s
-    → log ≡ front ++ t ∷ rest → t.what ≡ second_over
+    (actions : List Action) (log prefix rest : List Timed) (s : State) (t : Timed) → Transitions first_state actions log s
+    → log ≡ prefix ++ t ∷ rest → t.what ≡ second_over
     → (before : State) × (during : List Action) × (after : State) × (x : IsSecond before during after)
-    × (y : (done : List Action) × Steps first_state done front after)
+    × (y : (done : List Action) × Transitions first_state done prefix after)
     × (y.0 ≡ x.actions ++ x.reset ∷ during) × GoesOn during × ((later : List Action) × (actions ≡ y.0 ++ later))
 
 -- The seconds of a run: at the end of each that its log tells, the connections that were whole before the bus reset that opened it
@@ -89,12 +90,12 @@ EndsAreSeconds =
 -- The second is one of this run: what was done up to its end is a prefix of the run's actions, and it is what led to the bus reset,
 -- that reset, and the actions since, in which no second ends.
 pub record ComesBack (actions : List Action) (log : List Timed) : Type 0 where
-  pub seconds : (front rest : List Timed) (t : Timed) → log ≡ front ++ t ∷ rest → t.what ≡ second_over
+  pub seconds : (prefix rest : List Timed) (t : Timed) → log ≡ prefix ++ t ∷ rest → t.what ≡ second_over
       → (before : State) × (during : List Action) × (after : State) × (x : IsSecond before during after)
-      × (y : (done : List Action) × Steps first_state done front after) × AreBack before during after
+      × (y : (done : List Action) × Transitions first_state done prefix after) × AreBack before during after
       × (y.0 ≡ x.actions ++ x.reset ∷ during) × GoesOn during × ((later : List Action) × (actions ≡ y.0 ++ later))
   -- of each bus reset of such a second, whichever opened it or began it anew
-  pub each : (done later during : List Action) (front : List Timed) (before after : State) → actions ≡ done ++ later → Steps first_state done front after
+  pub each : (done later during : List Action) (prefix : List Timed) (before after : State) → actions ≡ done ++ later → Transitions first_state done prefix after
       → (x : IsSecond before during after) → done ≡ x.actions ++ x.reset ∷ during → AreBack before during after
-  pub outcomes : (done later : List Action) (front : List Timed) (s : State) → actions ≡ done ++ later → Steps first_state done front s
+  pub outcomes : (done later : List Action) (prefix : List Timed) (s : State) → actions ≡ done ++ later → Transitions first_state done prefix s
       → IsTrue s.account.reclaiming → (d : ℕ) → EndsRestored s.clock.cycle (directory_of s) (s.controllers d)

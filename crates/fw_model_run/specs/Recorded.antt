@@ -5,7 +5,8 @@ use Rattle.fw_terms.specs.Tables.{at_plug}
 use Rattle.fw_log_entry.specs.declared.entry.Timed.{Timed}
 use Rattle.fw_model_account.specs.Account.{talks}
 use Rattle.fw_tape.specs.Blocks.{block_now}
-use Rattle.fw_model_run.specs.Actions.{Action, KeepBlock, Steps}
+use Rattle.fw_model_run.specs.Actions.{Action, KeepBlock}
+use Rattle.fw_model_run.specs.Deeds.{Transitions}
 use Rattle.fw_model_run.specs.Desks.{DeskRelations}
 use Rattle.fw_model_run.specs.Recording.{records}
 use Rattle.fw_model_run.specs.State.{State}
@@ -36,7 +37,7 @@ pub record IsKeptAmong (D : DeskRelations) (s : State) (actions : List Action) (
   pub rest : List Action
   pub out : List Timed
   pub state : State
-  pub leads : Steps s before out state
+  pub leads : Transitions s before out state
   pub here : IsRecorded D state bytes
   pub actions_are : actions ≡ before ++ KeepBlock (Some bytes) ∷ rest
 

@@ -5,13 +5,14 @@ use Rattle.fw_plug.specs.Words.{units_of}
 use Rattle.fw_model_account.specs.Account.{Account, Allocation, Connected, Orphaned, Dead}
 use Rattle.fw_model_account.specs.Events.{no_connections}
 use Rattle.fw_log_entry.specs.declared.entry.Timed.{Timed}
-use Rattle.fw_cmp.specs.declared.connection.Connection.{Connection}
-use Rattle.fw_cmp.specs.declared.connection.Flow.{Flow}
-use Rattle.fw_cmp.specs.declared.connection.Slot.TheVariants.{Standing}
-use Rattle.fw_cmp.specs.Connections.{output_of}
+use Rattle.fw_cmp_jobs.specs.declared.connection.Connection.{Connection}
+use Rattle.fw_cmp_jobs.specs.declared.connection.Flow.{Flow}
+use Rattle.fw_cmp_jobs.specs.declared.connection.Slot.TheVariants.{Established}
+use Rattle.fw_cmp_jobs.specs.Connections.{output_of}
 use Rattle.fw_cmp.specs.Controllers.{slot_at}
 use Rattle.fw_model_controllers.specs.Together.{AreInStep, AreSettled, IsWhole}
-use Rattle.fw_model_run.specs.Actions.{Action, Steps}
+use Rattle.fw_model_run.specs.Actions.{Action}
+use Rattle.fw_model_run.specs.Deeds.{Transitions}
 use Rattle.fw_model_run.specs.Reclaiming.{IsBusReset}
 use Rattle.fw_model_run.specs.State.{State, first_state, directory_of, is_deaf}
 use Rattle.fw_model_run.specs.Truth.{controller_at}
@@ -29,7 +30,7 @@ pub record HasStanding (s : State) (p : PlugAt) (ch : ℕ) : Type 0 where
   pub slot : ℕ
   pub connection : Connection
   pub flow : Flow
-  pub stands : slot_at (s.controllers device) slot ≡ Standing connection flow
+  pub stands : slot_at (s.controllers device) slot ≡ Established connection flow
   pub output : output_of connection ≡ Some p
   pub channel : flow.channel ≡ ch
   pub whole : IsWhole s.account device connection flow
@@ -55,4 +56,4 @@ pub record LosesNothing (s : State) : Type 0 where
 
 -- so it is in each state of a run
 pub record RecoversThroughout (actions : List Action) : Type 0 where
-  pub states : (done later : List Action) (front : List Timed) (s : State) → actions ≡ done ++ later → Steps first_state done front s → LosesNothing s
+  pub states : (done later : List Action) (prefix : List Timed) (s : State) → actions ≡ done ++ later → Transitions first_state done prefix s → LosesNothing s

@@ -6,7 +6,6 @@ use Rattle.std.specs.declared.result.Result.{Result}
 use Rattle.fw_terms.specs.Devices.{is_capable, kind_with}
 use Rattle.fw_tape.specs.declared.system.TapeSystem.{TapeSystem}
 use Rattle.fw_tape.specs.declared.system.TapeSystem.TheVariants.{Lines525, Lines625}
-use Rattle.fw_tree.specs.declared.facts.End.{End}
 use Rattle.fw_tree.specs.declared.TreeFault.TheVariants as Tree
 use Rattle.fw_script_command.specs.declared.command.Command.{Command}
 use Rattle.fw_script_command.specs.declared.command.Command.TheVariants as Commands
@@ -69,7 +68,7 @@ abbrev pub IsNoCandidate : State → Command → Type 0
 IsNoCandidate s (Commands.Contend name count) = IsNot s (is_candidate s) (Some name)
 IsNoCandidate s _ = ⊥
 
--- no request stands whose response could be lost
+-- no request is outstanding whose response could be lost
 abbrev pub HasNothing : State → Command → Type 0
 HasNothing s (Commands.Lose name) = IsNot s (λ d. has_request (s.controllers d).current) (Some name)
 HasNothing s _ = ⊥

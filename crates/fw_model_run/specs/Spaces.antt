@@ -1,5 +1,5 @@
 -- The registers of the nodes, what a request is answered, and the transactions of the script.
-use Rattle.std.specs.Prelude.{ℕ, ◌+◌, ◌++◌, Bool, Option, Some, None, if◌then◌else◌, unwrap_or}
+use Rattle.std.specs.Prelude.{ℕ, ◌+◌, Bool, Option, Some, None, if◌then◌else◌, unwrap_or}
 use Rattle.fw_words.specs.declared.swap.TheConstants.{COMPARE_SWAP}
 use Rattle.fw_words.specs.Swaps.{swap_bytes}
 use Rattle.fw_terms.specs.declared.label.Label.TheVariants.{Script}

@@ -14,8 +14,8 @@ use Rattle.fw_model_account.specs.Fold.{no_account, next_account}
 use Rattle.fw_devices.specs.Network.{facts_of, kind_at}
 use Rattle.fw_devices.specs.Entries.{node_number, node_device}
 use Rattle.fw_cmp.specs.Controllers.{ControllerState, first_state as new_controller}
-use Rattle.fw_cmp.specs.declared.directory.Directory.{Directory}
-use Rattle.fw_cmp.specs.declared.stage.Stage.{Stage}
+use Rattle.fw_cmp_jobs.specs.declared.directory.Directory.{Directory}
+use Rattle.fw_cmp_jobs.specs.declared.stage.Stage.{Stage}
 use Rattle.fw_order.specs.declared.order.Transaction.{Transaction}
 use Rattle.fw_model_run.specs.Decks.{DeckState, FrameWrite, first_deck}
 use Rattle.fw_model_run.specs.Elections.{Election, no_election}
@@ -41,7 +41,7 @@ pub record State : Type 0 where
   pub account : Account  -- of the entries so far
   pub bus_manager_id : ℕ  -- the word of BUS_MANAGER_ID
   -- By device; that of a device that has none, or whose controller died, is one that has just started. One that has lost the
-  -- response to its request stands here as one that heard it: so what it has allocated is that of its slots and its stage.
+  -- response to its request is outstanding here as one that heard it: so what it has allocated is that of its slots and its stage.
   pub controllers : ℕ → ControllerState
   pub asked_at : ℕ → ℕ  -- by device, the cycle of the latest request of its controller
   -- by device, the stage at which its controller in truth still stands that has lost a response since the latest bus reset

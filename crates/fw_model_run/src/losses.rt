@@ -5,7 +5,8 @@ ghost use Rattle.fw_cmp.specs.Controllers.{IsHeard};
 ghost use Rattle.fw_cmp.specs.Losses.{first_listening, turn_of, after_turn, after_loss as lost, after_bus_reset, after_end, with_state};
 ghost use Rattle.fw_cmp.specs.Starts.{break_fault, break_started, started};
 ghost use Rattle.fw_order.specs.declared.order.Wanted.{Wanted};
-ghost use Rattle.fw_model_run.specs.Actions.{Action, Steps};
+ghost use Rattle.fw_model_run.specs.Actions.{Action};
+ghost use Rattle.fw_model_run.specs.Deeds.{Transitions};
 ghost use Rattle.fw_model_run.specs.Afterwards.{after_loss, after_reset_entry, after_second, after_death, with_connection, slot_of, start_of};
 ghost use Rattle.fw_model_run.specs.Good.{IsGood};
 ghost use Rattle.fw_model_run.specs.HalfSteps.{after_half, has_request, with_controller};
@@ -35,6 +36,6 @@ pub fn lost_responses_are_not_heard()
 /// channel is free, or it belongs to a standing connection, which is whole, or was left by a controller that died. Of one run all of
 /// this is said in one clause.
 pub fn lost_swaps_come_right()
-    ensures states { (actions : List Action) (log : List Timed) (s : State) → Steps first_state actions log s → LosesNothing s }
-    ensures throughout { (actions : List Action) (log : List Timed) (s : State) → Steps first_state actions log s → RecoversThroughout actions }
+    ensures states { (actions : List Action) (log : List Timed) (s : State) → Transitions first_state actions log s → LosesNothing s }
+    ensures throughout { (actions : List Action) (log : List Timed) (s : State) → Transitions first_state actions log s → RecoversThroughout actions }
 {}

@@ -6,7 +6,8 @@ ghost use Rattle.fw_log_entry.specs.declared.entry.Timed.{Timed};
 ghost use Rattle.fw_model_account.specs.Words.{InputPlug, word_of};
 ghost use Rattle.fw_plug.specs.Plugs.{is_active};
 ghost use Rattle.fw_script_command.specs.declared.command.Command.{Command};
-ghost use Rattle.fw_model_run.specs.Actions.{Action, Step};
+ghost use Rattle.fw_model_run.specs.Actions.{Action};
+ghost use Rattle.fw_model_run.specs.Deeds.{Transition};
 ghost use Rattle.fw_model_run.specs.Carrying.{KeepsCycle};
 ghost use Rattle.fw_model_run.specs.Dubs.{hears_in};
 ghost use Rattle.fw_model_run.specs.Given.{AreGiven};
@@ -45,7 +46,7 @@ pub fn reels_are_recorded<F: Fn(u16, u32, u16) -> [u8; 480], H: Fn(u32, u8) -> u
 /// No input plug of a device that is off hears, whatever happens. On the bus a plug's word, and whether it goes on, say whether it hears.
 pub fn input_plugs_hear_by_their_words()
     ensures first { HasHearing first_state }
-    ensures actions { (s : State) (a : Action) (out : List Timed) (t : State) → IsGood s → HasHearing s → Step s a out t → HasHearing t }
+    ensures actions { (s : State) (a : Action) (out : List Timed) (t : State) → IsGood s → HasHearing s → Transition s a out t → HasHearing t }
     ensures off { (s : State) (d k : ℕ) → IsGood s → HasHearing s → is_on s d ≡ false → hears_in s.account s.dub (at_plug d k) ≡ false }
     ensures on { (s : State) (d k : ℕ) → IsGood s → IsTrue (is_on s d) → k < input_plugs_of (kind_at s.declared.kinds d)
         → is_active (word_of s.account (InputPlug (at_plug d k))) (s.dub.lingers (at_plug d k)) ≡ hears_in s.account s.dub (at_plug d k) }
@@ -54,5 +55,5 @@ pub fn input_plugs_hear_by_their_words()
 /// What each action leaves of the input plugs that go on hearing with no connection: a half step ends the hearing of exactly those whose
 /// words it changes, a bus reset leaves those that heard, by their words, and the end of the second none.
 pub fn input_plugs_linger_through_runs()
-    ensures { (s : State) (a : Action) (out : List Timed) (t : State) → IsGood s → HasHearing s → Step s a out t → HearThrough a out s t }
+    ensures { (s : State) (a : Action) (out : List Timed) (t : State) → IsGood s → HasHearing s → Transition s a out t → HearThrough a out s t }
 {}

@@ -5,7 +5,8 @@ ghost use Rattle.fw_log_entry.specs.declared.entry.Entry.TheVariants.{Iso};
 ghost use Rattle.fw_log_entry.specs.declared.entry.Timed.{Timed};
 ghost use Rattle.fw_model_account.specs.Account.{Account, talks};
 ghost use Rattle.fw_model_account.specs.Fold.{next_account};
-ghost use Rattle.fw_model_run.specs.Actions.{Action, Die, Step};
+ghost use Rattle.fw_model_run.specs.Actions.{Action, Die};
+ghost use Rattle.fw_model_run.specs.Deeds.{Transition};
 ghost use Rattle.fw_model_run.specs.Carrying.{next_cycle, SendsPackets};
 ghost use Rattle.fw_model_run.specs.Cycles.{AllTalk, ArePackets, CanSendPackets, CanWriteCycles, CountsThrough, MayWrite};
 ghost use Rattle.fw_model_run.specs.Good.{IsGood};
@@ -16,9 +17,9 @@ ghost use Rattle.fw_model_run.specs.Streams.{sent_before, talkers};
 /// Each plug counts its data packets since it began to talk: whatever an action does, the count of a plug that goes on talking rises by
 /// the blocks that its tape gives in it, and that of a plug that begins is 0. So bus resets and deaths leave each count as it was.
 pub fn counts_follow_who_talks()
-    ensures actions { (s : State) (a : Action) (out : List Timed) (t : State) → IsGood s → Step s a out t → (p : PlugAt) → CountsThrough a s t p }
+    ensures actions { (s : State) (a : Action) (out : List Timed) (t : State) → IsGood s → Transition s a out t → (p : PlugAt) → CountsThrough a s t p }
     ensures resets { (s : State) (a : Action) (t : State) → IsGood s → IsBusReset s a t → (p : PlugAt) → t.streams p ≡ s.streams p }
-    ensures deaths { (s : State) (d : ℕ) (out : List Timed) (t : State) → IsGood s → Step s (Die d) out t → (p : PlugAt) → t.streams p ≡ s.streams p }
+    ensures deaths { (s : State) (d : ℕ) (out : List Timed) (t : State) → IsGood s → Transition s (Die d) out t → (p : PlugAt) → t.streams p ≡ s.streams p }
 {}
 
 /// The packets of a cycle are those of the plugs that talk in it, one a plug and one a channel, in order of channel. The DBC of each is the
@@ -30,7 +31,7 @@ pub fn cycles_have_a_packet_a_talker()
         → (l.settings p).channel < (l.settings q).channel }
     ensures packets { (plugs : List PlugAt) (s : State) (actions : List Action) (out : List Timed) (t : State) → SendsPackets plugs s actions out t
         → ArePackets s plugs out × (t ≡ s) }
-    ensures counts { (s : State) (out : List Timed) (t : State) (p : PlugAt) → Step s (next_cycle s) out t → IsTrue (talks t.account p)
+    ensures counts { (s : State) (out : List Timed) (t : State) (p : PlugAt) → Transition s (next_cycle s) out t → IsTrue (talks t.account p)
         → sent_before t p ≡ s.streams p }
     ensures account { (l : Account) (q : IsoPacket) → next_account l (Iso q) ≡ Some l }
 {}

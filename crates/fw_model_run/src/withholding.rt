@@ -1,7 +1,8 @@
 ghost use Rattle.std.specs.Prelude.{List, ℕ, IsTrue};
 ghost use Rattle.fw_log_entry.specs.declared.entry.Timed.{Timed};
 ghost use Rattle.fw_model_account.specs.Account.{is_withheld};
-ghost use Rattle.fw_model_run.specs.Actions.{Action, Steps};
+ghost use Rattle.fw_model_run.specs.Actions.{Action};
+ghost use Rattle.fw_model_run.specs.Deeds.{Transitions};
 ghost use Rattle.fw_model_run.specs.State.{State, first_state};
 ghost use Rattle.fw_model_run.specs.Withheld.{IsUnused, WithholdsThroughout};
 
@@ -9,7 +10,7 @@ ghost use Rattle.fw_model_run.specs.Withheld.{IsUnused, WithholdsThroughout};
 /// back, no plug sends or is connected on it, and no controller has a connection there. What a bus withholds it withholds to
 /// the end. Of one run both are said in one clause.
 pub fn withheld_channels_stay_unused()
-    ensures unused { (actions : List Action) (log : List Timed) (s : State) → Steps first_state actions log s → (ch : ℕ) → IsTrue (is_withheld s.account.withheld ch) → IsUnused s ch }
-    ensures ever { (actions more : List Action) (log out : List Timed) (s t : State) → Steps first_state actions log s → Steps s more out t → IsTrue s.account.withheld → IsTrue t.account.withheld }
-    ensures throughout { (actions : List Action) (log : List Timed) (s : State) → Steps first_state actions log s → WithholdsThroughout actions }
+    ensures unused { (actions : List Action) (log : List Timed) (s : State) → Transitions first_state actions log s → (ch : ℕ) → IsTrue (is_withheld s.account.withheld ch) → IsUnused s ch }
+    ensures ever { (actions more : List Action) (log out : List Timed) (s t : State) → Transitions first_state actions log s → Transitions s more out t → IsTrue s.account.withheld → IsTrue t.account.withheld }
+    ensures throughout { (actions : List Action) (log : List Timed) (s : State) → Transitions first_state actions log s → WithholdsThroughout actions }
 {}

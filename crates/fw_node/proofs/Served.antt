@@ -8,8 +8,8 @@ use Rattle.fw_async.specs.declared.packet.Packet.TheVariants.{WriteQuadlet, Writ
 use Rattle.fw_csr.specs.Replies.{reply, swap_reply}
 use Rattle.fw_csr.specs.Requests.{offset_of}
 use Rattle.fw_words.specs.Swaps.{quadlet_swap}
-use Rattle.fw_csr.specs.declared.register.Register.{Register}
-use Rattle.fw_csr.specs.declared.register.Register.TheVariants.{ReadOnly, ReadSwap, WriteOnly}
+use Rattle.fw_csr.specs.declared.register.RegisterAccess.{RegisterAccess}
+use Rattle.fw_csr.specs.declared.register.RegisterAccess.TheVariants.{ReadOnly, ReadSwap, WriteOnly}
 use Rattle.fw_csr.specs.declared.reply.Reply.{Reply}
 use Rattle.fw_csr.specs.declared.request.Request.{Request}
 use Rattle.fw_csr.specs.declared.request.Request.TheVariants as Asks
@@ -19,26 +19,26 @@ use Rattle.fw_node.specs.Space.{Space, register_at}
 
 -- ---- what stands in a response, by the kind of its request
 
-write_carries : (offset value : ℕ) (o : Option Register) → Some (record { rcode = (reply o (Asks.Write offset value)).rcode; value = 0 }) ≡ Some (reply o (Asks.Write offset value))
+write_carries : (offset value : ℕ) (o : Option RegisterAccess) → Some (record { rcode = (reply o (Asks.Write offset value)).rcode; value = 0 }) ≡ Some (reply o (Asks.Write offset value))
 write_carries offset value None = refl
 write_carries offset value (Some (ReadOnly word)) = refl
 write_carries offset value (Some (ReadSwap word)) = refl
 write_carries offset value (Some WriteOnly) = refl
 
-block_carries : (offset : ℕ) (bytes : List ℕ) (o : Option Register)
+block_carries : (offset : ℕ) (bytes : List ℕ) (o : Option RegisterAccess)
     → Some (record { rcode = (reply o (Asks.WriteBlock offset bytes)).rcode; value = 0 }) ≡ Some (reply o (Asks.WriteBlock offset bytes))
 block_carries offset bytes None = refl
 block_carries offset bytes (Some (ReadOnly word)) = refl
 block_carries offset bytes (Some (ReadSwap word)) = refl
 block_carries offset bytes (Some WriteOnly) = refl
 
-none_carries : (offset len : ℕ) (o : Option Register) → old_value (reply o (Asks.ReadBlock offset len)).rcode [] ≡ Some (reply o (Asks.ReadBlock offset len))
+none_carries : (offset len : ℕ) (o : Option RegisterAccess) → old_value (reply o (Asks.ReadBlock offset len)).rcode [] ≡ Some (reply o (Asks.ReadBlock offset len))
 none_carries offset len None = refl
 none_carries offset len (Some (ReadOnly word)) = refl
 none_carries offset len (Some (ReadSwap word)) = refl
 none_carries offset len (Some WriteOnly) = refl
 
-lock_carries : (offset function : ℕ) (bytes : List ℕ) (o : Option Register) → (reply o (Asks.Lock offset function bytes)).value < 2 ^ 32
+lock_carries : (offset function : ℕ) (bytes : List ℕ) (o : Option RegisterAccess) → (reply o (Asks.Lock offset function bytes)).value < 2 ^ 32
     → old_value (reply o (Asks.Lock offset function bytes)).rcode (old_bytes (reply o (Asks.Lock offset function bytes))) ≡ Some (reply o (Asks.Lock offset function bytes))
 lock_carries offset function bytes None low = refl
 lock_carries offset function bytes (Some (ReadOnly word)) low = refl
@@ -51,13 +51,13 @@ lock_carries offset function bytes (Some (ReadSwap word)) low = go (quadlet_swap
 
 -- ---- the response
 
-abbrev Carries : ℕ → Packet → Packet → Option Register → Request → Type 0
+abbrev Carries : ℕ → Packet → Packet → Option RegisterAccess → Request → Type 0
 Carries n p q o r = (reply o r).value < 2 ^ 32 → response_to n p (reply o r) ≡ Some q → reply_in q ≡ Some (reply o r)
 
 found : (p q : Packet) (a : Reply) → Some p ≡ Some q → reply_in p ≡ Some a → reply_in q ≡ Some a
 found p q a is h = subst (λ z. reply_in z ≡ Some a) (same_Some p q is) h
 
-carries : (n : ℕ) (p q : Packet) (o : Option Register) (r : Request) → request_in p ≡ Some r → Carries n p q o r
+carries : (n : ℕ) (p q : Packet) (o : Option RegisterAccess) (r : Request) → request_in p ≡ Some r → Carries n p q o r
 carries n (ReadQuadlet h offset) q o r asks = subst (Carries n (ReadQuadlet h offset) q o) (same_Some _ r asks) (λ low is. found _ q _ is refl)
 carries n (WriteQuadlet h offset value) q o r asks = subst (Carries n (WriteQuadlet h offset value) q o) (same_Some _ r asks) (λ low is. found _ q _ is (write_carries offset value o))
 carries n (WriteBlock h offset bytes) q o r asks = subst (Carries n (WriteBlock h offset bytes) q o) (same_Some _ r asks) (λ low is. found _ q _ is (block_carries offset bytes o))

@@ -7,7 +7,7 @@ use Rattle.std.proofs.lemmas.Grind.{common_steps, get_or-set_at}
 use Rattle.std.proofs.lemmas.List.{get_or-set_other}
 use Rattle.fw_terms.specs.Devices.{output_plugs_of, input_plugs_of}
 use Rattle.fw_csr.specs.declared.request.Request.{Request}
-use Rattle.fw_csr.specs.declared.register.Register.TheVariants.{ReadSwap}
+use Rattle.fw_csr.specs.declared.register.RegisterAccess.TheVariants.{ReadSwap}
 use Rattle.fw_csr.specs.Requests.{offset_of}
 use Rattle.fw_csr.specs.Replies.{word_after}
 use Rattle.fw_csr.specs.Manager as Manager

@@ -1,7 +1,7 @@
 -- What stands in the registers of a node that only its number, its kind and the time decide (IEEE 1394-1995, 8).
 use Rattle.std.specs.Prelude.{ℕ, ◌+◌, ◌/◌, ◌%◌, [], ◌∷◌, Bool, if◌then◌else◌}
 use Rattle.fw_words.specs.Layout.{packed}
-pub use Rattle.fw_async.specs.NodeIds.{node_id}
+pub use Rattle.fw_async_fields.specs.NodeIds.{node_id}
 use Rattle.fw_terms.specs.declared.device.DeviceKind.{DeviceKind}
 use Rattle.fw_terms.specs.Devices.{has_link, is_contender, is_capable}
 

@@ -4,7 +4,7 @@ use Rattle.std.specs.Int.{to_be_bytes, from_be_bytes, w32}
 use Rattle.std.specs.Option.{option_map, option_and_then}
 use Rattle.fw_terms.specs.declared.label.Label.TheVariants.{Script}
 use Rattle.fw_terms.specs.Labels.{label_code}
-use Rattle.fw_async.specs.Async.{AreBytes}
+use Rattle.fw_async_fields.specs.Data.{AreBytes}
 use Rattle.fw_async.specs.declared.packet.Head.{Head}
 use Rattle.fw_async.specs.declared.packet.Packet.{Packet}
 use Rattle.fw_async.specs.declared.packet.Packet.TheVariants.{WriteQuadlet, WriteBlock}

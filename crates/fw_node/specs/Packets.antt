@@ -4,7 +4,7 @@ use Rattle.std.specs.Int.{to_be_bytes, w32}
 use Rattle.fw_terms.specs.declared.label.Label.{Label}
 use Rattle.fw_terms.specs.Labels.{label_code}
 use Rattle.fw_words.specs.Quadlet.{quadlet_at}
-use Rattle.fw_async.specs.Async.{AreBytes, is_lock_size}
+use Rattle.fw_async_fields.specs.Data.{AreBytes, is_lock_size}
 use Rattle.fw_async.specs.Reader.{Spells}
 use Rattle.fw_async.specs.declared.packet.Head.{Head}
 use Rattle.fw_async.specs.declared.packet.Packet.{Packet}

@@ -7,8 +7,8 @@ use Rattle.fw_csr.specs.declared.offset.TheConstants.{NODE_IDS, SPLIT_TIMEOUT_HI
 use Rattle.fw_csr.specs.declared.offset.TheConstants.{EUI_64_HI, EUI_64_LO, OMPR, OPCR, IPCR, LAST_PLUG_REGISTER, FCP_COMMAND, FCP_RESPONSE}
 use Rattle.fw_csr.specs.declared.request.Request.{Request}
 use Rattle.fw_csr.specs.declared.reply.Reply.{Reply}
-use Rattle.fw_csr.specs.declared.register.Register.{Register}
-use Rattle.fw_csr.specs.declared.register.Register.TheVariants.{ReadOnly, WriteOnly}
+use Rattle.fw_csr.specs.declared.register.RegisterAccess.{RegisterAccess}
+use Rattle.fw_csr.specs.declared.register.RegisterAccess.TheVariants.{ReadOnly, WriteOnly}
 use Rattle.fw_csr.specs.Requests.{offset_of}
 use Rattle.fw_csr.specs.Replies.{reply}
 use Rattle.fw_csr.specs.Manager.{ManagerWords, after_at}
@@ -35,7 +35,7 @@ abbrev pub plug_table : Space → PlugTable
 plug_table s = record { rate = s.rate; outputs = output_plugs_of s.kind; inputs = input_plugs_of s.kind; output_word = s.output_word; input_word = s.input_word }
 
 -- the registers of every node
-abbrev pub core_register_at : Space → ℕ → Option Register
+abbrev pub core_register_at : Space → ℕ → Option RegisterAccess
 core_register_at s offset =
     if offset == NODE_IDS then Some (ReadOnly (node_ids s.number))
     else if offset == SPLIT_TIMEOUT_HI then Some (ReadOnly 0)
@@ -50,7 +50,7 @@ core_register_at s offset =
     else None
 
 -- those of the manager stand there alone
-abbrev pub manager_register_at : Option ManagerWords → ℕ → Option Register
+abbrev pub manager_register_at : Option ManagerWords → ℕ → Option RegisterAccess
 manager_register_at None offset = None
 manager_register_at (Some m) offset = Manager.register_at m offset
 
@@ -59,7 +59,7 @@ abbrev pub lies_within : ℕ → ℕ → ℕ → Bool
 lies_within first last offset = nat_le first offset && nat_le offset last
 
 -- the register of a node at an offset: the manager's, a plug control register or one of the core
-abbrev pub register_at : Space → ℕ → Option Register
+abbrev pub register_at : Space → ℕ → Option RegisterAccess
 register_at s offset =
     if lies_within BUS_MANAGER_ID CHANNELS_AVAILABLE_LO offset then manager_register_at s.manager offset
     else if lies_within OMPR LAST_PLUG_REGISTER offset then Plugs.register_at (plug_table s) offset

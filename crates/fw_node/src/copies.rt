@@ -86,8 +86,8 @@ impl Part for Node {
 }
 
 // A mark with the words of the resource manager's registers.
-fn manager_mark(manager: &Option<Manager>, front: u64) -> u64 {
-    let mut mark = front;
+fn manager_mark(manager: &Option<Manager>, prefix: u64) -> u64 {
+    let mut mark = prefix;
     if let Some(manager) = manager {
         let words = manager.registers();
         for word in &words {

@@ -2,7 +2,7 @@ ghost use Rattle.std.specs.Prelude.{◌≡◌, ◌<◌, ◌^◌, ℕ, Option, So
 ghost use Rattle.fw_async.specs.declared.packet.Head.{Head};
 ghost use Rattle.fw_async.specs.declared.packet.Packet.{Packet};
 ghost use Rattle.fw_csr.specs.Replies.{reply};
-ghost use Rattle.fw_csr.specs.declared.register.Register.{Register};
+ghost use Rattle.fw_csr.specs.declared.register.RegisterAccess.{RegisterAccess};
 ghost use Rattle.fw_csr.specs.declared.request.Request.{Request};
 ghost use Rattle.fw_node.specs.Packets.{packet_of, request_in, response_to, reply_in};
 ghost use Rattle.fw_node.specs.Space.{Space, answer_of};
@@ -17,5 +17,5 @@ pub fn nodes_answer_as_their_spaces()
 /// A packet that asks a request asks it, and the packet by which a node answers with a register's reply carries that reply.
 pub fn packets_carry_what_they_are_made_of()
     ensures requests { (h : Head) (r : Request) → request_in (packet_of h r) ≡ Some r }
-    ensures replies { (n : ℕ) (h : Head) (r : Request) (register : Option Register) (q : Packet) → (reply register r).value < 2 ^ 32 → response_to n (packet_of h r) (reply register r) ≡ Some q → reply_in q ≡ Some (reply register r) }
+    ensures replies { (n : ℕ) (h : Head) (r : Request) (register : Option RegisterAccess) (q : Packet) → (reply register r).value < 2 ^ 32 → response_to n (packet_of h r) (reply register r) ≡ Some q → reply_in q ≡ Some (reply register r) }
 {}

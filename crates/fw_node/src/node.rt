@@ -72,7 +72,7 @@ impl Node {
         }
     }
 
-    /// A bus reset, at which the node gets its number, and where `manager` is true becomes the isochronous resource
+    /// A bus reset, at which the node gets its number, and if `manager` is true becomes the isochronous resource
     /// manager with registers at their initial values; channel 31 is not free then if the bus withholds it.
     pub fn reset(&mut self, number: u8, manager: bool)
         requires { number ≤ 62 }

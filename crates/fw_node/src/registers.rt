@@ -23,7 +23,7 @@ use fw_csr::offset::{
     FCP_COMMAND, FCP_RESPONSE, LAST_PLUG_REGISTER, NODE_IDS, OMPR, SPLIT_TIMEOUT_HI,
     SPLIT_TIMEOUT_LO,
 };
-use fw_csr::{Manager, Register, RegisterRequest, Reply, Request};
+use fw_csr::{Manager, RegisterAccess, RegisterRequest, Reply, Request};
 use fw_tape::Desk;
 
 impl Node {
@@ -45,7 +45,7 @@ impl Node {
         ensures node { HasFollowed (H.post desk.now.vendor) (requester p.now) (request_in p.now) (after_request (request_in p.now) self.old) self.new }
         ensures fits { Fits p.now → Fits result }
     {
-        let response = self.carry_out(now, p);
+        let response = self.answer_packet(now, p);
         self.follow(requester(p), &request_of(p), desk);
         response
     }
@@ -53,7 +53,7 @@ impl Node {
     /// Carries a request packet to this node out at its registers in cycle `now`, and gives the response packet. A write to
     /// FCP_COMMAND is answered, and nothing follows from it.
     #[inline(always)]
-    pub fn carry_out(&mut self, now: u64, p: &Packet) -> Packet<'static>
+    pub fn answer_packet(&mut self, now: u64, p: &Packet) -> Packet<'static>
         requires request { IsSome (request_in p.now) }
         requires link { IsTrue (has_link self.old.kind) }
         requires reset { IsSome self.old.number }
@@ -85,7 +85,7 @@ impl Node {
     }
 
     /// The register at an offset, if there is one.
-    fn register(&self, number: u8, now: u64, offset: u64) -> Option<Register>
+    fn register(&self, number: u8, now: u64, offset: u64) -> Option<RegisterAccess>
         requires { number ≤ 62 }
         ensures { result ≡ register_at (space_of number now self.now) offset }
     {
@@ -126,21 +126,21 @@ impl Node {
     }
 
     /// The register at an offset, of those that each node has.
-    pub(crate) fn core_register(&self, number: u8, now: u64, offset: u64) -> Option<Register>
+    pub(crate) fn core_register(&self, number: u8, now: u64, offset: u64) -> Option<RegisterAccess>
         requires { number ≤ 62 }
         ensures { result ≡ core_register_at (space_of number now self.now) offset }
     {
         match offset {
-            NODE_IDS => Some(Register::ReadOnly(node_ids(number))),
-            SPLIT_TIMEOUT_HI => Some(Register::ReadOnly(0)),
-            SPLIT_TIMEOUT_LO => Some(Register::ReadOnly(SPLIT_TIMEOUT_LOW)),
-            CYCLE_TIME => Some(Register::ReadOnly(cycle_time(now))),
-            BUS_NAME => Some(Register::ReadOnly(NAME_1394)),
-            BUS_OPTIONS => Some(Register::ReadOnly(capabilities(self.kind))),
-            EUI_64_HI => Some(Register::ReadOnly(COMPANY)),
-            EUI_64_LO => Some(Register::ReadOnly(u32::from(self.device))),
-            FCP_COMMAND if self.kind.has_unit() => Some(Register::WriteOnly),
-            FCP_RESPONSE => Some(Register::WriteOnly),
+            NODE_IDS => Some(RegisterAccess::ReadOnly(node_ids(number))),
+            SPLIT_TIMEOUT_HI => Some(RegisterAccess::ReadOnly(0)),
+            SPLIT_TIMEOUT_LO => Some(RegisterAccess::ReadOnly(SPLIT_TIMEOUT_LOW)),
+            CYCLE_TIME => Some(RegisterAccess::ReadOnly(cycle_time(now))),
+            BUS_NAME => Some(RegisterAccess::ReadOnly(NAME_1394)),
+            BUS_OPTIONS => Some(RegisterAccess::ReadOnly(capabilities(self.kind))),
+            EUI_64_HI => Some(RegisterAccess::ReadOnly(COMPANY)),
+            EUI_64_LO => Some(RegisterAccess::ReadOnly(u32::from(self.device))),
+            FCP_COMMAND if self.kind.has_unit() => Some(RegisterAccess::WriteOnly),
+            FCP_RESPONSE => Some(RegisterAccess::WriteOnly),
             _ => None,
         }
     }

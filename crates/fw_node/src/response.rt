@@ -1,7 +1,8 @@
 //! Replies, and the packets that carry them.
 
 ghost use Rattle.std.specs.Prelude.{◌≡◌, ◌≤◌, ◌<◌, ◌^◌, Some, IsSome, IsTrue, length};
-ghost use Rattle.fw_async.specs.Async.{Fits, AreBytes, is_reply_size};
+ghost use Rattle.fw_async.specs.Async.{Fits};
+ghost use Rattle.fw_async_fields.specs.Data.{AreBytes, is_reply_size};
 ghost use Rattle.fw_async.specs.Quadlets.{request_packet as quadlet_packet, old_value as old_part};
 ghost use Rattle.fw_async.specs.Reader.{Spells};
 ghost use Rattle.fw_async.specs.declared.packet.Packet.{Packet as PacketRecord};

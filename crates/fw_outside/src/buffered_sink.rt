@@ -38,7 +38,7 @@ impl<W: Write> BufferedSink<W> {
     /// Passes on what is kept back, here and by the writer. If it fails, some of it may not have been passed on.
     pub fn flush(&mut self) -> Result<(), Failed>
         ensures passed { OnOk result (Appends (W.contents self.old.inner.inner) (W.contents self.new.inner.inner) (take self.old.length self.old.bytes)) }
-        ensures front { OnErr result (AppendsPart (W.contents self.old.inner.inner) (W.contents self.new.inner.inner) (take self.old.length self.old.bytes)) }
+        ensures prefix { OnErr result (AppendsPart (W.contents self.old.inner.inner) (W.contents self.new.inner.inner) (take self.old.length self.old.bytes)) }
         ensures empty { self.new.length ≡ 0 }
         ensures same { OnOk result (self.new.inner.faults ≡ self.old.inner.faults) }
         ensures risen { OnErr result (self.new.inner.faults ≡ counted self.old.inner.faults) }
@@ -50,7 +50,7 @@ impl<W: Write> BufferedSink<W> {
     /// Passes on what is kept back here.
     fn pass_on(&mut self) -> Result<(), Failed>
         ensures passed { OnOk result (Appends (W.contents self.old.inner.inner) (W.contents self.new.inner.inner) (take self.old.length self.old.bytes)) }
-        ensures front { OnErr result (AppendsPart (W.contents self.old.inner.inner) (W.contents self.new.inner.inner) (take self.old.length self.old.bytes)) }
+        ensures prefix { OnErr result (AppendsPart (W.contents self.old.inner.inner) (W.contents self.new.inner.inner) (take self.old.length self.old.bytes)) }
         ensures empty { self.new.length ≡ 0 }
         ensures cause { HasCause self.old.inner.faults self.new.inner.faults result }
         ensures same { OnOk result (self.new.inner.faults ≡ self.old.inner.faults) }
@@ -74,7 +74,7 @@ impl<W: Write> BufferedSink<W> {
 
     /// Keeps the beginning of a row back, which fits whole.
     #[inline(always)]
-    fn keep_front(&mut self, row: &[u8; 48], count: usize)
+    fn keep_prefix(&mut self, row: &[u8; 48], count: usize)
         requires count { count ≤ 48 }
         requires room { self.old.length + 48 ≤ ROOM }
         ensures kept { take self.new.length self.new.bytes ≡ take self.old.length self.old.bytes ++ take count row.now }
@@ -88,9 +88,9 @@ impl<W: Write> BufferedSink<W> {
     #[tactic(auto, using(crate::proofs::Knowns::part_then, crate::proofs::Knowns::then_part))]
     #[cold]
     #[inline(never)]
-    fn write_behind(&mut self, piece: &[u8]) -> Result<(), Failed>
+    fn write_after(&mut self, piece: &[u8]) -> Result<(), Failed>
         ensures passed { OnOk result (Appends (gathered (W.contents self.old.inner.inner) self.old.bytes self.old.length) (gathered (W.contents self.new.inner.inner) self.new.bytes self.new.length) piece.now) }
-        ensures front { OnErr result (AppendsPart (W.contents self.old.inner.inner) (W.contents self.new.inner.inner) (take self.old.length self.old.bytes ++ piece.now)) }
+        ensures prefix { OnErr result (AppendsPart (W.contents self.old.inner.inner) (W.contents self.new.inner.inner) (take self.old.length self.old.bytes ++ piece.now)) }
         ensures lost { OnErr result (self.new.length ≡ 0) }
         ensures cause { HasCause self.old.inner.faults self.new.inner.faults result }
         ensures same { OnOk result (self.new.inner.faults ≡ self.old.inner.faults) }
@@ -126,34 +126,34 @@ impl<W: Write> Sink for BufferedSink<W> {
     fn write(&mut self, piece: &[u8]) -> Result<(), Failed>
         ensures bytes { Writes None None result piece.now }
         ensures passed { OnOk result (Appends (gathered (W.contents self.old.inner.inner) self.old.bytes self.old.length) (gathered (W.contents self.new.inner.inner) self.new.bytes self.new.length) piece.now) }
-        ensures front { OnErr result (AppendsPart (W.contents self.old.inner.inner) (W.contents self.new.inner.inner) (take self.old.length self.old.bytes ++ piece.now)) }
+        ensures prefix { OnErr result (AppendsPart (W.contents self.old.inner.inner) (W.contents self.new.inner.inner) (take self.old.length self.old.bytes ++ piece.now)) }
         ensures lost { OnErr result (self.new.length ≡ 0) }
         ensures cause { HasCause self.old.inner.faults self.new.inner.faults result }
         ensures same { OnOk result (self.new.inner.faults ≡ self.old.inner.faults) }
         ensures risen { OnErr result (self.new.inner.faults ≡ counted self.old.inner.faults) }
     {
         if piece.len() > ROOM - self.length {
-            return self.write_behind(piece);
+            return self.write_after(piece);
         }
         self.keep(piece);
         Ok(())
     }
 
     #[inline(always)]
-    fn write_front(&mut self, row: &[u8; 48], count: usize) -> Result<(), Failed>
+    fn write_prefix(&mut self, row: &[u8; 48], count: usize) -> Result<(), Failed>
         requires { count ≤ 48 }
         ensures bytes { Writes None None result (take count row.now) }
         ensures passed { OnOk result (Appends (gathered (W.contents self.old.inner.inner) self.old.bytes self.old.length) (gathered (W.contents self.new.inner.inner) self.new.bytes self.new.length) (take count row.now)) }
-        ensures front { OnErr result (AppendsPart (W.contents self.old.inner.inner) (W.contents self.new.inner.inner) (take self.old.length self.old.bytes ++ take count row.now)) }
+        ensures prefix { OnErr result (AppendsPart (W.contents self.old.inner.inner) (W.contents self.new.inner.inner) (take self.old.length self.old.bytes ++ take count row.now)) }
         ensures lost { OnErr result (self.new.length ≡ 0) }
         ensures cause { HasCause self.old.inner.faults self.new.inner.faults result }
         ensures same { OnOk result (self.new.inner.faults ≡ self.old.inner.faults) }
         ensures risen { OnErr result (self.new.inner.faults ≡ counted self.old.inner.faults) }
     {
         if ROOM - self.length < 48 {
-            return self.write_behind(&row[..count]);
+            return self.write_after(&row[..count]);
         }
-        self.keep_front(row, count);
+        self.keep_prefix(row, count);
         Ok(())
     }
 }

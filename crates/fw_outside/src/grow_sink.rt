@@ -74,7 +74,7 @@ impl Sink for GrowSink {
     }
 
     #[inline(always)]
-    fn write_front(&mut self, row: &[u8; 48], count: usize) -> Result<(), Failed>
+    fn write_prefix(&mut self, row: &[u8; 48], count: usize) -> Result<(), Failed>
         requires { count ≤ 48 }
         ensures bytes { Writes (Some self.old.held) (Some self.new.held) result (take count row.now) }
         ensures cause { HasCause self.old.faults self.new.faults result }

@@ -2,7 +2,7 @@ ghost use Rattle.std.specs.Prelude.{ℕ, ◌≡◌, ◌<◌, length, min, Some, 
 ghost use Rattle.std.specs.Io.{ReadsAtMost};
 ghost use Rattle.fw_outside.specs.Outside.{HasCause, Reads};
 
-use crate::{Failed, Source, copy_front};
+use crate::{Failed, Source, copy_prefix};
 use std::marker::Model;
 
 /// A source over bytes in memory, of which no read fails.
@@ -45,7 +45,7 @@ impl Source for ScriptSource {
         ensures succeeds { IsOk result }
         ensures count { IfOk result (λ n. n ≡ min (length into.old) (length self.old)) }
     {
-        let count = copy_front(&self.bytes[self.at..], into);
+        let count = copy_prefix(&self.bytes[self.at..], into);
         self.at += count;
         Ok(count)
     }

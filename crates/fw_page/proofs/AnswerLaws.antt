@@ -1,5 +1,30 @@
 -- An answer that comes later, as a row.
-use Rattle.fw_page.proofs.Common.{◌≡◌, ℕ, Bool, true, List, ◌++◌, Option, Some, None, refl, ap, subst, ◌∙◌, Packet, Request, Standing, Progress, State, Step, row, Front, own_front, Shows, Moves}
+use Rattle.fw_page.proofs.Common.{
+  ◌≡◌,
+  ℕ,
+  Bool,
+  true,
+  List,
+  ◌++◌,
+  Option,
+  Some,
+  None,
+  refl,
+  ap,
+  subst,
+  ◌∙◌,
+  Packet,
+  Request,
+  OutstandingRequest,
+  Progress,
+  State,
+  TextAndState,
+  row,
+  Prefix,
+  own_prefix,
+  Shows,
+  Moves,
+}
 use Rattle.std.specs.Option.{option_map}
 use Rattle.fw_async.specs.Heads.{head_of}
 use Rattle.fw_page_phrases.specs.Asking.{class_of}
@@ -20,23 +45,24 @@ answered_still p between None st = record { number = refl; nodes = refl }
 answered_still p between (Some r) st = record { number = refl; nodes = refl }
 
 -- what its row begins with
-abbrev pub answer_front : Packet → Option Standing → ℕ → State → Front
-answer_front p s cycle st = own_front st.number (class_of (answer_kind s (answer_of p))) (devices_of st.nodes (head_of p).destination (head_of p).source) cycle
+abbrev pub answer_prefix : Packet → Option OutstandingRequest → ℕ → State → Prefix
+answer_prefix p s cycle st = own_prefix st.number (class_of (answer_kind s (answer_of p))) (devices_of st.nodes (head_of p).destination (head_of p).source) cycle
 
 -- what is gathered for its row, by the state before it
-pub record Gathered (cycle : ℕ) (p : Packet) (s : Option Standing) (f : Front) (m w : List ℕ) (mid : Progress) (st : State) : Type 0 where
+pub record Gathered (cycle : ℕ) (p : Packet) (s : Option OutstandingRequest) (f : Prefix) (m w : List ℕ) (mid : Progress) (st : State) : Type 0 where
   pub found : s ≡ standing_for (answer_of p) (head_of p) st.standing
   pub shows : Shows (answered p true (option_map request_of s) st) mid
-  pub front : f ≡ answer_front p s cycle st
+  pub prefix : f ≡ answer_prefix p s cycle st
   pub marks : m ≡ answer_marks st.nodes (head_of p) (told_of p (option_map request_of s))
   pub words : w ≡ answer_words s p
 
-pub answer_done : (cycle : ℕ) (p : Packet) (s : Option Standing) (f : Front) (m w : List ℕ) (old mid new : Progress) (x y : List ℕ) → ((st : State) → Shows st old → Gathered cycle p s f m w mid st)
+pub answer_done : (cycle : ℕ) (p : Packet) (s : Option OutstandingRequest) (f : Prefix) (m w : List ℕ) (old mid new : Progress) (x y : List ℕ)
+    → ((st : State) → Shows st old → Gathered cycle p s f m w mid st)
     → Moves (row f m w None) mid new x y → Moves (answer cycle p) old new x y
 answer_done cycle p s f m w old mid new x y all d = λ st h.
     let g = all st h in
     let q = option_map request_of s in
     let here = answered p true q st in
-    subst (λ (t : Step). (y ≡ x ++ t.text) × Shows t.state new)
-    (row_same here f (answer_front p s cycle st) m (answer_marks st.nodes (head_of p) (told_of p q)) w (answer_words s p) None g.front g.marks g.words
-    ∙ ap (λ (o : Option Standing). answer_to cycle o p st) g.found) (d here g.shows)
+    subst (λ (t : TextAndState). (y ≡ x ++ t.text) × Shows t.state new)
+    (row_same here f (answer_prefix p s cycle st) m (answer_marks st.nodes (head_of p) (told_of p q)) w (answer_words s p) None g.prefix g.marks g.words
+    ∙ ap (λ (o : Option OutstandingRequest). answer_to cycle o p st) g.found) (d here g.shows)

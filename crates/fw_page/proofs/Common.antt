@@ -3,20 +3,20 @@ pub use Rattle.fw_model_account.specs.Account.{Account}
 pub use Rattle.fw_async.specs.Reader.{Spells}
 pub use Rattle.fw_async.specs.declared.packet.Packet.{Packet}
 pub use Rattle.fw_page_content.proofs.TextLaws.{no, put_as, yes}
-pub use Rattle.fw_page_content.specs.Heads.{Front, front_of, own_front, request_front}
+pub use Rattle.fw_page_content.specs.Heads.{Prefix, prefix_of, own_prefix, request_prefix}
 pub use Rattle.fw_page_content.specs.declared.counts.Counts.{Counts}
 pub use Rattle.fw_log_entry.specs.Network.{first_id}
 pub use Rattle.fw_log_entry.specs.declared.nodes.NodeRow.{NodeRow}
 pub use Rattle.fw_page.specs.Requests.{exchange}
-pub use Rattle.fw_page.specs.Rows.{plain_front, row}
+pub use Rattle.fw_page.specs.Rows.{plain_prefix, row}
 pub use Rattle.fw_page.specs.Sheets.{Moves, Shows, painted_of}
-pub use Rattle.fw_page.specs.State.{Asks, State, Step, becomes, then_do, with_entry}
+pub use Rattle.fw_page.specs.State.{Asks, State, TextAndState, becomes, then_do, with_entry}
 pub use Rattle.fw_page.specs.Streams.{channel_row}
-pub use Rattle.fw_page.specs.declared.progress.Held.TheVariants.{Nothing as KeepsNothing, Request as KeepsRequest, Run as KeepsRun}
+pub use Rattle.fw_page.specs.declared.progress.Deferred.TheVariants.{Nothing as KeepsNothing, Request as KeepsRequest, Run as KeepsRun}
 pub use Rattle.fw_page.specs.declared.progress.Progress.{Progress}
 pub use Rattle.fw_page_phrases.specs.declared.request.Request.{Request}
 pub use Rattle.fw_page_phrases.specs.declared.run.Run.{Run}
-pub use Rattle.fw_page_phrases.specs.declared.standing.Standing.{Standing}
+pub use Rattle.fw_page_phrases.specs.declared.standing.OutstandingRequest.{OutstandingRequest}
 pub use Rattle.fw_page_scene.specs.declared.lives.Lives.{Lives}
 pub use Rattle.fw_page_section.proofs.ChainLaws.{three}
 pub use Rattle.fw_page_strip.specs.Drawing.{Painted}

@@ -1,6 +1,6 @@
 -- What a method does if the call at its end is done.
 use Rattle.fw_page.proofs.Common.{◌≡◌, ℕ, ◌<◌, ◌==◌, Bool, true, false, List, ◌++◌, Option, Some, None, Result, if◌then◌else◌, refl, ap, subst, sym, arith, OnOk, Spells, Packet, Request, KeepsNothing}
-use Rattle.fw_page.proofs.Common.{KeepsRequest, KeepsRun, Progress, State, Step, then_do, with_entry, row, Front, exchange, Shows, Moves, three, put_as}
+use Rattle.fw_page.proofs.Common.{KeepsRequest, KeepsRun, Progress, State, TextAndState, then_do, with_entry, row, Prefix, exchange, Shows, Moves, three, put_as}
 use Rattle.std.proofs.Common.{Ok, Err}
 use Rattle.fw_log_entry.specs.declared.codes.event.TheConstants as Codes
 use Rattle.fw_page_scene.specs.Lives.{after_start, after_loss}
@@ -28,26 +28,28 @@ use Rattle.fw_page.proofs.StepLaws.{moves_more, moves_as}
 use Rattle.fw_page.proofs.ReleaseLaws.{joined_no, release_asks, release_runs, packet_alone, packet_answers}
 
 -- a row that is the step
-pub row_done : {T E : Type 0} (r : Result T E) (step : State → Step) (f : Front) (m w : List ℕ) (dot : Option ℕ) (a b : Progress) (x y : List ℕ) → ((st : State) → Shows st a
+pub row_done : {T E : Type 0} (r : Result T E) (step : State → TextAndState) (f : Prefix) (m w : List ℕ) (dot : Option ℕ) (a b : Progress) (x y : List ℕ) → ((st : State) → Shows st a
     → row f m w dot st ≡ step st)
     → OnOk r (Moves (row f m w dot) a b x y) → OnOk r (Moves step a b x y)
 row_done (Ok v) step f m w dot a b x y same d = moves_as (row f m w dot) step a b x y same d
 row_done (Err e) step f m w dot a b x y same d = tt
 
 -- the same, after a change that adds no text
-pub row_after : {T E : Type 0} (r : Result T E) (change : State → State) (step : State → Step) (f : Front) (m w : List ℕ) (dot : Option ℕ) (a mid b : Progress) (x y : List ℕ) → ((st : State)
+pub row_after : {T E : Type 0} (r : Result T E) (change : State → State) (step : State → TextAndState) (f : Prefix) (m w : List ℕ) (dot : Option ℕ) (a mid b : Progress) (x y : List ℕ) → ((st : State)
     → Shows st a → Shows (change st) mid)
     → ((st : State) → Shows st a → row f m w dot (change st) ≡ step st) → OnOk r (Moves (row f m w dot) mid b x y) → OnOk r (Moves step a b x y)
 row_after (Ok v) change step f m w dot a mid b x y shown same d = moves_as (λ st. row f m w dot (change st)) step a b x y same (λ st h. d (change st) (shown st h))
 row_after (Err e) change step f m w dot a mid b x y shown same d = tt
 
 -- one step and then another
-pub then_done : {T E : Type 0} (r : Result T E) (f g : State → Step) (a b c : Progress) (x y z : List ℕ) → Moves f a b x y → OnOk r (Moves g b c y z) → OnOk r (Moves (λ st. then_do (f st) g) a c x z)
+pub then_done : {T E : Type 0} (r : Result T E) (f g : State → TextAndState) (a b c : Progress) (x y z : List ℕ) → Moves f a b x y → OnOk r (Moves g b c y z)
+    → OnOk r (Moves (λ st. then_do (f st) g) a c x z)
 then_done (Ok v) f g a b c x y z d e = moves_more f g a b c x y z d e
 then_done (Err v) f g a b c x y z d e = tt
 
 -- a step by another name
-pub done_as : {T E : Type 0} (r : Result T E) (f g : State → Step) (a b : Progress) (x y : List ℕ) → ((st : State) → Shows st a → f st ≡ g st) → OnOk r (Moves f a b x y) → OnOk r (Moves g a b x y)
+pub done_as : {T E : Type 0} (r : Result T E) (f g : State → TextAndState) (a b : Progress) (x y : List ℕ) → ((st : State) → Shows st a → f st ≡ g st) → OnOk r (Moves f a b x y)
+    → OnOk r (Moves g a b x y)
 done_as (Ok v) f g a b x y same d = moves_as f g a b x y same d
 done_as (Err v) f g a b x y same d = tt
 

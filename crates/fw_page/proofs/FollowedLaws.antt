@@ -42,6 +42,7 @@ follow_shown st old new e stops moves is stays b s h = subst (λ (p : Progress).
   second = h.second;
   lives = h.lives;
   standing = h.standing;
+  bars = h.bars;
   beside = b;
   is_due = due;
   keeps = h.keeps;

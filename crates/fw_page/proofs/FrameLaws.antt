@@ -1,5 +1,28 @@
 -- What a change of one part of what the entries leave does to the state that it stands for.
-use Rattle.fw_page.proofs.Common.{◌≡◌, ℕ, Bool, List, refl, ap, subst, sym, Spells, Packet, Request, Run, Standing, Counts, KeepsNothing, KeepsRequest, KeepsRun, Progress, State, Asks, Shows}
+use Rattle.fw_page.proofs.Common.{
+  ◌≡◌,
+  ℕ,
+  Bool,
+  List,
+  refl,
+  ap,
+  subst,
+  sym,
+  Spells,
+  Packet,
+  Request,
+  Run,
+  OutstandingRequest,
+  Counts,
+  KeepsNothing,
+  KeepsRequest,
+  KeepsRun,
+  Progress,
+  State,
+  Asks,
+  Shows,
+}
+use Rattle.fw_page_scene.specs.Bars.{BarsFor}
 use Rattle.fw_page.specs.State.{Nothing, Runs}
 
 -- ---- one part changes
@@ -14,6 +37,7 @@ last_shown st old new cycle e h = subst (λ (p : Progress). Shows (record st { l
   second = h.second;
   lives = h.lives;
   standing = h.standing;
+  bars = h.bars;
   beside = h.beside;
   is_due = h.is_due;
   keeps = h.keeps;
@@ -35,6 +59,7 @@ begun_shown st old new b e h = subst (λ (p : Progress). Shows (record st { begu
   second = h.second;
   lives = h.lives;
   standing = h.standing;
+  bars = h.bars;
   beside = h.beside;
   is_due = h.is_due;
   keeps = h.keeps;
@@ -56,6 +81,7 @@ due_shown st old new b e h = subst (λ (p : Progress). Shows (record st { is_due
   second = h.second;
   lives = h.lives;
   standing = h.standing;
+  bars = h.bars;
   beside = h.beside;
   is_due = refl;
   keeps = h.keeps;
@@ -77,6 +103,7 @@ number_shown st old new n m e k h = subst (λ (p : Progress). Shows (record st {
   second = h.second;
   lives = h.lives;
   standing = h.standing;
+  bars = h.bars;
   beside = h.beside;
   is_due = h.is_due;
   keeps = h.keeps;
@@ -98,6 +125,7 @@ counts_shown st old new n m e k h = subst (λ (p : Progress). Shows (record st {
   second = h.second;
   lives = h.lives;
   standing = h.standing;
+  bars = h.bars;
   beside = h.beside;
   is_due = h.is_due;
   keeps = h.keeps;
@@ -119,6 +147,7 @@ nothing_shown st old new e h = subst (λ (p : Progress). Shows (record st { held
   second = h.second;
   lives = h.lives;
   standing = h.standing;
+  bars = h.bars;
   beside = h.beside;
   is_due = h.is_due;
   keeps = refl;
@@ -130,10 +159,10 @@ nothing_shown st old new e h = subst (λ (p : Progress). Shows (record st { held
   drawn = h.drawn;
 })
 
--- the requests that stand
-pub standing_shown : (st : State) (old new : Progress) (list : List Standing) → new ≡ record old { standing = new.standing } → new.standing.value ≡ list → Shows st old
-    → Shows (record st { standing = list }) new
-standing_shown st old new list e k h = subst (λ (p : Progress). Shows (record st { standing = list }) p) (sym e) (record {
+-- the outstanding requests
+pub standing_shown : (st : State) (old new : Progress) (list : List OutstandingRequest) → new ≡ record old { standing = new.standing; bars = new.bars } → new.standing.value ≡ list
+    → BarsFor st.nodes list new.bars → Shows st old → Shows (record st { standing = list }) new
+standing_shown st old new list e k b h = subst (λ (p : Progress). Shows (record st { standing = list }) p) (sym e) (record {
   number = h.number;
   last = h.last;
   begun = h.begun;
@@ -141,31 +170,10 @@ standing_shown st old new list e k h = subst (λ (p : Progress). Shows (record s
   second = h.second;
   lives = h.lives;
   standing = k;
+  bars = b;
   beside = h.beside;
   is_due = h.is_due;
   keeps = h.keeps;
-  lines = h.lines;
-  painted = h.painted;
-  edge = h.edge;
-  blank = h.blank;
-  counts = h.counts;
-  drawn = h.drawn;
-})
-
--- a request ends, and nothing is held back
-pub ended_shown : (st : State) (old new : Progress) (list : List Standing) → new ≡ record old { held = KeepsNothing; standing = new.standing } → new.standing.value ≡ list → Shows st old
-    → Shows (record st { held = Nothing; standing = list }) new
-ended_shown st old new list e k h = subst (λ (p : Progress). Shows (record st { held = Nothing; standing = list }) p) (sym e) (record {
-  number = h.number;
-  last = h.last;
-  begun = h.begun;
-  nodes = h.nodes;
-  second = h.second;
-  lives = h.lives;
-  standing = k;
-  beside = h.beside;
-  is_due = h.is_due;
-  keeps = refl;
   lines = h.lines;
   painted = h.painted;
   edge = h.edge;
@@ -186,6 +194,7 @@ asked_shown st old new cycle number asked q p e same k h = subst (λ (x : Progre
   second = h.second;
   lives = h.lives;
   standing = h.standing;
+  bars = h.bars;
   beside = h.beside;
   is_due = h.is_due;
   keeps = (refl, same, refl, k);
@@ -207,6 +216,7 @@ run_shown st old new run e k h = subst (λ (p : Progress). Shows (record st { he
   second = h.second;
   lives = h.lives;
   standing = h.standing;
+  bars = h.bars;
   beside = h.beside;
   is_due = h.is_due;
   keeps = ap Runs (sym k);

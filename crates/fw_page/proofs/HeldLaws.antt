@@ -9,33 +9,33 @@ use Rattle.fw_cip.specs.declared.packet.IsoPacket.{IsoPacket}
 use Rattle.fw_page_phrases.specs.Asking.{request_by}
 use Rattle.fw_page_phrases.specs.Made.{is_answer}
 use Rattle.fw_page_phrases.specs.Runs.{with_start}
-use Rattle.fw_page.specs.declared.progress.Held.{Held as Kept}
-use Rattle.fw_page.specs.State.{Held, Nothing, Runs}
+use Rattle.fw_page.specs.declared.progress.Deferred.{Deferred as Kept}
+use Rattle.fw_page.specs.State.{Deferred, Nothing, Runs}
 use Rattle.fw_page.specs.Streams.{start_joins, packet_joins, taken, held_run}
 use Rattle.fw_page.specs.Pieces.{streamed, released_in_section, asked_or_answer, lone_packet, held_for, packet_by}
 use Rattle.fw_page.specs.Sheets.{KeepsFor}
 
 -- ---- what is kept is what is held back
 
-pub keeps_nothing : (k : Kept) (body : List ℕ) (run : Run) (held : Held) → k ≡ KeepsNothing → KeepsFor k body run held → held ≡ Nothing
+pub keeps_nothing : (k : Kept) (body : List ℕ) (run : Run) (held : Deferred) → k ≡ KeepsNothing → KeepsFor k body run held → held ≡ Nothing
 keeps_nothing k body run held e h = subst (λ (x : Kept). KeepsFor x body run held) e h
 
-pub keeps_run : (k : Kept) (body : List ℕ) (run : Run) (held : Held) → k ≡ KeepsRun → KeepsFor k body run held → held ≡ Runs run
+pub keeps_run : (k : Kept) (body : List ℕ) (run : Run) (held : Deferred) → k ≡ KeepsRun → KeepsFor k body run held → held ≡ Runs run
 keeps_run k body run held e h = subst (λ (x : Kept). KeepsFor x body run held) e h
 
-request_kept : (cycle number : ℕ) (q : Request) (body : List ℕ) (run : Run) (held : Held) → KeepsFor (KeepsRequest cycle number q) body run held
+request_kept : (cycle number : ℕ) (q : Request) (body : List ℕ) (run : Run) (held : Deferred) → KeepsFor (KeepsRequest cycle number q) body run held
     → (p : Packet) × Spells p body × (held ≡ Asks cycle number q p)
 request_kept cycle number q body run Nothing h = absurd h
 request_kept cycle number q body run (Asks since asked r p) h = (p, h.3, let a = h.0 in let b = h.1 in let c = h.2 in cc)
 request_kept cycle number q body run (Runs r) h = absurd h
 
-pub keeps_request : (k : Kept) (cycle number : ℕ) (q : Request) (body : List ℕ) (run : Run) (held : Held) → k ≡ KeepsRequest cycle number q → KeepsFor k body run held
+pub keeps_request : (k : Kept) (cycle number : ℕ) (q : Request) (body : List ℕ) (run : Run) (held : Deferred) → k ≡ KeepsRequest cycle number q → KeepsFor k body run held
     → (p : Packet) × Spells p body × (held ≡ Asks cycle number q p)
 keeps_request k cycle number q body run held e h = request_kept cycle number q body run held (subst (λ (x : Kept). KeepsFor x body run held) e h)
 
 -- the bytes that are kept are those of the request that is held back
-pub asks_spelled : (k : Kept) (body : List ℕ) (run : Run) (held : Held) (since number : ℕ) (q : Request) (p : Packet) → held ≡ Asks since number q p → KeepsFor k body run held → Spells p body
-asks_spelled k body run held since number q p is h = go k (subst (λ (x : Held). KeepsFor k body run x) is h)
+pub asks_spelled : (k : Kept) (body : List ℕ) (run : Run) (held : Deferred) (since number : ℕ) (q : Request) (p : Packet) → held ≡ Asks since number q p → KeepsFor k body run held → Spells p body
+asks_spelled k body run held since number q p is h = go k (subst (λ (x : Deferred). KeepsFor k body run x) is h)
   where
     go : (k : Kept) → KeepsFor k body run (Asks since number q p) → Spells p body
     go KeepsNothing h = absurd (let z : ⊥ = cc in z)
@@ -44,7 +44,7 @@ asks_spelled k body run held since number q p is h = go k (subst (λ (x : Held).
 
 -- ---- a run takes an entry
 
-kept_taken : (k : Kept) (body : List ℕ) (run : Run) (take : Run → Run) (held : Held) → KeepsFor k body run held → KeepsFor k body (take run) (taken take held)
+kept_taken : (k : Kept) (body : List ℕ) (run : Run) (take : Run → Run) (held : Deferred) → KeepsFor k body run held → KeepsFor k body (take run) (taken take held)
 kept_taken KeepsNothing body run take held h = ap (taken take) h
 kept_taken (KeepsRequest cycle number q) body run take Nothing h = absurd h
 kept_taken (KeepsRequest cycle number q) body run take (Asks since asked r p) h = h
@@ -60,6 +60,7 @@ taken_shown st old new take is k h = subst (λ (p : Progress). Shows (held_run t
   second = h.second;
   lives = h.lives;
   standing = h.standing;
+  bars = h.bars;
   beside = h.beside;
   is_due = h.is_due;
   keeps = keeps;
@@ -76,20 +77,20 @@ taken_shown st old new take is k h = subst (λ (p : Progress). Shows (held_run t
 
 -- ---- which entry joins it
 
-pub run_joins_start : (k : Kept) (body : List ℕ) (run : Run) (held : Held) (cycle source : ℕ) → k ≡ KeepsRun → KeepsFor k body run held
+pub run_joins_start : (k : Kept) (body : List ℕ) (run : Run) (held : Deferred) (cycle source : ℕ) → k ≡ KeepsRun → KeepsFor k body run held
     → start_joins cycle source (Runs run) ≡ start_joins cycle source held
 run_joins_start k body run held cycle source e h = ap (start_joins cycle source) (sym (keeps_run k body run held e h))
 
-pub run_joins_packet : (k : Kept) (body : List ℕ) (run : Run) (held : Held) (cycle : ℕ) (p : IsoPacket) → k ≡ KeepsRun → KeepsFor k body run held
+pub run_joins_packet : (k : Kept) (body : List ℕ) (run : Run) (held : Deferred) (cycle : ℕ) (p : IsoPacket) → k ≡ KeepsRun → KeepsFor k body run held
     → packet_joins cycle p (Runs run) ≡ packet_joins cycle p held
 run_joins_packet k body run held cycle p e h = ap (packet_joins cycle p) (sym (keeps_run k body run held e h))
 
-pub none_joins_start : (k : Kept) (body : List ℕ) (run : Run) (held : Held) (cycle source : ℕ) → (k ≡ KeepsRun → ⊥) → KeepsFor k body run held → false ≡ start_joins cycle source held
+pub none_joins_start : (k : Kept) (body : List ℕ) (run : Run) (held : Deferred) (cycle source : ℕ) → (k ≡ KeepsRun → ⊥) → KeepsFor k body run held → false ≡ start_joins cycle source held
 none_joins_start KeepsNothing body run held cycle source n h = sym (ap (start_joins cycle source) h)
 none_joins_start (KeepsRequest c m q) body run held cycle source n h = let w = request_kept c m q body run held h in sym (ap (start_joins cycle source) w.2)
 none_joins_start KeepsRun body run held cycle source n h = absurd (n refl)
 
-pub none_joins_packet : (k : Kept) (body : List ℕ) (run : Run) (held : Held) (cycle : ℕ) (p : IsoPacket) → (k ≡ KeepsRun → ⊥) → KeepsFor k body run held → false ≡ packet_joins cycle p held
+pub none_joins_packet : (k : Kept) (body : List ℕ) (run : Run) (held : Deferred) (cycle : ℕ) (p : IsoPacket) → (k ≡ KeepsRun → ⊥) → KeepsFor k body run held → false ≡ packet_joins cycle p held
 none_joins_packet KeepsNothing body run held cycle p n h = sym (ap (packet_joins cycle p) h)
 none_joins_packet (KeepsRequest c m q) body run held cycle p n h = let w = request_kept c m q body run held h in sym (ap (packet_joins cycle p) w.2)
 none_joins_packet KeepsRun body run held cycle p n h = absurd (n refl)
@@ -117,7 +118,7 @@ lone_is cycle (Lock h offset function bytes) st n = refl
 lone_is cycle (LockReply h rcode function bytes) st n = refl
 
 -- one that answers nothing that is held back
-pub lone_by : (cycle : ℕ) (p : Packet) (held : Held) (st : State) → None ≡ held_for cycle p held → lone_packet cycle p st ≡ packet_by cycle p held st
+pub lone_by : (cycle : ℕ) (p : Packet) (held : Deferred) (st : State) → None ≡ held_for cycle p held → lone_packet cycle p st ≡ packet_by cycle p held st
 lone_by cycle p Nothing st e = refl
 lone_by cycle p (Runs run) st e = refl
 lone_by cycle p (Asks since number q asking) st e = go ((since == cycle) && is_answer p (head_of p) q) e
@@ -127,26 +128,26 @@ lone_by cycle p (Asks since number q asking) st e = go ((since == cycle) && is_a
     go false e = refl
 
 -- the request that is held back, if the packet answers it
-asks_held_for : (k : Kept) (body : List ℕ) (run : Run) (held : Held) (asked number : ℕ) (q : Request) (cycle : ℕ) (p : Packet) → k ≡ KeepsRequest asked number q → KeepsFor k body run held
+asks_held_for : (k : Kept) (body : List ℕ) (run : Run) (held : Deferred) (asked number : ℕ) (q : Request) (cycle : ℕ) (p : Packet) → k ≡ KeepsRequest asked number q → KeepsFor k body run held
     → ◌≡◌ {A = Option (Request × ℕ)} (held_for cycle p held) (if (asked == cycle) && is_answer p (head_of p) q then Some (q, number) else None)
 asks_held_for k body run held asked number q cycle p e h = let w = keeps_request k asked number q body run held e h in ap (held_for cycle p) w.2
 
-pub asks_answered : (k : Kept) (body : List ℕ) (run : Run) (held : Held) (asked number : ℕ) (q : Request) (cycle : ℕ) (p : Packet) → k ≡ KeepsRequest asked number q → KeepsFor k body run held
+pub asks_answered : (k : Kept) (body : List ℕ) (run : Run) (held : Deferred) (asked number : ℕ) (q : Request) (cycle : ℕ) (p : Packet) → k ≡ KeepsRequest asked number q → KeepsFor k body run held
     → ((asked == cycle) && is_answer p (head_of p) q) ≡ true → ◌≡◌ {A = Option (Request × ℕ)} (Some (q, number)) (held_for cycle p held)
 asks_answered k body run held asked number q cycle p e h b = sym (asks_held_for k body run held asked number q cycle p e h ∙ ap (λ x. if x then Some (q, number) else None) b)
 
-pub asks_not_answered : (k : Kept) (body : List ℕ) (run : Run) (held : Held) (asked number : ℕ) (q : Request) (cycle : ℕ) (p : Packet) → k ≡ KeepsRequest asked number q → KeepsFor k body run held
+pub asks_not_answered : (k : Kept) (body : List ℕ) (run : Run) (held : Deferred) (asked number : ℕ) (q : Request) (cycle : ℕ) (p : Packet) → k ≡ KeepsRequest asked number q → KeepsFor k body run held
     → ((asked == cycle) && is_answer p (head_of p) q) ≡ false → ◌≡◌ {A = Option (Request × ℕ)} None (held_for cycle p held)
 asks_not_answered k body run held asked number q cycle p e h b = sym (asks_held_for k body run held asked number q cycle p e h ∙ ap (λ x. if x then Some (q, number) else None) b)
 
-pub none_held_for : (k : Kept) (body : List ℕ) (run : Run) (held : Held) (cycle : ℕ) (p : Packet) → ((c m : ℕ) (q : Request) → k ≡ KeepsRequest c m q → ⊥) → KeepsFor k body run held
+pub none_held_for : (k : Kept) (body : List ℕ) (run : Run) (held : Deferred) (cycle : ℕ) (p : Packet) → ((c m : ℕ) (q : Request) → k ≡ KeepsRequest c m q → ⊥) → KeepsFor k body run held
     → None ≡ held_for cycle p held
 none_held_for KeepsNothing body run held cycle p n h = sym (ap (held_for cycle p) h)
 none_held_for (KeepsRequest c m q) body run held cycle p n h = absurd (n c m q refl)
 none_held_for KeepsRun body run held cycle p n h = sym (ap (held_for cycle p) h)
 
 -- one that answers the request that is held back
-pub exchange_by : (cycle : ℕ) (p : Packet) (held : Held) (st : State) (q : Request) (number : ℕ) → ◌≡◌ {A = Option (Request × ℕ)} (Some (q, number)) (held_for cycle p held)
+pub exchange_by : (cycle : ℕ) (p : Packet) (held : Deferred) (st : State) (q : Request) (number : ℕ) → ◌≡◌ {A = Option (Request × ℕ)} (Some (q, number)) (held_for cycle p held)
     → (since : ℕ) × (asking : Packet) × (held ≡ Asks since number q asking)
     × (exchange cycle number q asking p st ≡ packet_by cycle p held st)
 exchange_by cycle p Nothing st q number e = absurd (let z : ⊥ = cc in z)

@@ -2,6 +2,7 @@ pub mod Common
 pub mod StepLaws
 pub mod PlainLaws
 pub mod FrameLaws
+pub mod StandLaws
 pub mod MovedLaws
 pub mod FollowedLaws
 pub mod RowLaws

@@ -1,5 +1,5 @@
 -- Rows that draw what the last one left, and steps that are done or not.
-use Rattle.fw_page.proofs.Common.{◌≡◌, ℕ, ◌<◌, true, false, List, [], ◌++◌, codes, ap, sym, ◌∙◌, arith, append-nil, three, Progress, State, becomes, plain_front, Shows, Moves, yes, no}
+use Rattle.fw_page.proofs.Common.{◌≡◌, ℕ, ◌<◌, true, false, List, [], ◌++◌, codes, ap, sym, ◌∙◌, arith, append-nil, three, Progress, State, becomes, plain_prefix, Shows, Moves, yes, no}
 use Rattle.std.proofs.Common.{◌≤◌, nat_lt, decimal}
 use Rattle.std.proofs.lemmas.Bool.Decides.{nat_tests}
 use Rattle.fw_page_marks.specs.Small.{millis}
@@ -19,11 +19,11 @@ pub gap_none : (passed : ℕ) (st : State) (t : List ℕ) → passed < 2 → t �
 gap_none passed st t l = sym (append-nil t) ∙ ap (λ (x : List ℕ). t ++ x) (yes (nat_lt passed 2) [] (plain [] (gap_class passed) (decimal passed ++ codes " cycles pass, " ++ millis passed) st)
     (low passed 2 l))
 
-pub gap_said : (passed : ℕ) (st : State) (s t1 t2 t3 t4 t5 : List ℕ) → 2 ≤ passed → t1 ≡ s ++ plain_front [] (gap_class passed) st → t2 ≡ t1 ++ decimal passed → t3 ≡ t2 ++ codes " cycles pass, "
+pub gap_said : (passed : ℕ) (st : State) (s t1 t2 t3 t4 t5 : List ℕ) → 2 ≤ passed → t1 ≡ s ++ plain_prefix [] (gap_class passed) st → t2 ≡ t1 ++ decimal passed → t3 ≡ t2 ++ codes " cycles pass, "
     → t4 ≡ t3 ++ millis passed
     → t5 ≡ t4 ++ plain_back st → t5 ≡ s ++ gap_text passed st
 gap_said passed st s t1 t2 t3 t4 t5 l e1 e2 e3 e4 e5 =
-    three s t1 t4 t5 (plain_front [] (gap_class passed) st) (decimal passed ++ codes " cycles pass, " ++ millis passed) (plain_back st) e1
+    three s t1 t4 t5 (plain_prefix [] (gap_class passed) st) (decimal passed ++ codes " cycles pass, " ++ millis passed) (plain_back st) e1
     (three t1 t2 t3 t4 (decimal passed) (codes " cycles pass, ") (millis passed) e2 e3 e4) e5
     ∙ ap (λ (x : List ℕ). s ++ x) (no (nat_lt passed 2) [] (plain [] (gap_class passed) (decimal passed ++ codes " cycles pass, " ++ millis passed) st) (high passed 2 l))
 

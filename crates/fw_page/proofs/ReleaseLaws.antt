@@ -1,6 +1,6 @@
 -- What was held back comes as it stands alone, and what joins it.
 use Rattle.fw_page.proofs.Common.{◌≡◌, ℕ, Bool, true, false, List, ◌++◌, Option, Some, None, Result, ap, subst, sym, OnOk, Spells, Packet, Request, Run, KeepsNothing, KeepsRequest, KeepsRun, Progress}
-use Rattle.fw_page.proofs.Common.{State, Step, Asks, becomes, then_do, exchange, Shows, Moves, yes, no}
+use Rattle.fw_page.proofs.Common.{State, TextAndState, Asks, becomes, then_do, exchange, Shows, Moves, yes, no}
 use Rattle.std.proofs.Common.{Ok, Err}
 use Rattle.fw_page.specs.State.{Nothing}
 use Rattle.fw_page.specs.Requests.{alone}
@@ -11,7 +11,7 @@ use Rattle.fw_page.proofs.FrameLaws.{nothing_shown}
 use Rattle.fw_page.proofs.HeldLaws.{keeps_nothing, keeps_run, keeps_request, asks_spelled, taken_shown, lone_by, exchange_by}
 
 -- an answer for each packet that some bytes spell, is one for all
-pub on_ok_packets : {T E : Type 0} (r : Result T E) (body : List ℕ) (f : Packet → State → Step) (a b : Progress) (x y : List ℕ) → ((p : Packet) → Spells p body → OnOk r (Moves (f p) a b x y))
+pub on_ok_packets : {T E : Type 0} (r : Result T E) (body : List ℕ) (f : Packet → State → TextAndState) (a b : Progress) (x y : List ℕ) → ((p : Packet) → Spells p body → OnOk r (Moves (f p) a b x y))
     → OnOk r ((p : Packet) → Spells p body → Moves (f p) a b x y)
 on_ok_packets (Ok v) body f a b x y each = each
 on_ok_packets (Err e) body f a b x y each = tt
@@ -29,13 +29,13 @@ pub release_asks : (old mid new : Progress) (cycle number : ℕ) (q : Request) (
 release_asks old mid new cycle number q s t asks is each = λ st h.
     let w = keeps_request old.held cycle number q old.body.items old.run.value st.held asks h.keeps in
     let same : alone cycle number q w.0 (record st { held = Nothing }) ≡ release st = ap (λ x. released x (record st { held = Nothing })) (sym w.2) in
-    subst (λ (x : Step). (t ≡ s ++ x.text) × Shows x.state new) same (each w.0 w.1 (record st { held = Nothing }) (nothing_shown st old mid is h))
+    subst (λ (x : TextAndState). (t ≡ s ++ x.text) × Shows x.state new) same (each w.0 w.1 (record st { held = Nothing }) (nothing_shown st old mid is h))
 
 pub release_runs : (old mid new : Progress) (s t : List ℕ) → old.held ≡ KeepsRun → mid ≡ record old { held = KeepsNothing } → Moves (cycles old.run.value) mid new s t → Moves release old new s t
 release_runs old mid new s t runs is d = λ st h.
     let same : cycles old.run.value (record st { held = Nothing }) ≡ release st = ap (λ x. released x (record st { held = Nothing })) (sym
     (keeps_run old.held old.body.items old.run.value st.held runs h.keeps)) in
-    subst (λ (x : Step). (t ≡ s ++ x.text) × Shows x.state new) same (d (record st { held = Nothing }) (nothing_shown st old mid is h))
+    subst (λ (x : TextAndState). (t ≡ s ++ x.text) × Shows x.state new) same (d (record st { held = Nothing }) (nothing_shown st old mid is h))
 
 -- ---- runs
 
@@ -65,7 +65,7 @@ pub packet_answers : (cycle : ℕ) (p : Packet) (q : Request) (number : ℕ) (ol
     → ((asking : Packet) → Spells asking old.body.items → Moves (exchange cycle number q asking p) old new s t) → Moves (λ st. packet_by cycle p st.held st) old new s t
 packet_answers cycle p q number old new s t some each = λ st h.
     let w = exchange_by cycle p st.held st q number (some st h) in
-    subst (λ (x : Step). (t ≡ s ++ x.text) × Shows x.state new) w.3 (each w.1 (spelled st h w.0 w.1 w.2) st h)
+    subst (λ (x : TextAndState). (t ≡ s ++ x.text) × Shows x.state new) w.3 (each w.1 (spelled st h w.0 w.1 w.2) st h)
   where
     spelled : (st : State) → Shows st old → (since : ℕ) (asking : Packet) → st.held ≡ Asks since number q asking → Spells asking old.body.items
     spelled st h since asking is = asks_spelled old.held old.body.items old.run.value st.held since number q asking is h.keeps

@@ -1,14 +1,42 @@
 -- What a bus reset and events do to what the entries left.
-use Rattle.fw_page.proofs.Common.{◌≡◌, ℕ, ◌+◌, ◌==◌, Bool, true, false, List, [], Option, Some, None, refl, ap, subst, sym, ◌∙◌, Account, NodeRow, first_id, Lives, Painted, Counts, Progress, State}
+use Rattle.fw_page.proofs.Common.{
+  ◌≡◌,
+  ℕ,
+  ◌+◌,
+  ◌==◌,
+  Bool,
+  true,
+  false,
+  List,
+  [],
+  Option,
+  Some,
+  None,
+  refl,
+  ap,
+  subst,
+  sym,
+  ◌∙◌,
+  Account,
+  NodeRow,
+  first_id,
+  Lives,
+  Painted,
+  Counts,
+  OutstandingRequest,
+  Progress,
+  State,
+}
 use Rattle.fw_page.proofs.Common.{then_do, Shows}
 use Rattle.std.proofs.Common.{map}
 use Rattle.fw_log_entry.specs.declared.entry.ResetEntry.{ResetEntry}
 use Rattle.fw_page_marks.specs.Places.{node_of}
 use Rattle.fw_page_phrases.specs.Standing.{given_up}
+use Rattle.fw_page_scene.specs.Bars.{BarsFor}
 use Rattle.fw_page_scene.specs.Lives.{after_reset, after_death}
 use Rattle.fw_page_section.specs.Sections.{section}
 use Rattle.fw_page_section.specs.Subject.{Subject}
-use Rattle.fw_page.specs.declared.rows.Room.{Room}
+use Rattle.fw_page.specs.declared.rows.RowBuffers.{RowBuffers}
 use Rattle.fw_page.specs.declared.sheet.Sheet.{Sheet}
 use Rattle.fw_page.specs.Events.{died, given_up_by}
 use Rattle.fw_page.specs.Resets.{closed, section_step, reset_row, reset_by}
@@ -27,6 +55,7 @@ counted_shown st old new b c n m is second counts h = subst (λ (p : Progress). 
   second = second;
   lives = h.lives;
   standing = h.standing;
+  bars = h.bars;
   beside = h.beside;
   is_due = h.is_due;
   keeps = h.keeps;
@@ -40,10 +69,10 @@ counted_shown st old new b c n m is second counts h = subst (λ (p : Progress). 
 
 -- a new bus
 pub reset_shown : (st : State) (old new : Progress) (columns rows : List NodeRow) (lives : Lives)
-    → new ≡ record old { begun = true; is_moved = true; standing = new.standing; lives = lives; columns = columns }
-    → columns ≡ rows → new.standing.value ≡ [] → lives ≡ after_reset old.lives
+    → new ≡ record old { begun = true; is_moved = true; standing = new.standing; bars = new.bars; lives = lives; columns = columns }
+    → columns ≡ rows → new.standing.value ≡ [] → BarsFor rows [] new.bars → lives ≡ after_reset old.lives
     → Shows st old → Shows (record st { begun = true; nodes = rows; standing = []; lives = after_reset st.lives }) new
-reset_shown st old new columns rows lives is same none hear h = subst (λ (p : Progress). Shows (record st {
+reset_shown st old new columns rows lives is same none bars hear h = subst (λ (p : Progress). Shows (record st {
   begun = true;
   nodes = rows;
   standing = [];
@@ -56,6 +85,7 @@ reset_shown st old new columns rows lives is same none hear h = subst (λ (p : P
   second = h.second;
   lives = hear ∙ ap after_reset h.lives;
   standing = none;
+  bars = bars;
   beside = h.beside;
   is_due = h.is_due;
   keeps = h.keeps;
@@ -92,7 +122,7 @@ same_section e rows before is_first number lanes old resets n cycle left a b f m
     same = λ i. record { entry = e; rows = a i; before = b i; is_first = f i; number = m i; cycle = cycle }
 
 -- the lines that were drawn are left for the next row
-pub lines_left : (st : State) (old new : Progress) (room : Room) (lines : List ℕ) → new ≡ record old { lines = room.lines } → room.lines.items ≡ lines → Shows st old
+pub lines_left : (st : State) (old new : Progress) (room : RowBuffers) (lines : List ℕ) → new ≡ record old { lines = room.lines } → room.lines.items ≡ lines → Shows st old
     → Shows (record st { drawn = record st.drawn { lines = lines } }) new
 lines_left st old new room lines e k h =
     subst (λ (p : Progress). Shows (record st { drawn = record st.drawn { lines = lines } }) p) (sym e) (lines_shown st old (record old { lines = room.lines }) lines refl k h)
@@ -118,6 +148,8 @@ died_alone st old new device _ is lives which none h = subst (λ (p : Progress).
   second = h.second;
   lives = lives ∙ ap (after_death device) h.lives;
   standing = h.standing ∙ ap (λ o. given_up_by o st.standing) (sym none ∙ (which ∙ ap (λ rows. node_of rows device) h.nodes));
+  bars = let stays : given_up_by (node_of st.nodes device) st.standing ≡ st.standing = sym (ap (λ o. given_up_by o st.standing) (sym none ∙ (which ∙ ap (λ rows. node_of rows device) h.nodes))) in
+      subst (λ (l : List OutstandingRequest). BarsFor st.nodes l old.bars) (sym stays) h.bars;
   beside = h.beside;
   is_due = h.is_due;
   keeps = h.keeps;
@@ -129,10 +161,11 @@ died_alone st old new device _ is lives which none h = subst (λ (p : Progress).
   drawn = tt;
 })
 
-pub died_known : (st : State) (old new : Progress) (device : ℕ) (o : Option ℕ) (node : ℕ) → new ≡ record old { lives = new.lives; standing = new.standing; is_moved = true }
+pub died_known : (st : State) (old new : Progress) (device : ℕ) (o : Option ℕ) (node : ℕ) → new ≡ record old { lives = new.lives; standing = new.standing; bars = new.bars; is_moved = true }
     → new.lives ≡ after_death device old.lives → o ≡ node_of old.columns device → o ≡ Some node
-    → new.standing.value ≡ map (given_up (first_id + node)) old.standing.value → Shows st old → Shows (died device st) new
-died_known st old new device o node is lives which some gave h = subst (λ (p : Progress). Shows (died device st) p) (sym is) (record {
+    → new.standing.value ≡ map (given_up (first_id + node)) old.standing.value → ((rows : List NodeRow) (list : List OutstandingRequest) → BarsFor rows list new.bars) → Shows st old
+    → Shows (died device st) new
+died_known st old new device o node is lives which some gave bars h = subst (λ (p : Progress). Shows (died device st) p) (sym is) (record {
   number = h.number;
   last = h.last;
   begun = h.begun;
@@ -140,6 +173,7 @@ died_known st old new device o node is lives which some gave h = subst (λ (p : 
   second = h.second;
   lives = lives ∙ ap (after_death device) h.lives;
   standing = gave ∙ (ap (map (given_up (first_id + node))) h.standing ∙ ap (λ x. given_up_by x st.standing) (sym some ∙ (which ∙ ap (λ rows. node_of rows device) h.nodes)));
+  bars = bars st.nodes (died device st).standing;
   beside = h.beside;
   is_due = h.is_due;
   keeps = h.keeps;

@@ -1,7 +1,8 @@
 -- A row: its text, and what it leaves.
-use Rattle.fw_page.proofs.Common.{◌≡◌, ℕ, not, Bool, true, false, List, [], ◌++◌, codes, Option, refl, ap, subst, sym, ◌∙◌, is_some, Account, NodeRow, Lives, Painted, Progress, State, row, Front}
+use Rattle.fw_page.proofs.Common.{◌≡◌, ℕ, not, Bool, true, false, List, [], ◌++◌, codes, Option, refl, ap, subst, sym, ◌∙◌, is_some, Account, NodeRow, Lives, Painted, Progress, State, row, Prefix}
 use Rattle.fw_page.proofs.Common.{Shows, painted_of}
 use Rattle.fw_page_marks.specs.Shapes.{halves}
+use Rattle.fw_page_scene.specs.Bars.{BarsFor}
 use Rattle.fw_page_scene.specs.Lines.{nodes_text}
 use Rattle.fw_page_section.proofs.ChainLaws.{six}
 use Rattle.fw_page_strip.specs.Drawing.{StaysAs, painted}
@@ -32,8 +33,9 @@ drawn_anew true lives l rows left nodes now e d = tt
 drawn_anew false lives l rows left nodes now e d = (e, d.1)
 
 -- the nodes are drawn
-pub nodes_shown : (st : State) (old new : Progress) → new ≡ record old { nodes = new.nodes } → new.nodes.items ≡ nodes_text st.lives st.followed.account st.nodes → Shows st old → Shows st new
-nodes_shown st old new is e h = subst (λ (p : Progress). Shows st p) (sym is) (record {
+pub nodes_shown : (st : State) (old new : Progress) → new ≡ record old { nodes = new.nodes; bars = new.bars } → new.nodes.items ≡ nodes_text st.lives st.followed.account st.nodes
+    → BarsFor st.nodes st.standing new.bars → Shows st old → Shows st new
+nodes_shown st old new is e b h = subst (λ (p : Progress). Shows st p) (sym is) (record {
   number = h.number;
   last = h.last;
   begun = h.begun;
@@ -41,6 +43,7 @@ nodes_shown st old new is e h = subst (λ (p : Progress). Shows st p) (sym is) (
   second = h.second;
   lives = h.lives;
   standing = h.standing;
+  bars = b;
   beside = h.beside;
   is_due = h.is_due;
   keeps = h.keeps;
@@ -65,6 +68,7 @@ row_left st old drawn painting new lines d p is l = subst (λ (x : Progress). Sh
   second = h.second;
   lives = h.lives;
   standing = h.standing;
+  bars = h.bars;
   beside = h.beside;
   is_due = h.is_due;
   keeps = h.keeps;
@@ -83,19 +87,19 @@ row_left st old drawn painting new lines d p is l = subst (λ (x : Progress). Sh
     whole = is ∙ ap (λ (x : Progress). record x { lines = new.lines; edge = x.second; blank = not (is_some st.followed.account); is_moved = false }) p.rest
 
 -- its text
-pub row_said : (st : State) (old drawn : Progress) (front : Front) (marks words lines : List ℕ) (dot : Option ℕ) (t t1 t2 t3 t4 t5 t6 : List ℕ) → Shows st old → Draws st old drawn lines
-    → t1 ≡ t ++ head_text front old.second
-    → t2 ≡ t1 ++ halves drawn.lines.items lines → t3 ≡ t2 ++ marks → t4 ≡ t3 ++ codes "</svg><p>" → t5 ≡ t4 ++ words → t6 ≡ t5 ++ strip_text dot st → t6 ≡ t ++ row_text front marks words dot st
-row_said st old drawn front marks words lines dot t t1 t2 t3 t4 t5 t6 h d e1 e2 e3 e4 e5 e6 =
-    six t t1 t2 t3 t4 t5 t6 (head_text front st.second) (halves st.drawn.lines (lines_now st)) marks (codes "</svg><p>") words (strip_text dot st)
-    (e1 ∙ ap (λ b. t ++ head_text front b) h.second) (e2 ∙ same d.shows.lines d.lines_are) e3 e4 e5 e6
+pub row_said : (st : State) (old drawn : Progress) (prefix : Prefix) (marks words lines : List ℕ) (dot : Option ℕ) (t t1 t2 t3 t4 t5 t6 : List ℕ) → Shows st old → Draws st old drawn lines
+    → t1 ≡ t ++ head_text prefix old.second
+    → t2 ≡ t1 ++ halves drawn.lines.items lines → t3 ≡ t2 ++ marks → t4 ≡ t3 ++ codes "</svg><p>" → t5 ≡ t4 ++ words → t6 ≡ t5 ++ strip_text dot st → t6 ≡ t ++ row_text prefix marks words dot st
+row_said st old drawn prefix marks words lines dot t t1 t2 t3 t4 t5 t6 h d e1 e2 e3 e4 e5 e6 =
+    six t t1 t2 t3 t4 t5 t6 (head_text prefix st.second) (halves st.drawn.lines (lines_now st)) marks (codes "</svg><p>") words (strip_text dot st)
+    (e1 ∙ ap (λ b. t ++ head_text prefix b) h.second) (e2 ∙ same d.shows.lines d.lines_are) e3 e4 e5 e6
   where
     same : drawn.lines.items ≡ st.drawn.lines → lines ≡ lines_now st → (t1 ++ halves drawn.lines.items lines) ≡ (t1 ++ halves st.drawn.lines (lines_now st))
     same a b = ap (λ x. t1 ++ halves x lines) a ∙ ap (λ x. t1 ++ halves st.drawn.lines x) b
 
 -- a row of what it is made of
-pub row_same : (st : State) (f g : Front) (m n w v : List ℕ) (dot : Option ℕ) → f ≡ g → m ≡ n → w ≡ v → row f m w dot st ≡ row g n v dot st
-row_same st f g m n w v dot a b c = ap (λ (x : Front). row x m w dot st) a ∙ (ap (λ (x : List ℕ). row g x w dot st) b ∙ ap (λ (x : List ℕ). row g n x dot st) c)
+pub row_same : (st : State) (f g : Prefix) (m n w v : List ℕ) (dot : Option ℕ) → f ≡ g → m ≡ n → w ≡ v → row f m w dot st ≡ row g n v dot st
+row_same st f g m n w v dot a b c = ap (λ (x : Prefix). row x m w dot st) a ∙ (ap (λ (x : List ℕ). row g x w dot st) b ∙ ap (λ (x : List ℕ). row g n x dot st) c)
 
 -- what was gathered in an empty list
 pub gathered : (cleared text x : List ℕ) → text ≡ cleared ++ x → cleared ≡ [] → text ≡ x

@@ -1,17 +1,17 @@
 -- One step after another, as methods do them.
-use Rattle.fw_page.proofs.Common.{◌≡◌, ℕ, List, ◌++◌, Result, ap, subst, sym, ◌∙◌, OnOk, append-nil, Progress, State, Step, then_do, becomes, Shows, Moves}
+use Rattle.fw_page.proofs.Common.{◌≡◌, ℕ, List, ◌++◌, Result, ap, subst, sym, ◌∙◌, OnOk, append-nil, Progress, State, TextAndState, then_do, becomes, Shows, Moves}
 use Rattle.std.proofs.Common.{Ok, Err, append_assoc}
 
 -- two steps, one after the other
-pub moves_more : (f g : State → Step) (a b c : Progress) (x y z : List ℕ) → Moves f a b x y → Moves g b c y z → Moves (λ st. then_do (f st) g) a c x z
+pub moves_more : (f g : State → TextAndState) (a b c : Progress) (x y z : List ℕ) → Moves f a b x y → Moves g b c y z → Moves (λ st. then_do (f st) g) a c x z
 moves_more f g a b c x y z d e = λ st h.
     let p = d st h in
     let q = e (f st).state p.1 in
     (q.0 ∙ (ap (λ (t : List ℕ). t ++ (g (f st).state).text) p.0 ∙ append_assoc x (f st).text (g (f st).state).text), q.1)
 
 -- a step that is another one, for each state that is stood for
-pub moves_as : (f g : State → Step) (a b : Progress) (x y : List ℕ) → ((st : State) → Shows st a → f st ≡ g st) → Moves f a b x y → Moves g a b x y
-moves_as f g a b x y same d = λ st h. subst (λ (s : Step). (y ≡ x ++ s.text) × Shows s.state b) (same st h) (d st h)
+pub moves_as : (f g : State → TextAndState) (a b : Progress) (x y : List ℕ) → ((st : State) → Shows st a → f st ≡ g st) → Moves f a b x y → Moves g a b x y
+moves_as f g a b x y same d = λ st h. subst (λ (s : TextAndState). (y ≡ x ++ s.text) × Shows s.state b) (same st h) (d st h)
 
 -- no step
 pub moves_none : (a : Progress) (x : List ℕ) → Moves becomes a a x x
@@ -22,7 +22,7 @@ pub moves_silent : (f : State → State) (a b : Progress) (x : List ℕ) → ((s
 moves_silent f a b x d = λ st h. (sym (append-nil x), d st h)
 
 -- a step after a change that adds no text
-pub moves_after : (change : State → State) (step : State → Step) (old mid new : Progress) (x y : List ℕ) → ((st : State) → Shows st old → Shows (change st) mid) → Moves step mid new x y
+pub moves_after : (change : State → State) (step : State → TextAndState) (old mid new : Progress) (x y : List ℕ) → ((st : State) → Shows st old → Shows (change st) mid) → Moves step mid new x y
     → Moves (λ st. step (change st)) old new x y
 moves_after change step old mid new x y c d = λ st h. d (change st) (c st h)
 

@@ -3,20 +3,21 @@ use Rattle.std.specs.Prelude.{◌≡◌, ℕ, ◌++◌, Bool, true, false, List,
 use Rattle.fw_async.specs.Reader.{Spells}
 use Rattle.fw_log_entry.specs.declared.nodes.NodeRow.{NodeRow}
 use Rattle.fw_model_account.specs.Account.{Account}
+use Rattle.fw_page_scene.specs.Bars.{BarsFor}
 use Rattle.fw_page_scene.specs.Beside.{IsBeside}
 use Rattle.fw_page_scene.specs.Lines.{nodes_text}
 use Rattle.fw_page_scene.specs.declared.lives.Lives.{Lives}
 use Rattle.fw_page_phrases.specs.declared.run.Run.{Run}
-use Rattle.fw_page.specs.declared.progress.Held.{Held as Kept}
-use Rattle.fw_page.specs.declared.progress.Held.TheVariants.{Nothing as KeepsNothing, Request as KeepsRequest, Run as KeepsRun}
+use Rattle.fw_page.specs.declared.progress.Deferred.{Deferred as Kept}
+use Rattle.fw_page.specs.declared.progress.Deferred.TheVariants.{Nothing as KeepsNothing, Request as KeepsRequest, Run as KeepsRun}
 use Rattle.fw_page.specs.declared.progress.Progress.{Progress}
 use Rattle.fw_page.specs.declared.sheet.Sheet.{Sheet}
-use Rattle.fw_page.specs.State.{State, Step, Held, Nothing, Asks, Runs}
+use Rattle.fw_page.specs.State.{State, TextAndState, Deferred, Nothing, Asks, Runs}
 use Rattle.fw_page_strip.specs.Drawing.{Painted, painted}
 use Rattle.fw_page.specs.Rows.{lines_now}
 
 -- what is held back: of a request its bytes, of a run the run
-abbrev pub KeepsFor : Kept → List ℕ → Run → Held → Type 0
+abbrev pub KeepsFor : Kept → List ℕ → Run → Deferred → Type 0
 KeepsFor KeepsNothing body run held = held ≡ Nothing
 KeepsFor (KeepsRequest cycle number request) body run (Asks since asked q p) = (since ≡ cycle) × (asked ≡ number) × (q ≡ request) × Spells p body
 KeepsFor (KeepsRequest cycle number request) body run _ = ⊥
@@ -43,6 +44,7 @@ pub record Shows (st : State) (s : Progress) : Type 0 where
   pub second : s.second ≡ st.second
   pub lives : s.lives ≡ st.lives
   pub standing : s.standing.value ≡ st.standing
+  pub bars : BarsFor st.nodes st.standing s.bars
   pub beside : IsBeside s.account st.followed
   pub is_due : s.is_due ≡ st.is_due
   pub keeps : KeepsFor s.held s.body.items s.run.value st.held
@@ -56,10 +58,10 @@ pub record Shows (st : State) (s : Progress) : Type 0 where
 -- ---- what methods do
 
 -- the step is done: its text was added, and its state is stood for
-abbrev pub Moves : (State → Step) → Progress → Progress → List ℕ → List ℕ → Type 0
+abbrev pub Moves : (State → TextAndState) → Progress → Progress → List ℕ → List ℕ → Type 0
 Moves step old new before after = (st : State) → Shows st old → (after ≡ before ++ (step st).text) × Shows (step st).state new
 
-abbrev pub Does : (State → Step) → Sheet → Sheet → Type 0
+abbrev pub Does : (State → TextAndState) → Sheet → Sheet → Type 0
 Does step old new = Moves step old.progress new.progress old.text.items new.text.items
 
 -- if nothing has moved, this is what is drawn of the nodes
@@ -72,7 +74,7 @@ pub record Draws (st : State) (old new : Progress) (drawn : List ℕ) : Type 0 w
   pub shows : Shows st new
   pub lines_are : drawn ≡ lines_now st
   pub nodes_are : new.nodes.items ≡ nodes_text st.lives st.followed.account st.nodes
-  pub rest : new ≡ record old { nodes = new.nodes }
+  pub rest : new ≡ record old { nodes = new.nodes; bars = new.bars }
 
 -- the strip is drawn of the account, and nothing else has changed
 pub record IsDrawnNow (st : State) (old new : Progress) : Type 0 where

@@ -7,7 +7,7 @@ use Rattle.fw_log_entry.specs.declared.nodes.NodeRow.{NodeRow}
 use Rattle.fw_page_phrases.specs.declared.note.AccountStop.{AccountStop}
 use Rattle.fw_page_phrases.specs.declared.request.Request.{Request}
 use Rattle.fw_page_phrases.specs.declared.run.Run.{Run}
-use Rattle.fw_page_phrases.specs.declared.standing.Standing.{Standing}
+use Rattle.fw_page_phrases.specs.declared.standing.OutstandingRequest.{OutstandingRequest}
 use Rattle.fw_page_scene.specs.declared.lives.Lives.{Lives}
 use Rattle.fw_page_strip.specs.declared.owner.Owner.{Owner}
 use Rattle.fw_page_scene.specs.Followed.{Followed, none_followed, follow}
@@ -17,10 +17,10 @@ use Rattle.fw_page_content.specs.declared.counts.Counts.{Counts}
 use Rattle.fw_page_content.specs.Counts.{next, no_counts}
 
 -- what is held back: a request, whose answer may be the next entry, with its cycle, its number and its packet; or a run of cycles
-pub data Held : Type 0 where
-  Nothing : Held
-  Asks : (cycle : ℕ) → (number : ℕ) → (request : Request) → (packet : Packet) → Held
-  Runs : (run : Run) → Held
+pub data Deferred : Type 0 where
+  Nothing : Deferred
+  Asks : (cycle : ℕ) → (number : ℕ) → (request : Request) → (packet : Packet) → Deferred
+  Runs : (run : Run) → Deferred
 
 -- what the last row left drawn
 pub record Drawn : Type 0 where
@@ -38,10 +38,10 @@ pub record State : Type 0 where
   pub nodes : List NodeRow  -- of the latest bus reset
   pub second : Bool  -- a bus reset that is not the first came, and its second is not over
   pub lives : Lives
-  pub standing : List Standing
+  pub standing : List OutstandingRequest
   pub followed : Followed
   pub is_due : Bool  -- the account has stopped, and no row has told it yet
-  pub held : Held
+  pub held : Deferred
   pub drawn : Drawn
   pub counts : Counts
 
@@ -72,18 +72,18 @@ with_entry e st = record st { followed = follow st.number e st.followed; is_due 
 
 -- ---- a piece, and what it leaves
 
-pub record Step : Type 0 where
+pub record TextAndState : Type 0 where
   pub text : List ℕ
   pub state : State
 
 -- a text that changes nothing
-abbrev pub says : List ℕ → State → Step
+abbrev pub says : List ℕ → State → TextAndState
 says text st = record { text = text; state = st }
 
 -- no text, and another state
-abbrev pub becomes : State → Step
+abbrev pub becomes : State → TextAndState
 becomes st = record { text = []; state = st }
 
 -- one step, and then another
-abbrev pub then_do : Step → (State → Step) → Step
+abbrev pub then_do : TextAndState → (State → TextAndState) → TextAndState
 then_do s next = record { text = s.text ++ (next s.state).text; state = (next s.state).state }

@@ -11,7 +11,7 @@ use Rattle.fw_page_phrases.specs.Runs.{flow_at, joins_start, joins_packet}
 use Rattle.fw_page_phrases.specs.declared.run.Flow.{Flow}
 use Rattle.fw_page_phrases.specs.declared.run.Run.{Run}
 use Rattle.fw_page_scene.specs.Lines.{hears_by}
-use Rattle.fw_page.specs.State.{State, Step, Held, Nothing, Asks, Runs, becomes, then_do}
+use Rattle.fw_page.specs.State.{State, TextAndState, Deferred, Nothing, Asks, Runs, becomes, then_do}
 use Rattle.fw_page.specs.Rows.{row}
 use Rattle.fw_page_content.specs.Heads.{classes_of}
 use Rattle.fw_page.specs.declared.ears.Reach.{Reach}
@@ -80,41 +80,41 @@ abbrev pub starts_marks : List NodeRow → Run → List ℕ
 starts_marks rows run = if run.starts == 0 then [] else mark (codes "iso") (place_of_id rows run.source) (codes " 12h0")
 
 -- the row of the cycles of a run
-abbrev pub starts : Run → State → Step
+abbrev pub starts : Run → State → TextAndState
 starts run st =
     row (record { is_anchor = true; classes = classes_of (codes "st") [] (starter st.nodes run, None); number = run.number; cycle = run.first })
     (starts_marks st.nodes run) (cycles_text run) None st
 
 -- the row of a channel, if it has packets in the run
-abbrev pub channel_row : Run → ℕ → Option Flow → State → Step
+abbrev pub channel_row : Run → ℕ → Option Flow → State → TextAndState
 channel_row run channel None st = becomes st
 channel_row run channel (Some f) st =
     row (record { is_anchor = false; classes = classes_of (codes "st") [] (device_of st.nodes (first_id + f.cip.sid), None); number = run.number; cycle = run.last })
     (flow_marks st.followed.account st.nodes channel f) (flow_text channel f) (Some channel) st
 
 -- the rows of the channels below n
-unfoldable pub channel_rows : Run → ℕ → State → Step
+unfoldable pub channel_rows : Run → ℕ → State → TextAndState
 channel_rows run zero st = becomes st
 channel_rows run (suc n) st = then_do (channel_rows run n st) (channel_row run n (flow_at run n))
 
 -- the rows of a run
-abbrev pub cycles : Run → State → Step
+abbrev pub cycles : Run → State → TextAndState
 cycles run st = then_do (then_do (starts run st) (λ s. becomes (record s { last = run.last }))) (channel_rows run 64)
 
 -- ---- what joins the run that is held back
 
-abbrev pub start_joins : ℕ → ℕ → Held → Bool
+abbrev pub start_joins : ℕ → ℕ → Deferred → Bool
 start_joins cycle source Nothing = false
 start_joins cycle source (Asks c m q p) = false
 start_joins cycle source (Runs run) = joins_start run cycle source
 
-abbrev pub packet_joins : ℕ → IsoPacket → Held → Bool
+abbrev pub packet_joins : ℕ → IsoPacket → Deferred → Bool
 packet_joins cycle p Nothing = false
 packet_joins cycle p (Asks c m q asking) = false
 packet_joins cycle p (Runs run) = joins_packet run cycle p
 
 -- the run that is held back, after this
-abbrev pub taken : (Run → Run) → Held → Held
+abbrev pub taken : (Run → Run) → Deferred → Deferred
 taken take Nothing = Nothing
 taken take (Asks c m q p) = Asks c m q p
 taken take (Runs run) = Runs (take run)

@@ -14,7 +14,7 @@ impl Sheet {
     ghost use Rattle.fw_page.specs.Requests.{answer};
     ghost use Rattle.fw_page.specs.Sheets.{Does};
 
-    /// Adds the row of an answer, to the request that stands and that it answers, if there is one.
+    /// Adds the row of an answer, to the outstanding request and that it answers, if there is one.
     pub(crate) fn put_response(&mut self, t: &Timed, p: &Packet) -> Result<(), AllocError>
         requires fits { Fits t.now.what }
         requires is { t.now.what ≡ AnEntry.Async p.now }

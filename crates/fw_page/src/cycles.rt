@@ -93,7 +93,7 @@ impl Sheet {
         put_starts_marks(&mut self.marks, &self.progress.columns, run)?;
         put_cycles(&mut self.words, &self.room.pairs, run)?;
         let devices = (starter(&self.progress.columns, run), None);
-        let head = RowHead::own("st", devices, run.number, run.first);
+        let head = RowHead::of_own_entry("st", devices, run.number, run.first);
         self.put_row(head, None)
     }
 

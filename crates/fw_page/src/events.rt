@@ -6,8 +6,8 @@ use fw_log_entry::codes::event;
 use fw_log_entry::{EventEntry, OutcomeEntry, ShownEntry, Timed};
 use fw_log_names::put_word;
 use fw_page_content::{
-    FIRST_NODE, event_device, event_symbol, outcome_symbol, put_dropped, put_event_front, put_left,
-    put_not_taken, put_outcome_words, put_shown_words, put_symbol,
+    FIRST_NODE, event_device, event_symbol, outcome_symbol, put_dropped, put_event_prefix,
+    put_left, put_not_taken, put_outcome_words, put_shown_words, put_symbol,
 };
 use std::alloc::AllocError;
 
@@ -41,6 +41,7 @@ impl Progress {
             return;
         };
         self.standing.give_up(FIRST_NODE + node as u16);
+        self.bars.forget();
     }
 
     // What an event does to what is drawn, but for the account.
@@ -140,7 +141,7 @@ impl Sheet {
     {
         self.marks.clear();
         self.words.clear();
-        put_event_front(&mut self.words, e)?;
+        put_event_prefix(&mut self.words, e)?;
         self.progress.put_more(&mut self.words, e)?;
         put_word(&mut self.words, "</small>")?;
         put_symbol(

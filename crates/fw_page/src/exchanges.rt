@@ -1,6 +1,6 @@
 //! Requests and their answers, as rows.
 
-use crate::progress::Held;
+use crate::progress::Deferred;
 use crate::sheet::Sheet;
 use fw_async::Packet;
 use fw_log_entry::Timed;
@@ -17,7 +17,7 @@ impl Sheet {
     ghost use Rattle.fw_page.specs.Requests.{asked, alone, exchange};
     ghost use Rattle.fw_page.specs.Sheets.{Does};
 
-    /// A request stands, and is held back with its bytes.
+    /// A request is outstanding, and is held back with its bytes.
     pub(crate) fn ask(
         &mut self,
         t: &Timed,
@@ -29,11 +29,11 @@ impl Sheet {
         ensures { (p : AnyPacket) → t.now.what ≡ AnEntry.Async p → OnOk result (Does (asked t.now.cycle request p) self.old self.new) }
     {
         let progress = &mut self.progress;
-        progress.standing.ask(request, progress.number);
+        progress.stand(request);
         progress.follow(&t.what);
         progress.body.clear();
         progress.body.extend_from_slice(bytes)?;
-        progress.held = Held::Request {
+        progress.held = Deferred::Request {
             cycle: t.cycle,
             number: progress.number,
             request,

@@ -1,6 +1,6 @@
 //! Asynchronous packets, by what is held back.
 
-use crate::progress::Held;
+use crate::progress::Deferred;
 use crate::sheet::Sheet;
 use fw_async::{Head, Packet};
 use fw_log_entry::Timed;
@@ -22,7 +22,7 @@ impl Sheet {
         requires { head.now ≡ head_of p.now }
         ensures { (st : State) → Shows st self.now.progress → result ≡ held_for cycle p.now st.held }
     {
-        let Held::Request {
+        let Deferred::Request {
             cycle: asked,
             number,
             request,

@@ -1,7 +1,7 @@
 //! Rows that draw what the last one left: the cycles that pass, and notes; and the section before the first bus reset.
 
 ghost use Rattle.std.specs.Prelude.{◌≡◌, ◌++◌, OnOk};
-ghost use Rattle.fw_page.specs.Rows.{strip_front, gap_class};
+ghost use Rattle.fw_page.specs.Rows.{strip_opening, gap_class};
 
 use crate::progress::Progress;
 use fw_log_names::{Pairs, put_number, put_word};
@@ -25,8 +25,8 @@ fn gap_class(cycles: u64) -> &'static str
 }
 
 /// Appends the beginning of a strip, after the end of the words of its row.
-pub(crate) fn put_strip_front(text: &mut Vec<u8>, blank: bool) -> Result<(), AllocError>
-    ensures { OnOk result (text.new.items ≡ text.old.items ++ strip_front blank) }
+pub(crate) fn put_strip_prefix(text: &mut Vec<u8>, blank: bool) -> Result<(), AllocError>
+    ensures { OnOk result (text.new.items ≡ text.old.items ++ strip_opening blank) }
 {
     put_word(
         text,
@@ -41,7 +41,7 @@ pub(crate) fn put_strip_front(text: &mut Vec<u8>, blank: bool) -> Result<(), All
 impl Progress {
     ghost use Rattle.std.specs.Prelude.{◌≡◌, ◌++◌, OnOk};
     ghost use Rattle.fw_page.specs.State.{State};
-    ghost use Rattle.fw_page.specs.Rows.{plain_front, plain_back, gap_text, gap, before, before_text, due_words, due};
+    ghost use Rattle.fw_page.specs.Rows.{plain_prefix, plain_back, gap_text, gap, before, before_text, due_words, due};
     ghost use Rattle.fw_page.specs.Sheets.{Shows, Moves};
 
     /// Begins a row that draws what the last one left, up to its words.
@@ -51,7 +51,7 @@ impl Progress {
         anchor: &str,
         class: &str,
     ) -> Result<(), AllocError>
-        ensures { (st : State) → Shows st self.now → OnOk result (text.new.items ≡ text.old.items ++ plain_front anchor.now class.now st) }
+        ensures { (st : State) → Shows st self.now → OnOk result (text.new.items ≡ text.old.items ++ plain_prefix anchor.now class.now st) }
     {
         put_word(text, "<li")?;
         put_word(text, anchor)?;
@@ -67,7 +67,7 @@ impl Progress {
     pub(crate) fn close_plain(&self, text: &mut Vec<u8>) -> Result<(), AllocError>
         ensures { (st : State) → Shows st self.now → OnOk result (text.new.items ≡ text.old.items ++ plain_back st) }
     {
-        put_strip_front(text, self.blank)?;
+        put_strip_prefix(text, self.blank)?;
         text.extend_from_slice(self.strip.lanes())?;
         put_word(text, "</svg></li>\n")
     }

@@ -1,18 +1,18 @@
 //! What the entries that were taken leave for the next ones.
 
-use fw_async::{Packet, read_packet};
+use fw_async::{Head, Packet, read_packet};
 use fw_log_entry::Entry;
 use fw_log_explain::head_of;
 use fw_page_content::{Counts, RowHead};
 use fw_page_marks::Columns;
-use fw_page_phrases::{Request, Requests, Run, Standing, answer_of, made};
-use fw_page_scene::{Account, Lives};
+use fw_page_phrases::{OutstandingRequest, Request, Requests, Run, answer_of, made};
+use fw_page_scene::{Account, Bars, Lives};
 use fw_page_strip::Strip;
 use std::alloc::{AllocError, Global};
 
 /// What is held back: it comes with a later piece.
 #[derive(Clone, Copy)]
-pub(crate) enum Held {
+pub(crate) enum Deferred {
     /// Nothing.
     Nothing,
     /// A request, whose answer may be the next entry: its cycle and its number. Its bytes are the `body` beside it.
@@ -38,10 +38,12 @@ pub(crate) struct Progress {
     pub(crate) second: bool,
     pub(crate) lives: Lives,
     pub(crate) standing: Box<Requests>,
+    // The bars of those that wait.
+    pub(crate) bars: Bars,
     pub(crate) account: Account,
     // The account has stopped, and no row has told it yet.
     pub(crate) is_due: bool,
-    pub(crate) held: Held,
+    pub(crate) held: Deferred,
     pub(crate) body: Vec<u8>,
     pub(crate) run: Box<Run>,
     // What is drawn of the nodes or of the account may have changed since the last row.
@@ -64,9 +66,9 @@ impl Progress {
     ghost use Rattle.fw_log_entry.specs.Log.{Fits};
     ghost use Rattle.fw_log_entry.specs.declared.entry.Entry.{Entry as AnEntry};
     ghost use Rattle.fw_page_phrases.specs.Made.{answer_of};
-    ghost use Rattle.fw_page_phrases.specs.Standing.{standing_for};
+    ghost use Rattle.fw_page_phrases.specs.Standing.{standing_for, with_request, without};
     ghost use Rattle.fw_page.specs.State.{State, first_state, with_entry};
-    ghost use Rattle.fw_page_content.specs.Heads.{devices_of, front_of, own_front, request_front};
+    ghost use Rattle.fw_page_content.specs.Heads.{devices_of, prefix_of, own_prefix, request_prefix};
     ghost use Rattle.std.specs.Option.{option_copied, option_map};
     ghost use Rattle.fw_page.specs.Requests.{ended, counted};
     ghost use Rattle.fw_page_content.specs.Exchanges.{request_of};
@@ -84,9 +86,10 @@ impl Progress {
             second: false,
             lives: Lives::new(),
             standing: Box::new(alloc, Requests::new())?,
+            bars: Bars::new(alloc),
             account: Account::new(alloc)?,
             is_due: false,
-            held: Held::Nothing,
+            held: Deferred::Nothing,
             body: Vec::new(alloc),
             run: Box::new(alloc, Run::new(0, 0))?,
             is_moved: true,
@@ -141,7 +144,7 @@ impl Progress {
         number: u64,
         cycle: u64,
     ) -> RowHead
-        ensures { front_of result ≡ request_front self.now.columns is_anchor request.now more.now number cycle }
+        ensures { prefix_of result ≡ request_prefix self.now.columns is_anchor request.now more.now number cycle }
     {
         RowHead {
             is_anchor,
@@ -160,25 +163,53 @@ impl Progress {
         devices: (Option<u8>, Option<u8>),
         cycle: u64,
     ) -> RowHead
-        ensures { front_of result ≡ own_front self.now.number class.now devices cycle }
+        ensures { prefix_of result ≡ own_prefix self.now.number class.now devices cycle }
     {
-        RowHead::own(class, devices, self.number, cycle)
+        RowHead::of_own_entry(class, devices, self.number, cycle)
+    }
+
+    /// A request stands from the present entry on.
+    pub(crate) fn stand(&mut self, request: Request)
+        ensures shows { (st : State) → Shows st self.old → Shows (record st { standing = with_request request st.number st.standing }) self.new }
+        ensures rest { self.new ≡ record self.old { standing = self.new.standing; bars = self.new.bars } }
+    {
+        let before = self.standing.as_slice().len();
+        self.standing.ask(request, self.number);
+        let after = self.standing.as_slice().len();
+        // If it took the place of another one, bars of others may have changed.
+        if after != before + 1 {
+            self.bars.forget();
+        }
+    }
+
+    // Ends the request that a response answers, and answers it, if one that stands is it.
+    fn end_standing(&mut self, p: &Packet, head: &Head) -> Option<OutstandingRequest>
+        ensures found { (st : State) → Shows st self.old → result ≡ standing_for (answer_of p.now) head.now st.standing }
+        ensures shows { (st : State) → Shows st self.old → Shows (record st { standing = without (answer_of p.now) head.now st.standing }) self.new }
+        ensures rest { self.new ≡ record self.old { standing = self.new.standing; bars = self.new.bars } }
+    {
+        let Some(at) = self.standing.place(p, head) else {
+            return None;
+        };
+        let standing = self.standing.end_at(at);
+        self.bars.end(&self.columns, at, &standing);
+        Some(standing)
     }
 
     /// Takes a response: ends the request that it answers, and answers it, if one that stands is it. Nothing is held back then.
-    pub(crate) fn end_request(&mut self, e: &Entry, p: &Packet) -> Option<Standing>
+    pub(crate) fn end_request(&mut self, e: &Entry, p: &Packet) -> Option<OutstandingRequest>
         requires fits { Fits e.now }
         requires is { e.now ≡ AnEntry.Async p.now }
         ensures found { (st : State) → Shows st self.old → result ≡ standing_for (answer_of p.now) (head_of p.now) st.standing }
         ensures shows { (st : State) → Shows st self.old → Shows (ended p.now st) self.new }
     {
-        self.held = Held::Nothing;
-        let standing = self.standing.take(p, &head_of(p));
+        let standing = self.end_standing(p, &head_of(p));
+        self.held = Deferred::Nothing;
         self.follow(e);
         standing
     }
 
-    /// Counts an answer to a request that stood.
+    /// Counts an answer to a request that was outstanding.
     pub(crate) fn count_answer(&mut self, p: &Packet, request: &Request, between: bool)
         ensures { (st : State) → Shows st self.old → Shows (counted p.now between (Some request.now) st) self.new }
     {
@@ -187,7 +218,7 @@ impl Progress {
     }
 
     /// Counts an answer that came later, if the request stood that it answers.
-    pub(crate) fn count_later(&mut self, p: &Packet, standing: Option<&Standing>)
+    pub(crate) fn count_later(&mut self, p: &Packet, standing: Option<&OutstandingRequest>)
         ensures { (st : State) → Shows st self.old → Shows (counted p.now true (option_map request_of (option_copied standing.entry)) st) self.new }
     {
         match standing {

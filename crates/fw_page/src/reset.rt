@@ -6,7 +6,7 @@ use fw_log_entry::{ResetEntry, Timed};
 use fw_log_names::put_word;
 use fw_page_content::{RowHead, put_account, put_dropped_marks, put_dropped_words, put_orphans};
 use fw_page_marks::Columns;
-use fw_page_phrases::Standing;
+use fw_page_phrases::OutstandingRequest;
 use fw_page_section::Section;
 use std::alloc::AllocError;
 use std::mem;
@@ -32,6 +32,7 @@ impl Progress {
         self.begun = true;
         self.is_moved = true;
         self.standing.clear();
+        self.bars.forget();
         self.lives.hear();
         mem::replace(&mut self.columns, Columns::of(e.nodes.as_slice()))
     }
@@ -46,7 +47,7 @@ impl Sheet {
     ghost use Rattle.fw_page.specs.Resets.{drop_row, drop_by, drops, closed, section_step, reset_row, reset_by};
 
     // Adds the row of a request that a bus reset drops.
-    fn put_drop(&mut self, cycle: u64, s: &Standing) -> Result<(), AllocError>
+    fn put_drop(&mut self, cycle: u64, s: &OutstandingRequest) -> Result<(), AllocError>
         ensures does { OnOk result (Does (drop_row cycle s.now) self.old self.new) }
         ensures standing { OnOk result (self.new.progress.standing ≡ self.old.progress.standing) }
     {
@@ -62,7 +63,7 @@ impl Sheet {
     }
 
     // The same, if it waits.
-    fn put_drop_by(&mut self, cycle: u64, s: &Standing) -> Result<(), AllocError>
+    fn put_drop_by(&mut self, cycle: u64, s: &OutstandingRequest) -> Result<(), AllocError>
         ensures does { OnOk result (Does (drop_by cycle s.now) self.old self.new) }
         ensures standing { OnOk result (self.new.progress.standing ≡ self.old.progress.standing) }
     {
@@ -72,11 +73,12 @@ impl Sheet {
         self.put_drop(cycle, s)
     }
 
-    // Drops all requests that stand, each that waits in a row, the oldest first.
+    // Drops all outstanding requests, each that waits in a row, the oldest first.
     fn put_drops(&mut self, cycle: u64) -> Result<(), AllocError>
         ensures { OnOk result (Does (λ st. drops cycle st.standing st) self.old self.new) }
     {
         while let Some(standing) = self.progress.standing.take_first() {
+            self.progress.bars.forget();
             self.put_drop_by(cycle, &standing)?;
         }
         Ok(())

@@ -7,7 +7,7 @@ ghost use Rattle.fw_page_strip.specs.Drawing.{LedgerFor};
 ghost use Rattle.fw_page_scene.specs.Lines.{nodes_text};
 ghost use Rattle.fw_page.specs.Sheets.{StayNodes};
 
-use crate::plain::put_strip_front;
+use crate::plain::put_strip_prefix;
 use crate::progress::Progress;
 use fw_log_names::{Pairs, put_word};
 use fw_page_content::{RowHead, put_head};
@@ -18,16 +18,16 @@ use std::mem;
 
 /// Room for what a row is made of, and what its parts are written with.
 #[derive(Drop)]
-pub(crate) struct Room {
+pub(crate) struct RowBuffers {
     pub(crate) pairs: Pairs,
     pub(crate) shapes: Vec<u8>,
     // What the next row draws over the columns.
     pub(crate) lines: Vec<u8>,
 }
 
-impl Room {
-    pub(crate) fn new(alloc: Global) -> Room {
-        Room {
+impl RowBuffers {
+    pub(crate) fn new(alloc: Global) -> RowBuffers {
+        RowBuffers {
             pairs: Pairs::new(),
             shapes: Vec::new(alloc),
             lines: Vec::new(alloc),
@@ -59,11 +59,11 @@ impl Progress {
     ghost use Rattle.fw_page_scene.specs.Followed.{Followed};
     ghost use Rattle.fw_page.specs.State.{State};
     ghost use Rattle.fw_page.specs.Rows.{strip_text, bare_row, drawn_now, row, lines_now};
-    ghost use Rattle.fw_page_content.specs.Heads.{front_of};
+    ghost use Rattle.fw_page_content.specs.Heads.{prefix_of};
     ghost use Rattle.fw_page.specs.Sheets.{Shows, Moves, Draws, IsDrawnNow};
 
     /// Draws the lines of the state as it is, for the next row.
-    pub(crate) fn draw_lines(&mut self, room: &mut Room) -> Result<(), AllocError>
+    pub(crate) fn draw_lines(&mut self, room: &mut RowBuffers) -> Result<(), AllocError>
         ensures draws { (st : State) → Shows st self.old → OnOk result (Draws st self.old self.new room.new.lines.items) }
         ensures run { OnOk result (self.new.run ≡ self.old.run) }
         ensures standing { OnOk result (self.new.standing ≡ self.old.standing) }
@@ -72,12 +72,13 @@ impl Progress {
             columns: &self.columns,
             lives: &self.lives,
             ledger: self.account.ledger(),
-            standing: self.standing.as_slice(),
         };
         draw_nodes(&mut self.nodes, &mut room.shapes, &scene, self.is_moved)?;
+        self.bars.draw(&self.columns, self.standing.as_slice())?;
         room.lines.clear();
         room.lines.extend_from_slice(&self.nodes)?;
-        scene.put_bars(&mut room.lines)
+        room.lines.extend_from_slice(self.bars.as_slice())?;
+        Ok(())
     }
 
     // Appends the strip of a row, with a dot on a channel if one is given, and its end. What it draws is drawn then.
@@ -86,21 +87,21 @@ impl Progress {
         ensures run { OnOk result (self.new.run ≡ self.old.run) }
         ensures standing { OnOk result (self.new.standing ≡ self.old.standing) }
     {
-        put_strip_front(text, self.account.ledger().is_none())?;
+        put_strip_prefix(text, self.account.ledger().is_none())?;
         self.strip
             .put(text, self.account.ledger(), self.is_moved, dot)?;
         put_word(text, "</svg></li>\n")
     }
 
     /// What was drawn for a row is what the last row left.
-    pub(crate) fn leave_lines(&mut self, room: &mut Room)
+    pub(crate) fn leave_lines(&mut self, room: &mut RowBuffers)
         ensures { self.new ≡ record self.old { lines = room.old.lines } }
     {
         mem::swap(&mut self.lines, &mut room.lines);
     }
 
     // A row was drawn: it is what the next one comes after.
-    fn leave_row(&mut self, room: &mut Room)
+    fn leave_row(&mut self, room: &mut RowBuffers)
         ensures left { (f : Followed) → IsBeside self.old.account f
             → self.new ≡ record self.old { lines = room.old.lines; edge = self.old.second; blank = not (is_some f.account); is_moved = false } }
         ensures run { self.new.run ≡ self.old.run }
@@ -116,13 +117,13 @@ impl Progress {
     fn put_bare_row(
         &mut self,
         text: &mut Vec<u8>,
-        room: &mut Room,
+        room: &mut RowBuffers,
         marks: &[u8],
         words: &[u8],
         head: RowHead,
         dot: Option<u8>,
     ) -> Result<(), AllocError>
-        ensures moves { OnOk result (Moves (bare_row (front_of head) marks.now words.now dot) self.old self.new text.old.items text.new.items) }
+        ensures moves { OnOk result (Moves (bare_row (prefix_of head) marks.now words.now dot) self.old self.new text.old.items text.new.items) }
         ensures run { OnOk result (self.new.run ≡ self.old.run) }
         ensures standing { OnOk result (self.new.standing ≡ self.old.standing) }
     {
@@ -142,13 +143,13 @@ impl Progress {
     pub(crate) fn put_row(
         &mut self,
         text: &mut Vec<u8>,
-        room: &mut Room,
+        room: &mut RowBuffers,
         marks: &[u8],
         words: &[u8],
         head: RowHead,
         dot: Option<u8>,
     ) -> Result<(), AllocError>
-        ensures moves { OnOk result (Moves (row (front_of head) marks.now words.now dot) self.old self.new text.old.items text.new.items) }
+        ensures moves { OnOk result (Moves (row (prefix_of head) marks.now words.now dot) self.old self.new text.old.items text.new.items) }
         ensures run { OnOk result (self.new.run ≡ self.old.run) }
         ensures standing { OnOk result (self.new.standing ≡ self.old.standing) }
     {

@@ -1,7 +1,7 @@
 //! A page, entry by entry.
 
-use crate::progress::{Held, Progress};
-use crate::rows::Room;
+use crate::progress::{Deferred, Progress};
+use crate::rows::RowBuffers;
 use fw_cip::IsoPacket;
 use fw_log_entry::{Entry, Timed};
 use fw_page_content::{RowHead, next};
@@ -20,7 +20,7 @@ pub struct Sheet {
     // The marks and the words of a row, as they are gathered.
     pub(crate) marks: Vec<u8>,
     pub(crate) words: Vec<u8>,
-    pub(crate) room: Room,
+    pub(crate) room: RowBuffers,
     // What the latest section says: mostly the next one says the same.
     pub(crate) sections: Sections,
     pub(crate) progress: Progress,
@@ -32,7 +32,7 @@ impl Sheet {
     ghost use Rattle.fw_page_phrases.specs.Runs.{with_start, with_packet};
     ghost use Rattle.fw_page.specs.State.{State, first_state};
     ghost use Rattle.fw_page.specs.Rows.{row};
-    ghost use Rattle.fw_page_content.specs.Heads.{front_of};
+    ghost use Rattle.fw_page_content.specs.Heads.{prefix_of};
     ghost use Rattle.fw_page.specs.Pieces.{piece, release, released_in_section, begun_run, joined, streamed, piece_of};
     ghost use Rattle.fw_page.specs.Streams.{start_joins, packet_joins};
     ghost use Rattle.fw_page.specs.Sheets.{Shows, Does};
@@ -47,7 +47,7 @@ impl Sheet {
             text: Vec::with_capacity(alloc, TEXT_ROOM)?,
             marks: Vec::new(alloc),
             words: Vec::new(alloc),
-            room: Room::new(alloc),
+            room: RowBuffers::new(alloc),
             sections: Sections::new(alloc)?,
             progress: Progress::new(alloc)?,
         })
@@ -70,7 +70,7 @@ impl Sheet {
 
     /// Adds a row with the marks and the words that were gathered.
     pub(crate) fn put_row(&mut self, head: RowHead, dot: Option<u8>) -> Result<(), AllocError>
-        ensures does { OnOk result (Does (row (front_of head) self.old.marks.items self.old.words.items dot) self.old self.new) }
+        ensures does { OnOk result (Does (row (prefix_of head) self.old.marks.items self.old.words.items dot) self.old self.new) }
         ensures run { OnOk result (self.new.progress.run ≡ self.old.progress.run) }
         ensures standing { OnOk result (self.new.progress.standing ≡ self.old.progress.standing) }
     {
@@ -89,15 +89,15 @@ impl Sheet {
         ensures { OnOk result (Does release self.old self.new) }
     {
         let held = self.progress.held;
-        self.progress.held = Held::Nothing;
+        self.progress.held = Deferred::Nothing;
         match held {
-            Held::Nothing => Ok(()),
-            Held::Request {
+            Deferred::Nothing => Ok(()),
+            Deferred::Request {
                 cycle,
                 number,
                 request,
             } => self.put_alone(cycle, number, &request),
-            Held::Run => self.put_run(),
+            Deferred::Run => self.put_run(),
         }
     }
 
@@ -115,7 +115,7 @@ impl Sheet {
     {
         self.release_in_section()?;
         *self.progress.run = Run::new(cycle, self.progress.number);
-        self.progress.held = Held::Run;
+        self.progress.held = Deferred::Run;
         Ok(())
     }
 
@@ -124,7 +124,7 @@ impl Sheet {
         ensures { (st : State) → Shows st self.now.progress → result ≡ start_joins cycle source st.held }
     {
         match self.progress.held {
-            Held::Run => self.progress.run.joins_start(cycle, source),
+            Deferred::Run => self.progress.run.joins_start(cycle, source),
             _ => false,
         }
     }
@@ -135,7 +135,7 @@ impl Sheet {
         ensures { (st : State) → Shows st self.now.progress → result ≡ packet_joins cycle p.now st.held }
     {
         match self.progress.held {
-            Held::Run => self.progress.run.joins_packet(cycle, p),
+            Deferred::Run => self.progress.run.joins_packet(cycle, p),
             _ => false,
         }
     }

@@ -8,7 +8,7 @@ use Rattle.fw_terms.specs.Tables.{sum_to}
 use Rattle.fw_terms.proofs.Tables.{sum_to_le}
 use Rattle.fw_model_account.specs.Account.{Allocation, allocated, is_pending}
 use Rattle.fw_model_account.specs.Sound.{IsSound}
-use Rattle.fw_page_phrases.specs.declared.standing.Standing.{Standing}
+use Rattle.fw_page_phrases.specs.declared.standing.OutstandingRequest.{OutstandingRequest}
 use Rattle.fw_page_strip.proofs.SumLaws.{sum_none, sum_next, sum_upto}
 use Rattle.fw_page_content.specs.Leaving.{left_units, dropped_of, dropped_text}
 
@@ -52,26 +52,26 @@ more_units l device n sum units new o s low so is here e =
 pub waits_here : (waits : Bool) (m n : ℕ) → waits ≡ true → m ≡ n → (waits && (m == n)) ≡ true
 waits_here waits m n e f = grind (arith, nat_tests)
 
-pub no_drops : (source : ℕ) (list : List Standing) (old : List ℕ) → old ≡ old ++ dropped_text source (take 0 list)
+pub no_drops : (source : ℕ) (list : List OutstandingRequest) (old : List ℕ) → old ≡ old ++ dropped_text source (take 0 list)
 no_drops source list old = sym (append-nil old)
 
-dropped_more : (source : ℕ) (list : List Standing) (s : Standing) → dropped_text source (list ++ s ∷ []) ≡ dropped_text source list ++ dropped_of source s
+dropped_more : (source : ℕ) (list : List OutstandingRequest) (s : OutstandingRequest) → dropped_text source (list ++ s ∷ []) ≡ dropped_text source list ++ dropped_of source s
 dropped_more source [] s = append-nil (dropped_of source s)
 dropped_more source (x ∷ list) s = ap (λ t. dropped_of source x ++ t) (dropped_more source list s) ∙ sym (append_assoc (dropped_of source x) (dropped_text source list) (dropped_of source s))
 
 -- a request more
-pub more_drops : (source : ℕ) (list : List Standing) (n : ℕ) (d : Standing) (old now new : List ℕ) → n < length list → now ≡ old ++ dropped_text source (take n list)
+pub more_drops : (source : ℕ) (list : List OutstandingRequest) (n : ℕ) (d : OutstandingRequest) (old now new : List ℕ) → n < length list → now ≡ old ++ dropped_text source (take n list)
     → new ≡ now ++ dropped_of source (get_or list n d)
     → new ≡ old ++ dropped_text source (take (n + 1) list)
 more_drops source list n d old now new low a b =
     b ∙ ap (λ x. x ++ dropped_of source (get_or list n d)) a ∙ append_assoc old (dropped_text source (take n list)) (dropped_of source (get_or list n d))
     ∙ ap (λ x. old ++ x) (sym (ap (dropped_text source) (take_more list n d low) ∙ dropped_more source (take n list) (get_or list n d)))
 
-take_past : (list : List Standing) (n : ℕ) → length list ≤ n → take n list ≡ list
+take_past : (list : List OutstandingRequest) (n : ℕ) → length list ≤ n → take n list ≡ list
 take_past [] zero l = refl
 take_past [] (suc n) l = refl
 take_past (x ∷ list) zero l = absurd (omega arith)
-take_past (x ∷ list) (suc n) l = ap (λ (xs : List Standing). x ∷ xs) (take_past list n (omega arith))
+take_past (x ∷ list) (suc n) l = ap (λ (xs : List OutstandingRequest). x ∷ xs) (take_past list n (omega arith))
 
-pub all_drops : (source : ℕ) (list : List Standing) (n : ℕ) (old new : List ℕ) → length list ≤ n → new ≡ old ++ dropped_text source (take n list) → new ≡ old ++ dropped_text source list
+pub all_drops : (source : ℕ) (list : List OutstandingRequest) (n : ℕ) (old new : List ℕ) → length list ≤ n → new ≡ old ++ dropped_text source (take n list) → new ≡ old ++ dropped_text source list
 all_drops source list n old new past e = e ∙ ap (λ l. old ++ dropped_text source l) (take_past list n past)

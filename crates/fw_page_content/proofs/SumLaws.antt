@@ -65,8 +65,8 @@ nobody_said list channel (Plug class p) n = absurd (n class p refl)
 
 pub owner_said : (list text : List ℕ) (channel : ℕ) (class : Class) (p : PlugAt) → text ≡ with_comma list ++ owner_words channel (Plug class p) → text ≡ comma list (owner_words channel (Plug class p))
 owner_said list text channel class p is =
-    let front = decimal channel ++ codes " (" in
-    let a = front ++ class_name class in
+    let prefix = decimal channel ++ codes " (" in
+    let a = prefix ++ class_name class in
     let b = a ++ (codes ", device " ++ decimal p.device) in
     let c = b ++ (codes " plug " ++ decimal p.plug) in
     let long : 0 < length (c ++ codes ")") = omega (arith, length-append c (codes ")")) in

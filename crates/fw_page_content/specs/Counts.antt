@@ -3,8 +3,8 @@ use Rattle.std.specs.Prelude.{ℕ, ◌+◌, ◌-◌, ◌^◌, min, Bool, true, f
 use Rattle.fw_page_content.specs.declared.counts.Counts.{Counts}
 use Rattle.fw_log_requests.specs.declared.asked.Answer.{Answer}
 use Rattle.fw_log_requests.specs.declared.asked.Answer.TheVariants.{Write as WriteResponse, ReadQuadlet as ReadQuadletResponse, ReadBlock as ReadBlockResponse, Lock as LockResponse}
-use Rattle.fw_page_marks.specs.declared.arrows.Told.{Told}
-use Rattle.fw_page_marks.specs.declared.arrows.Told.TheVariants.{Nothing as NotTold, Made, NotMade}
+use Rattle.fw_page_marks.specs.declared.arrows.SwapResult.{SwapResult}
+use Rattle.fw_page_marks.specs.declared.arrows.SwapResult.TheVariants.{Nothing as NotTold, Made, NotMade}
 
 -- one more; a count stays at the greatest number of 64 bits
 abbrev pub next : ℕ → ℕ
@@ -29,16 +29,16 @@ is_read ReadQuadletResponse = true
 is_read ReadBlockResponse = true
 is_read LockResponse = false
 
-abbrev pub count_told : Answer → Told → Counts → Counts
+abbrev pub count_told : Answer → SwapResult → Counts → Counts
 count_told answer Made n = record n { made = next n.made }
 count_told answer NotMade n = record n { not_made = next n.not_made }
 count_told answer NotTold n = if is_read answer then record n { reads = next n.reads } else n
 
 -- by its response code
-abbrev pub count_rcode : Answer × ℕ → Told → Counts → Counts
+abbrev pub count_rcode : Answer × ℕ → SwapResult → Counts → Counts
 count_rcode a told n = if a.1 == 0 then count_told a.0 told n else record n { refused = next n.refused }
 
--- an answer more to a request that stood: others came between, or none
-abbrev pub count_answer : Option (Answer × ℕ) → Told → Bool → Counts → Counts
+-- an answer more to a request that was outstanding: others came between, or none
+abbrev pub count_answer : Option (Answer × ℕ) → SwapResult → Bool → Counts → Counts
 count_answer None told between n = n
 count_answer (Some a) told between n = count_rcode a told (record n { answered = next n.answered; between = next_if n.between between })

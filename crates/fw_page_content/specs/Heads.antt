@@ -11,7 +11,7 @@ abbrev pub edge_text : Bool → List ℕ
 edge_text edge = if edge then codes " w\">" else codes "\">"
 
 -- what a row begins with: whether links lead to it, its classes, its entry's number and its cycle
-pub record Front : Type 0 where
+pub record Prefix : Type 0 where
   pub is_anchor : Bool
   pub classes : List ℕ
   pub number : ℕ
@@ -27,24 +27,24 @@ abbrev pub classes_of : List ℕ → List ℕ → Option ℕ × Option ℕ → L
 classes_of class more devices = class ++ more ++ (device_class devices.0 ++ device_class devices.1)
 
 -- what the code has of it
-abbrev pub front_of : RowHead → Front
-front_of h = record { is_anchor = h.is_anchor; classes = classes_of h.class.now h.more.now h.devices; number = h.number; cycle = h.cycle }
+abbrev pub prefix_of : RowHead → Prefix
+prefix_of h = record { is_anchor = h.is_anchor; classes = classes_of h.class.now h.more.now h.devices; number = h.number; cycle = h.cycle }
 
 -- that of an entry of its own
-abbrev pub own_front : ℕ → List ℕ → Option ℕ × Option ℕ → ℕ → Front
-own_front number class devices cycle = record { is_anchor = true; classes = classes_of class [] devices; number = number; cycle = cycle }
+abbrev pub own_prefix : ℕ → List ℕ → Option ℕ × Option ℕ → ℕ → Prefix
+own_prefix number class devices cycle = record { is_anchor = true; classes = classes_of class [] devices; number = number; cycle = cycle }
 
 -- that of a further row of an entry
-abbrev pub further_front : ℕ → List ℕ → Option ℕ × Option ℕ → ℕ → Front
-further_front number class devices cycle = record { is_anchor = false; classes = classes_of class [] devices; number = number; cycle = cycle }
+abbrev pub further_prefix : ℕ → List ℕ → Option ℕ × Option ℕ → ℕ → Prefix
+further_prefix number class devices cycle = record { is_anchor = false; classes = classes_of class [] devices; number = number; cycle = cycle }
 
 -- the devices of two nodes, the second only if it is another one
 abbrev pub devices_of : List NodeRow → ℕ → ℕ → Option ℕ × Option ℕ
 devices_of rows one other = (device_of rows one, if one == other then None else device_of rows other)
 
 -- what the row of a request begins with
-abbrev pub request_front : List NodeRow → Bool → Request → List ℕ → ℕ → ℕ → Front
-request_front rows is_anchor q more number cycle =
+abbrev pub request_prefix : List NodeRow → Bool → Request → List ℕ → ℕ → ℕ → Prefix
+request_prefix rows is_anchor q more number cycle =
     record { is_anchor = is_anchor; classes = classes_of (class_of (kind_of q)) more (devices_of rows q.asked.source q.asked.destination); number = number; cycle = cycle }
 
 -- the name to which links lead, if they do
@@ -52,7 +52,7 @@ abbrev pub anchor_text : Bool → ℕ → List ℕ
 anchor_text is_anchor number = if is_anchor then (codes " id=\"e" ++ decimal number) ++ codes "\"" else []
 
 -- the beginning of a row, up to what it draws
-unfoldable pub head_text : Front → Bool → List ℕ
-head_text front edge =
-    codes "<li" ++ anchor_text front.is_anchor front.number ++ codes " class=\"" ++ front.classes ++ edge_text edge ++ (codes "<i>" ++ decimal front.number)
-    ++ (codes "</i><b>" ++ decimal front.cycle) ++ codes "</b><svg class=\"f\" aria-hidden=\"true\">"
+unfoldable pub head_text : Prefix → Bool → List ℕ
+head_text prefix edge =
+    codes "<li" ++ anchor_text prefix.is_anchor prefix.number ++ codes " class=\"" ++ prefix.classes ++ edge_text edge ++ (codes "<i>" ++ decimal prefix.number)
+    ++ (codes "</i><b>" ++ decimal prefix.cycle) ++ codes "</b><svg class=\"f\" aria-hidden=\"true\">"

@@ -4,7 +4,7 @@ use Rattle.fw_terms.specs.Tables.{sum_to}
 use Rattle.fw_log_entry.specs.Network.{first_id}
 use Rattle.fw_model_account.specs.Account.{Account, Allocation, is_pending}
 use Rattle.fw_page_marks.specs.Small.{plural}
-use Rattle.fw_page_phrases.specs.declared.standing.Standing.{Standing}
+use Rattle.fw_page_phrases.specs.declared.standing.OutstandingRequest.{OutstandingRequest}
 use Rattle.fw_page_strip.specs.Owners.{owner}
 use Rattle.fw_page_strip.specs.declared.owner.Class.TheVariants.{Kept}
 use Rattle.fw_page_strip.specs.declared.owner.Owner.{Owner}
@@ -45,16 +45,16 @@ left_text device None = []
 left_text device (Some l) = left_in device l
 
 -- its requests that are dropped
-abbrev pub dropped_of : ℕ → Standing → List ℕ
+abbrev pub dropped_of : ℕ → OutstandingRequest → List ℕ
 dropped_of source s =
     if s.waits && (s.request.asked.source == source)
     then (codes ", request <a href=\"#e" ++ decimal s.number) ++ (codes "\">" ++ decimal s.number) ++ codes "</a> is dropped" else []
 
-abbrev pub dropped_text : ℕ → List Standing → List ℕ
+abbrev pub dropped_text : ℕ → List OutstandingRequest → List ℕ
 dropped_text source [] = []
 dropped_text source (s ∷ list) = dropped_of source s ++ dropped_text source list
 
-abbrev pub dropped_by : Option ℕ → List Standing → List ℕ
+abbrev pub dropped_by : Option ℕ → List OutstandingRequest → List ℕ
 dropped_by None list = []
 dropped_by (Some node) list = dropped_text (first_id + node) list
 

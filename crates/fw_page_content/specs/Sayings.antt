@@ -64,9 +64,9 @@ named_device None = []
 named_device (Some device) = device_name device
 
 -- the words of an event of a device, or of none, but for what it says of the state before it
-abbrev pub saying_front : EventEntry → List ℕ
-saying_front e = named_device (event_device e.device) ++ codes "<b>" ++ named (event_name e.code) (codes "code") e.code ++ codes "</b> <small>" ++ saying_text (event_saying e.code) ++ tape_text e
+abbrev pub saying_prefix : EventEntry → List ℕ
+saying_prefix e = named_device (event_device e.device) ++ codes "<b>" ++ named (event_name e.code) (codes "code") e.code ++ codes "</b> <small>" ++ saying_text (event_saying e.code) ++ tape_text e
 
 -- the same of each event
-unfoldable pub event_front : EventEntry → List ℕ
-event_front e = if e.code == Codes.SECOND_OVER then codes "<b>the second is over</b><small>" else saying_front e
+unfoldable pub event_prefix : EventEntry → List ℕ
+event_prefix e = if e.code == Codes.SECOND_OVER then codes "<b>the second is over</b><small>" else saying_prefix e

@@ -8,12 +8,12 @@ ghost use Rattle.fw_page_content.specs.Exchanges.{answer_marks, answer_words, an
 use fw_async::{Head, Packet};
 use fw_log_explain::head_of;
 use fw_log_names::Pairs;
-use fw_page_marks::{Columns, Line, Told, put_arrow, put_cross};
-use fw_page_phrases::{Kind, Standing, answer_of, put_answer, put_who, told_of};
+use fw_page_marks::{Columns, Line, SwapResult, put_arrow, put_cross};
+use fw_page_phrases::{Kind, OutstandingRequest, answer_of, put_answer, put_who, told_of};
 use std::alloc::AllocError;
 
 /// The kind of the request that a response answers, as far as it is told.
-pub fn answer_kind(standing: Option<&Standing>, p: &Packet) -> Kind
+pub fn answer_kind(standing: Option<&OutstandingRequest>, p: &Packet) -> Kind
     ensures { result ≡ answer_kind (option_copied standing.entry) (answer_of p.now) }
 {
     match standing {
@@ -26,7 +26,7 @@ pub fn answer_kind(standing: Option<&Standing>, p: &Packet) -> Kind
 }
 
 /// What a response tells of the swap of the request that it answers, if one stands.
-pub fn told_by(p: &Packet, standing: Option<&Standing>) -> Told
+pub fn told_by(p: &Packet, standing: Option<&OutstandingRequest>) -> SwapResult
     ensures { result ≡ told_of p.now (option_map request_of (option_copied standing.entry)) }
 {
     match standing {
@@ -40,7 +40,7 @@ pub fn put_answer_marks(
     marks: &mut Vec<u8>,
     columns: &Columns,
     head: &Head,
-    told: Told,
+    told: SwapResult,
 ) -> Result<(), AllocError>
     ensures { OnOk result (marks.new.items ≡ marks.old.items ++ answer_marks columns.now head.now told) }
 {
@@ -49,11 +49,11 @@ pub fn put_answer_marks(
     put_cross(marks, false, from, to, told)
 }
 
-/// Appends its words, by the request that stands and that it answers, if there is one.
+/// Appends its words, by the outstanding request and that it answers, if there is one.
 pub fn put_answer_words(
     words: &mut Vec<u8>,
     pairs: &Pairs,
-    standing: Option<&Standing>,
+    standing: Option<&OutstandingRequest>,
     p: &Packet,
 ) -> Result<(), AllocError>
     ensures { OnOk result (words.new.items ≡ words.old.items ++ answer_words (option_copied standing.entry) p.now) }

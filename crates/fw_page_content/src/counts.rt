@@ -4,7 +4,7 @@ ghost use Rattle.std.specs.Prelude.{◌≡◌};
 ghost use Rattle.fw_page_content.specs.Counts.{next, next_if};
 
 use fw_log_requests::Answer;
-use fw_page_marks::Told;
+use fw_page_marks::SwapResult;
 
 /// How many there were of each; events and outcomes by their codes.
 #[derive(Clone, Copy)]
@@ -81,22 +81,22 @@ impl Counts {
     }
 
     // What a complete answer tells of the swap of its request, or that it is a read.
-    fn count_told(&mut self, answer: Answer, told: Told)
+    fn count_told(&mut self, answer: Answer, told: SwapResult)
         ensures { self.new ≡ count_told answer told self.old }
     {
         match told {
-            Told::Made => self.made = next(self.made),
-            Told::NotMade => self.not_made = next(self.not_made),
-            Told::Nothing => match answer {
+            SwapResult::Made => self.made = next(self.made),
+            SwapResult::NotMade => self.not_made = next(self.not_made),
+            SwapResult::Nothing => match answer {
                 Answer::ReadQuadlet | Answer::ReadBlock => self.reads = next(self.reads),
                 Answer::Write | Answer::Lock => {}
             },
         }
     }
 
-    /// An answer more to a request that stood, if the packet is one: with this response code, which tells this of its swap; others came
-    /// between, or none.
-    pub fn count_answer(&mut self, answer: Option<(Answer, u8)>, told: Told, between: bool)
+    /// An answer more to a request that was outstanding, if the packet is one: with this response code, which tells this of its swap;
+    /// others came between, or none.
+    pub fn count_answer(&mut self, answer: Option<(Answer, u8)>, told: SwapResult, between: bool)
         ensures { self.new ≡ count_answer answer told between self.old }
     {
         let Some((answer, rcode)) = answer else {

@@ -6,7 +6,7 @@ ghost use Rattle.fw_page_content.specs.Exchanges.{dropped_words, dropped_marks};
 use fw_log_names::{Pairs, put_word};
 use fw_log_requests::Asked;
 use fw_page_marks::{Columns, put_mark, put_part};
-use fw_page_phrases::{Standing, put_who};
+use fw_page_phrases::{OutstandingRequest, put_who};
 use std::alloc::AllocError;
 
 /// Appends the mark of a request that a bus reset drops.
@@ -23,7 +23,11 @@ pub fn put_dropped_marks(
 
 /// Appends its words.
 #[tactic(auto, unfolding(crate::specs::Exchanges::dropped_words))]
-pub fn put_dropped_words(words: &mut Vec<u8>, pairs: &Pairs, s: &Standing) -> Result<(), AllocError>
+pub fn put_dropped_words(
+    words: &mut Vec<u8>,
+    pairs: &Pairs,
+    s: &OutstandingRequest,
+) -> Result<(), AllocError>
     ensures { OnOk result (words.new.items ≡ words.old.items ++ dropped_words s.now) }
 {
     let asked = &s.request.asked;

@@ -6,7 +6,7 @@ ghost use Rattle.fw_page_content.specs.Exchanges.{asked_text, alone_marks, alone
 use fw_async::Packet;
 use fw_log_names::{Pairs, put_word};
 use fw_log_requests::Asked;
-use fw_page_marks::{Columns, Line, Told, put_arrow, put_cross, put_turn};
+use fw_page_marks::{Columns, Line, SwapResult, put_arrow, put_cross, put_turn};
 use fw_page_phrases::{BROADCAST, Request, put_ask, put_got, put_who};
 use std::alloc::AllocError;
 
@@ -41,7 +41,7 @@ pub fn put_alone_marks(
     ensures { OnOk result (marks.new.items ≡ marks.old.items ++ alone_marks columns.now asked.now) }
 {
     let (from, to) = (columns.x_of(asked.source), columns.x_of(asked.destination));
-    put_arrow(marks, Line::Whole, from, to, Told::Nothing)
+    put_arrow(marks, Line::Whole, from, to, SwapResult::Nothing)
 }
 
 /// Appends the words of a request that is not answered at once.
@@ -65,7 +65,7 @@ pub fn put_exchange_marks(
     marks: &mut Vec<u8>,
     columns: &Columns,
     asked: &Asked,
-    told: Told,
+    told: SwapResult,
 ) -> Result<(), AllocError>
     ensures { OnOk result (marks.new.items ≡ marks.old.items ++ exchange_marks columns.now asked.now told) }
 {

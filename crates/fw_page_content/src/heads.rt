@@ -1,7 +1,7 @@
 //! What a row begins with.
 
-ghost use Rattle.std.specs.Prelude.{◌≡◌, ◌++◌, OnOk};
-ghost use Rattle.fw_page_content.specs.Heads.{device_class, classes_of, anchor_text, edge_text, head_text, front_of};
+ghost use Rattle.std.specs.Prelude.{◌≡◌, ◌++◌, OnOk, codes, decimal};
+ghost use Rattle.fw_page_content.specs.Heads.{device_class, classes_of, anchor_text, edge_text, head_text, prefix_of};
 
 use fw_log_names::put_word;
 use fw_page_marks::put_part;
@@ -20,16 +20,16 @@ pub struct RowHead {
 
 impl RowHead {
     ghost use Rattle.std.specs.Prelude.{◌≡◌};
-    ghost use Rattle.fw_page_content.specs.Heads.{front_of, own_front, further_front};
+    ghost use Rattle.fw_page_content.specs.Heads.{prefix_of, own_prefix, further_prefix};
 
     /// That of the row to which links to an entry lead.
-    pub fn own(
+    pub fn of_own_entry(
         class: &'static str,
         devices: (Option<u8>, Option<u8>),
         number: u64,
         cycle: u64,
     ) -> RowHead
-        ensures { front_of result ≡ own_front number class.now devices cycle }
+        ensures { prefix_of result ≡ own_prefix number class.now devices cycle }
     {
         RowHead {
             is_anchor: true,
@@ -48,7 +48,7 @@ impl RowHead {
         number: u64,
         cycle: u64,
     ) -> RowHead
-        ensures { front_of result ≡ further_front number class.now devices cycle }
+        ensures { prefix_of result ≡ further_prefix number class.now devices cycle }
     {
         RowHead {
             is_anchor: false,
@@ -95,28 +95,31 @@ fn put_classes(text: &mut Vec<u8>, head: RowHead) -> Result<(), AllocError>
     put_devices(text, head.devices)
 }
 
-// Appends the name to which links lead, if they do.
+// Begins a row, with the name to which links lead, if they do.
 fn put_anchor(text: &mut Vec<u8>, is_anchor: bool, number: u64) -> Result<(), AllocError>
-    ensures { OnOk result (text.new.items ≡ text.old.items ++ anchor_text is_anchor number) }
+    ensures { OnOk result (text.new.items ≡ text.old.items ++ (codes "<li" ++ anchor_text is_anchor number ++ codes " class=\"")) }
 {
     if !is_anchor {
-        return Ok(());
+        return put_word(text, r#"<li class=""#);
     }
-    put_part(text, r#" id="e"#, number)?;
-    put_word(text, r#"""#)
+    put_part(text, r#"<li id="e"#, number)?;
+    put_word(text, r#"" class=""#)
+}
+
+// Ends the classes of a row, and appends the number of its entry.
+fn put_numbered(text: &mut Vec<u8>, edge: bool, number: u64) -> Result<(), AllocError>
+    ensures { OnOk result (text.new.items ≡ text.old.items ++ (edge_text edge ++ (codes "<i>" ++ decimal number))) }
+{
+    put_part(text, if edge { r#" w"><i>"# } else { r#""><i>"# }, number)
 }
 
 /// Appends the beginning of a row, up to what it draws.
-#[tactic(auto, unfolding(crate::specs::Heads::head_text))]
 pub fn put_head(text: &mut Vec<u8>, head: RowHead, edge: bool) -> Result<(), AllocError>
-    ensures { OnOk result (text.new.items ≡ text.old.items ++ head_text (front_of head) edge) }
+    ensures { OnOk result (text.new.items ≡ text.old.items ++ head_text (prefix_of head) edge) }
 {
-    put_word(text, "<li")?;
     put_anchor(text, head.is_anchor, head.number)?;
-    put_word(text, r#" class=""#)?;
     put_classes(text, head)?;
-    put_edge(text, edge)?;
-    put_part(text, "<i>", head.number)?;
+    put_numbered(text, edge, head.number)?;
     put_part(text, "</i><b>", head.cycle)?;
     put_word(text, r#"</b><svg class="f" aria-hidden="true">"#)
 }

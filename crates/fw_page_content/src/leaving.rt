@@ -10,7 +10,7 @@ ghost use Rattle.fw_page_content.specs.Leaving.{left_at, left_units, units_left,
 use fw_ledger::{Charge, Ledger};
 use fw_log_names::put_word;
 use fw_page_marks::{put_part, put_plural};
-use fw_page_phrases::Standing;
+use fw_page_phrases::OutstandingRequest;
 use fw_page_strip::{Class, Owner, charge, owner_of};
 use std::alloc::AllocError;
 
@@ -86,7 +86,11 @@ pub fn put_left(words: &mut Vec<u8>, ledger: Option<&Ledger>, device: u8) -> Res
 }
 
 // Appends that a request is dropped, if it waits and is of this source.
-fn put_dropped_of(words: &mut Vec<u8>, s: &Standing, source: u16) -> Result<(), AllocError>
+fn put_dropped_of(
+    words: &mut Vec<u8>,
+    s: &OutstandingRequest,
+    source: u16,
+) -> Result<(), AllocError>
     ensures { OnOk result (words.new.items ≡ words.old.items ++ dropped_of source s.now) }
 {
     if !s.waits || s.request.asked.source != source {
@@ -100,7 +104,7 @@ fn put_dropped_of(words: &mut Vec<u8>, s: &Standing, source: u16) -> Result<(), 
 // Appends which requests of a source are dropped.
 fn put_dropped_from(
     words: &mut Vec<u8>,
-    standing: &[Standing],
+    standing: &[OutstandingRequest],
     source: u16,
 ) -> Result<(), AllocError>
     ensures { OnOk result (words.new.items ≡ words.old.items ++ dropped_text source standing.now) }
@@ -114,7 +118,7 @@ fn put_dropped_from(
 /// Appends which requests of a node are dropped, if there is one.
 pub fn put_dropped(
     words: &mut Vec<u8>,
-    standing: &[Standing],
+    standing: &[OutstandingRequest],
     node: Option<usize>,
 ) -> Result<(), AllocError>
     requires { IfSome node (λ k. k < 63) }

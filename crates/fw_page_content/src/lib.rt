@@ -23,7 +23,7 @@ pub use heads::{RowHead, put_edge, put_head};
 pub use kept::{put_account, put_orphans};
 pub use leaving::{FIRST_NODE, put_dropped, put_left, put_not_taken};
 pub use sayings::{
-    event_device, event_symbol, outcome_symbol, put_event_front, put_outcome_words,
+    event_device, event_symbol, outcome_symbol, put_event_prefix, put_outcome_words,
     put_shown_words, put_symbol,
 };
 pub use sums::{put_answers, put_entries, put_followed, put_kinds, put_stopped};

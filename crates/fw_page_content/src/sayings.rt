@@ -2,14 +2,14 @@
 
 ghost use Rattle.std.specs.Prelude.{◌≡◌, ◌++◌, OnOk};
 ghost use Rattle.fw_page_marks.specs.Places.{place_of_device};
-ghost use Rattle.fw_page_content.specs.Sayings.{symbol_marks, device_name, outcome_symbol, outcome_class, outcome_words, shown_words, event_symbol, event_device, named_device, saying_front, event_front};
+ghost use Rattle.fw_page_content.specs.Sayings.{symbol_marks, device_name, outcome_symbol, outcome_class, outcome_words, shown_words, event_symbol, event_device, named_device, saying_prefix, event_prefix};
 
 use fw_csr::REGISTER_SPACE;
 use fw_log_entry::codes::{NO_DEVICE, event, outcome};
 use fw_log_entry::{EventEntry, OutcomeEntry, ShownEntry};
 use fw_log_explain::{put_saying, put_tape, put_value};
 use fw_log_names::{Pairs, event_name, event_saying, outcome_name, put_named, put_word};
-use fw_log_registers::{Place, put_place};
+use fw_log_registers::{RegisterPlace, put_place};
 use fw_page_marks::{Columns, put_part, put_use};
 use fw_page_phrases::put_code;
 use std::alloc::AllocError;
@@ -100,7 +100,7 @@ pub fn put_outcome_words(
 pub fn put_shown_words(words: &mut Vec<u8>, pairs: &Pairs, s: &ShownEntry) -> Result<(), AllocError>
     ensures { OnOk result (words.new.items ≡ words.old.items ++ shown_words s.now) }
 {
-    let place = Place::of(REGISTER_SPACE + u64::from(s.offset));
+    let place = RegisterPlace::of(REGISTER_SPACE + u64::from(s.offset));
     put_device(words, s.device)?;
     put_word(words, "<b>shows</b> ")?;
     put_place(words, pairs, place)?;
@@ -130,8 +130,8 @@ fn put_named_device(words: &mut Vec<u8>, device: Option<u8>) -> Result<(), Alloc
 }
 
 // Appends the words of an event that is of a device, or of none, but for what it says of the state before it.
-fn put_saying_front(words: &mut Vec<u8>, e: &EventEntry) -> Result<(), AllocError>
-    ensures { OnOk result (words.new.items ≡ words.old.items ++ saying_front e.now) }
+fn put_saying_prefix(words: &mut Vec<u8>, e: &EventEntry) -> Result<(), AllocError>
+    ensures { OnOk result (words.new.items ≡ words.old.items ++ saying_prefix e.now) }
 {
     put_named_device(words, event_device(e.device))?;
     put_word(words, "<b>")?;
@@ -142,11 +142,11 @@ fn put_saying_front(words: &mut Vec<u8>, e: &EventEntry) -> Result<(), AllocErro
 }
 
 /// Appends the words of an event, but for what it says of the state before it.
-pub fn put_event_front(words: &mut Vec<u8>, e: &EventEntry) -> Result<(), AllocError>
-    ensures { OnOk result (words.new.items ≡ words.old.items ++ event_front e.now) }
+pub fn put_event_prefix(words: &mut Vec<u8>, e: &EventEntry) -> Result<(), AllocError>
+    ensures { OnOk result (words.new.items ≡ words.old.items ++ event_prefix e.now) }
 {
     if e.code == event::SECOND_OVER {
         return put_word(words, "<b>the second is over</b><small>");
     }
-    put_saying_front(words, e)
+    put_saying_prefix(words, e)
 }

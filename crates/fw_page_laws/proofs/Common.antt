@@ -9,11 +9,11 @@ pub use Rattle.fw_log_names.specs.Names.{device_name}
 unfoldable pub use Rattle.fw_log_names.specs.Texts.{hex}
 pub use Rattle.fw_page.specs.Pieces.{piece, piece_of}
 pub use Rattle.fw_page.specs.Rows.{plain}
-pub use Rattle.fw_page.specs.State.{Asks, Held, Nothing, Runs, State, Step, then_do}
+pub use Rattle.fw_page.specs.State.{Asks, Deferred, Nothing, Runs, State, TextAndState, then_do}
 pub use Rattle.fw_page_laws.specs.Markup.{InValue, Mode, Outside, mode_of, names_of}
 pub use Rattle.fw_page_phrases.specs.declared.request.Request.{Request}
 pub use Rattle.fw_page_phrases.specs.declared.run.Run.{Run}
-pub use Rattle.fw_page_phrases.specs.declared.standing.Standing.{Standing}
+pub use Rattle.fw_page_phrases.specs.declared.standing.OutstandingRequest.{OutstandingRequest}
 pub use Rattle.fw_log_registers.specs.Places.{place_of}
 pub use Rattle.fw_page_section.specs.Subject.{Subject}
 pub use Rattle.fw_page_strip.specs.Owners.{owner}

@@ -1,5 +1,5 @@
 -- The texts of fw_page_content, Leaving: each keeps a page whole.
-use Rattle.fw_page_laws.proofs.Common.{Account, Standing, owner, Owner, Plug, List, None, Option, Some, [], codes, refl, suc, zero, ℕ, ◌&&◌, ◌+◌, ◌==◌, ◌∷◌, InValue, Outside}
+use Rattle.fw_page_laws.proofs.Common.{Account, OutstandingRequest, owner, Owner, Plug, List, None, Option, Some, [], codes, refl, suc, zero, ℕ, ◌&&◌, ◌+◌, ◌==◌, ◌∷◌, InValue, Outside}
 use Rattle.fw_page_content.specs.Leaving.{
   dropped_by,
   dropped_of,
@@ -59,15 +59,15 @@ pub left_text-outside : (a0 : ℕ) (a1 : Option Account) → (outer : List (List
 left_text-outside device None outer = none-goes (Outside outer)
 left_text-outside device (Some l) outer = left_in-outside device l outer
 
-pub dropped_of-outside : (a0 : ℕ) (a1 : Standing) → (outer : List (List ℕ)) → Goes (Outside outer) (dropped_of a0 a1) (Outside outer)
+pub dropped_of-outside : (a0 : ℕ) (a1 : OutstandingRequest) → (outer : List (List ℕ)) → Goes (Outside outer) (dropped_of a0 a1) (Outside outer)
 dropped_of-outside source s outer = if-goes (s.waits && (s.request.asked.source == source)) (more-goes (more-goes (more-goes (lit-goes (Outside outer) (codes ", request <a href=\"#e") (InValue
     (codes "a" ∷ outer)) refl refl) (number-goes (InValue (codes "a" ∷ outer)) tt s.number)) (more-goes (lit-goes (InValue (codes "a" ∷ outer)) (codes "\">") (Outside (codes "a" ∷ outer)) refl
     refl) (number-goes (Outside (codes "a" ∷ outer)) tt s.number))) (lit-goes (Outside (codes "a" ∷ outer)) (codes "</a> is dropped") (Outside outer) refl refl)) (none-goes (Outside outer))
 
-pub dropped_text-outside : (a0 : ℕ) (a1 : List Standing) → (outer : List (List ℕ)) → Goes (Outside outer) (dropped_text a0 a1) (Outside outer)
+pub dropped_text-outside : (a0 : ℕ) (a1 : List OutstandingRequest) → (outer : List (List ℕ)) → Goes (Outside outer) (dropped_text a0 a1) (Outside outer)
 dropped_text-outside source [] outer = none-goes (Outside outer)
 dropped_text-outside source (s ∷ list) outer = more-goes (dropped_of-outside source s outer) (dropped_text-outside source list outer)
 
-pub dropped_by-outside : (a0 : Option ℕ) (a1 : List Standing) → (outer : List (List ℕ)) → Goes (Outside outer) (dropped_by a0 a1) (Outside outer)
+pub dropped_by-outside : (a0 : Option ℕ) (a1 : List OutstandingRequest) → (outer : List (List ℕ)) → Goes (Outside outer) (dropped_by a0 a1) (Outside outer)
 dropped_by-outside None list outer = none-goes (Outside outer)
 dropped_by-outside (Some node) list outer = dropped_text-outside (first_id + node) list outer

@@ -1,6 +1,6 @@
 -- The texts of fw_page_content, Sayings: each keeps a page whole.
 use Rattle.fw_page_laws.proofs.Common.{EventEntry, place_of, List, None, Option, Some, [], codes, refl, ℕ, ◌+◌, ◌==◌, ◌∷◌, InValue, Outside}
-use Rattle.fw_page_content.specs.Sayings.{device_name, event_device, event_front, event_symbol, named_device, outcome_class, outcome_symbol, outcome_words, saying_front, shown_words, symbol_marks}
+use Rattle.fw_page_content.specs.Sayings.{device_name, event_device, event_prefix, event_symbol, named_device, outcome_class, outcome_symbol, outcome_words, saying_prefix, shown_words, symbol_marks}
 use Rattle.fw_csr.specs.declared.offset.TheConstants.{REGISTER_SPACE}
 use Rattle.fw_log_entry.specs.declared.codes.event.TheConstants as Codes
 use Rattle.fw_log_entry.specs.declared.codes.outcome.TheConstants as Outcomes
@@ -42,16 +42,16 @@ pub named_device-outside : (a0 : Option ℕ) → (outer : List (List ℕ)) → G
 named_device-outside None outer = none-goes (Outside outer)
 named_device-outside (Some device) outer = device_name-outside device outer
 
-pub saying_front-outside : (a0 : EventEntry) → (outer : List (List ℕ)) → Goes (Outside outer) (saying_front a0) (Outside (codes "small" ∷ outer))
-saying_front-outside e outer = more-goes (more-goes (more-goes (more-goes (more-goes (named_device-outside (event_device e.device) outer) (lit-goes (Outside outer) (codes "<b>") (Outside (codes
+pub saying_prefix-outside : (a0 : EventEntry) → (outer : List (List ℕ)) → Goes (Outside outer) (saying_prefix a0) (Outside (codes "small" ∷ outer))
+saying_prefix-outside e outer = more-goes (more-goes (more-goes (more-goes (more-goes (named_device-outside (event_device e.device) outer) (lit-goes (Outside outer) (codes "<b>") (Outside (codes
     "b" ∷ outer)) refl refl)) (named-outside (event_name e.code) (codes "code") e.code (event_name-goes e.code) (λ outer. lit-goes (Outside outer) (codes "code") (Outside outer) refl refl) (codes
     "b" ∷ outer))) (lit-goes (Outside (codes "b" ∷ outer)) (codes "</b> <small>") (Outside (codes "small" ∷ outer)) refl refl)) (saying_text-outside (event_saying e.code) (event_saying-goes
     e.code) (codes "small" ∷ outer))) (tape_text-outside e (codes "small" ∷ outer))
 
-pub event_front-outside : (a0 : EventEntry) → (outer : List (List ℕ)) → Goes (Outside outer) (event_front a0) (Outside (codes "small" ∷ outer))
-unfolding event_front
-event_front-outside e outer = if-goes (e.code == Codes.SECOND_OVER) (lit-goes (Outside outer) (codes "<b>the second is over</b><small>") (Outside (codes "small" ∷ outer)) refl refl)
-    (saying_front-outside e outer)
+pub event_prefix-outside : (a0 : EventEntry) → (outer : List (List ℕ)) → Goes (Outside outer) (event_prefix a0) (Outside (codes "small" ∷ outer))
+unfolding event_prefix
+event_prefix-outside e outer = if-goes (e.code == Codes.SECOND_OVER) (lit-goes (Outside outer) (codes "<b>the second is over</b><small>") (Outside (codes "small" ∷ outer)) refl refl)
+    (saying_prefix-outside e outer)
 
 pub symbol_marks-outside : (a0 : List ℕ) (a1 : ℕ) → IsValued a0 → (outer : List (List ℕ)) → Goes (Outside outer) (symbol_marks a0 a1) (Outside outer)
 symbol_marks-outside [] x h0v outer = none-goes (Outside outer)

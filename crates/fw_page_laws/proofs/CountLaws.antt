@@ -208,5 +208,5 @@ all_below n (x ∷ homes) b = λ k d l. at (all_below n homes rest) k d l
         left false c e f = cc
 
     at : All (λ number. number < n) homes → (k d : ℕ) → k < length (x ∷ homes) → slice_index_or (x ∷ homes) k d < n
-    at behind zero d l = first
-    at behind (suc k) d l = behind k d (omega arith)
+    at following zero d l = first
+    at following (suc k) d l = following k d (omega arith)

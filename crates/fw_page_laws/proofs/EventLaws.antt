@@ -1,5 +1,5 @@
 -- Events, outcomes, shown words and the last entry keep a page whole, and are told.
-use Rattle.fw_page_laws.proofs.Common.{◌≡◌, ◌∷◌, Bool, true, false, refl, ℕ, ◌==◌, ◌++◌, List, [], codes, Option, Some, None, if◌then◌else◌, EventEntry, State, Held, Outside, InValue}
+use Rattle.fw_page_laws.proofs.Common.{◌≡◌, ◌∷◌, Bool, true, false, refl, ℕ, ◌==◌, ◌++◌, List, [], codes, Option, Some, None, if◌then◌else◌, EventEntry, State, Deferred, Outside, InValue}
 use Rattle.fw_log_entry.specs.declared.codes.event.TheConstants as Codes
 use Rattle.fw_log_entry.specs.declared.entry.Entry.TheVariants.{Event, Shown}
 use Rattle.fw_log_entry.specs.declared.entry.OutcomeEntry.{OutcomeEntry}
@@ -7,24 +7,24 @@ use Rattle.fw_log_entry.specs.declared.entry.ShownEntry.{ShownEntry}
 use Rattle.fw_page_marks.specs.Places.{place_of_device}
 use Rattle.fw_page.specs.State.{with_entry}
 use Rattle.fw_page.specs.Rows.{row}
-use Rattle.fw_page_content.specs.Heads.{own_front}
+use Rattle.fw_page_content.specs.Heads.{own_prefix}
 use Rattle.fw_page.specs.Events.{outcome_row, shown_row, end_row, died, happened, event_counted, more_text, event_row}
 use Rattle.fw_page_content.specs.Counts.{counted_at}
-use Rattle.fw_page_content.specs.Sayings.{symbol_marks, outcome_symbol, outcome_words, shown_words, event_symbol, event_device, event_front}
+use Rattle.fw_page_content.specs.Sayings.{symbol_marks, outcome_symbol, outcome_words, shown_words, event_symbol, event_device, event_prefix}
 use Rattle.fw_page_laws.proofs.Modes.{IsWhole, IsValued, lit-goes, more-goes, none-goes}
 use Rattle.fw_page_laws.proofs.StepLaws.{IsClean, Acts, keeps-as, stays, row-acts}
 use Rattle.fw_page_laws.proofs.ContentHeads.{classes_of-value}
-use Rattle.fw_page_laws.proofs.ContentSayings.{symbol_marks-outside, outcome_symbol-value, outcome_words-outside, shown_words-outside, event_symbol-value, event_front-outside}
+use Rattle.fw_page_laws.proofs.ContentSayings.{symbol_marks-outside, outcome_symbol-value, outcome_words-outside, shown_words-outside, event_symbol-value, event_prefix-outside}
 use Rattle.fw_page_laws.proofs.PageEvents.{more_text-outside}
 use Rattle.fw_page_scene.specs.Lives.{after_start, after_loss}
 
 -- the number of a state
-abbrev pub own_number : ℕ → Held → List ℕ
+abbrev pub own_number : ℕ → Deferred → List ℕ
 own_number n h = n ∷ []
 
-own-acts : (class marks words : List ℕ) (device : Option ℕ) (cycle number : ℕ) → IsValued class → IsWhole marks → IsWhole words → Acts (row (own_front number
+own-acts : (class marks words : List ℕ) (device : Option ℕ) (cycle number : ℕ) → IsValued class → IsWhole marks → IsWhole words → Acts (row (own_prefix number
     class (device, None) cycle) marks words None) (λ n h. number ∷ []) stays
-own-acts class marks words device cycle number c m w = row-acts (own_front number class (device, None) cycle) marks words None (classes_of-value class [] (device, None) c (λ o. none-goes (InValue
+own-acts class marks words device cycle number c m w = row-acts (own_prefix number class (device, None) cycle) marks words None (classes_of-value class [] (device, None) c (λ o. none-goes (InValue
     o))) m w
 
 pub outcome-acts : (cycle : ℕ) (o : OutcomeEntry) → Acts (outcome_row cycle o) own_number stays
@@ -87,8 +87,8 @@ event-acts cycle e = λ st h.
     let s = happened-same e (event_counted e st) (record { lines = h.lines; lanes = h.lanes }) in
     keeps-as (happened e (event_counted e st)).begun st.begun (event_row cycle e st) (st.number ∷ []) (happened e (event_counted e st)).number st.number (happened e (event_counted e st)).held
     st.held s.begun_is s.number_is s.held_is
-    (own-acts (codes "ev") (symbol_marks (event_symbol e.code) (place_of_device st.nodes e.device)) (event_front e ++ more_text e st ++ codes "</small>") (event_device e.device) cycle st.number
+    (own-acts (codes "ev") (symbol_marks (event_symbol e.code) (place_of_device st.nodes e.device)) (event_prefix e ++ more_text e st ++ codes "</small>") (event_device e.device) cycle st.number
     (λ o. lit-goes (InValue o) (codes "ev") (InValue o) refl refl)
-    (symbol_marks-outside (event_symbol e.code) (place_of_device st.nodes e.device) (event_symbol-value e.code)) (λ o. more-goes (more-goes (event_front-outside e o) (more_text-outside e st
+    (symbol_marks-outside (event_symbol e.code) (place_of_device st.nodes e.device) (event_symbol-value e.code)) (λ o. more-goes (more-goes (event_prefix-outside e o) (more_text-outside e st
     (codes "small" ∷ o))) (lit-goes (Outside (codes "small" ∷ o)) (codes "</small>") (Outside o) refl refl))
     (with_entry (Event e) (happened e (event_counted e st))) (record { lines = s.clean.lines; lanes = s.clean.lanes }))

@@ -30,7 +30,7 @@ use Rattle.std.proofs.Common.{
   append_assoc,
   arith,
 }
-use Rattle.fw_page_laws.proofs.Common.{list_all, head_of, Packet, Timed, Request, State, Held, Nothing, Asks, Runs, piece, piece_of}
+use Rattle.fw_page_laws.proofs.Common.{list_all, head_of, Packet, Timed, Request, State, Deferred, Nothing, Asks, Runs, piece, piece_of}
 use Rattle.std.proofs.lemmas.List.{length-append}
 use Rattle.std.proofs.lemmas.List.Folds.{list_all-append}
 use Rattle.fw_async.specs.declared.packet.Packet.TheVariants.{WriteQuadlet, WriteBlock, WriteReply, ReadQuadlet, ReadBlock, ReadQuadletReply, ReadBlockReply, CycleStart, Lock, LockReply}
@@ -53,19 +53,19 @@ abbrev AllStream : List Timed → Type 0
 AllStream run = IsTrue (list_all (λ (x : Timed). is_streamed x.what) run)
 
 record IsRun (before : List Timed) (number : ℕ) : Type 0 where
-  front : List Timed
+  prefix : List Timed
   run : List Timed
-  here : before ≡ front ++ run
-  number_is : number ≡ length front
+  here : before ≡ prefix ++ run
+  number_is : number ≡ length prefix
   streamed : AllStream run
 
 record IsAsked (before : List Timed) (cycle number : ℕ) (q : Request) (p : Packet) : Type 0 where
-  front : List Timed
-  here : before ≡ front ++ record { cycle = cycle; what = Async p } ∷ []
-  number_is : number ≡ length front
+  prefix : List Timed
+  here : before ≡ prefix ++ record { cycle = cycle; what = Async p } ∷ []
+  number_is : number ≡ length prefix
   request : request_by p ≡ Some q
 
-abbrev HeldIs : List Timed → Held → Type 0
+abbrev HeldIs : List Timed → Deferred → Type 0
 HeldIs before Nothing = Unit {0}
 HeldIs before (Asks cycle number q p) = IsAsked before cycle number q p
 HeldIs before (Runs run) = IsRun before run.number
@@ -76,21 +76,21 @@ all_more run t a b = list_all-append (λ (x : Timed). is_streamed x.what) run (t
     both : {x y : Bool} → x ≡ true → y ≡ true → (x && (y && true)) ≡ true
     both e f = grind arith
 
-more_run : (before : List Timed) (t : Timed) (old : Held) (number : ℕ) → HeldIs before old → IsRunOf old number → IsTrue (is_streamed t.what) → IsRun (before ++ t ∷ []) number
+more_run : (before : List Timed) (t : Timed) (old : Deferred) (number : ℕ) → HeldIs before old → IsRunOf old number → IsTrue (is_streamed t.what) → IsRun (before ++ t ∷ []) number
 more_run before t Nothing number h r s = absurd r
 more_run before t (Asks c m q p) number h r s = absurd r
 more_run before t (Runs run) number h r s = record {
-  front = h.front;
+  prefix = h.prefix;
   run = h.run ++ t ∷ [];
-  here = ap (λ (x : List Timed). x ++ t ∷ []) h.here ∙ append_assoc h.front h.run (t ∷ []);
+  here = ap (λ (x : List Timed). x ++ t ∷ []) h.here ∙ append_assoc h.prefix h.run (t ∷ []);
   number_is = sym r ∙ h.number_is;
   streamed = all_more h.run t h.streamed s;
 }
 
-held_more : (before : List Timed) (t : Timed) (number : ℕ) (old new : Held) → number ≡ length before → HeldIs before old → Holds t.cycle t.what number old new → HeldIs (before ++ t ∷ []) new
+held_more : (before : List Timed) (t : Timed) (number : ℕ) (old new : Deferred) → number ≡ length before → HeldIs before old → Holds t.cycle t.what number old new → HeldIs (before ++ t ∷ []) new
 held_more before t number old Nothing e h k = tt
 held_more before t number old (Asks c m q p) e h k = record {
-  front = before;
+  prefix = before;
   here = ap (λ (x : Timed). before ++ x ∷ []) (same k.0 k.1);
   number_is = k.2 ∙ e;
   request = k.3;
@@ -101,25 +101,25 @@ held_more before t number old (Asks c m q p) e h k = record {
 held_more before t number old (Runs run) e h k = by k.1
   where
     by : (run.number ≡ number) ⊎ IsRunOf old run.number → IsRun (before ++ t ∷ []) run.number
-    by (inl new) = record { front = before; run = t ∷ []; here = refl; number_is = new ∙ e; streamed = all_more [] t refl k.0 }
+    by (inl new) = record { prefix = before; run = t ∷ []; here = refl; number_is = new ∙ e; streamed = all_more [] t refl k.0 }
     by (inr old_run) = more_run before t old run.number h old_run k.0
 
 -- ---- the number by which an entry is told
 
-run_home : (before : List Timed) (t : Timed) (joins : Bool) (number : ℕ) (held : Held) → number ≡ length before → HeldIs before held → IsTrue (is_streamed t.what) → IsHome before t (run_number
+run_home : (before : List Timed) (t : Timed) (joins : Bool) (number : ℕ) (held : Deferred) → number ≡ length before → HeldIs before held → IsTrue (is_streamed t.what) → IsHome before t (run_number
     joins held number)
 run_home before t joins number Nothing e h s = inl e
 run_home before t joins number (Asks c m q p) e h s = inl e
 run_home before t false number (Runs run) e h s = inl e
 run_home before t true number (Runs run) e h s = inr (inr (record {
-  front = h.front;
+  prefix = h.prefix;
   run = h.run;
   here = h.here;
   number = h.number_is;
   streamed = all_more h.run t h.streamed s;
 }))
 
-packet-home : (before : List Timed) (cycle : ℕ) (p : Packet) (number : ℕ) (held : Held) → number ≡ length before → HeldIs before held → IsHome before (record { cycle = cycle; what = Async p })
+packet-home : (before : List Timed) (cycle : ℕ) (p : Packet) (number : ℕ) (held : Deferred) → number ≡ length before → HeldIs before held → IsHome before (record { cycle = cycle; what = Async p })
     (packet_home cycle p held number)
 packet-home before cycle (WriteQuadlet h offset value) number Nothing e w = inl e
 packet-home before cycle (WriteQuadlet h offset value) number (Runs run) e w = inl e
@@ -149,7 +149,7 @@ packet-home before cycle p number (Asks since m q asking) e w = go (since == cyc
     go false b f g = inl e
     go true false f g = inl e
     go true true f g = inr (inl (record {
-      front = w.front;
+      prefix = w.prefix;
       asking = record { cycle = since; what = Async asking };
       here = w.here;
       number = w.number_is;
@@ -196,5 +196,5 @@ are_homes before st (t ∷ list) low f c w = (
     after : IsAfter (before ++ t ∷ []) (piece t st).state
     after = record {
       number_is = number ∙ (ap (λ (n : ℕ). n + 1) w.number_is ∙ sym (length-append before (t ∷ [])));
-      held_is = subst (λ (x : Held). HeldIs (before ++ t ∷ []) x) (sym p.keeps.held_is) (held_more before t st.number st.held p.held w.number_is w.held_is p.holds);
+      held_is = subst (λ (x : Deferred). HeldIs (before ++ t ∷ []) x) (sym p.keeps.held_is) (held_more before t st.number st.held p.held w.number_is w.held_is p.holds);
     }

@@ -6,7 +6,7 @@ use Rattle.fw_phy.specs.declared.packet.PhyPacket.{PhyPacket}
 use Rattle.fw_phy.specs.declared.packet.PhyPacket.TheVariants.{SelfId as FirstPacket, SelfIdMore as FurtherPacket, Config, LinkOn}
 use Rattle.fw_log_entry.specs.Log.{ResetFits, are_ids}
 use Rattle.fw_log_entry.specs.declared.entry.ResetEntry.{ResetEntry}
-use Rattle.fw_page_section.specs.Says.{item_front, item_at, items_below, items_text}
+use Rattle.fw_page_section.specs.Says.{item_prefix, item_at, items_below, items_text}
 use Rattle.fw_page_laws.proofs.Modes.{Goes, lit-goes, none-goes, more-goes, number-goes}
 use Rattle.fw_page_laws.proofs.ExplainResets.{ports_text-outside, row_text-outside, self_text-outside}
 use Rattle.fw_page_laws.proofs.MarksSmall.{plural-outside}
@@ -33,14 +33,14 @@ fits_of_node r fits = go r.ids (length r.nodes) fits.some fits.ids
     go (LinkOn a ∷ ids) n some e = clash e
 
 -- what a packet says after the beginning of its item
-front_next : (k : ℕ) → item_front (suc k) ≡ codes "</li><li>"
-front_next k = rw (ne_eqb (suc k) 0 (λ e. omega arith)) refl
+prefix_next : (k : ℕ) → item_prefix (suc k) ≡ codes "</li><li>"
+prefix_next k = rw (ne_eqb (suc k) 0 (λ e. omega arith)) refl
 
 next-item : (rows : List NodeRow) (k : ℕ) (p : Option PhyPacket) (outer : List (List ℕ)) → Goes (Outside (codes "li" ∷ outer)) (item_at rows (suc k) p) (Outside (codes "li" ∷ outer))
 next-item rows k None outer = none-goes (Outside (codes "li" ∷ outer))
 next-item rows k (Some (FirstPacket s)) outer =
     more-goes (more-goes (more-goes (more-goes
-    (subst (λ (front : List ℕ). Goes (Outside (codes "li" ∷ outer)) front (Outside (codes "li" ∷ outer))) (sym (front_next k))
+    (subst (λ (prefix : List ℕ). Goes (Outside (codes "li" ∷ outer)) prefix (Outside (codes "li" ∷ outer))) (sym (prefix_next k))
     (lit-goes (Outside (codes "li" ∷ outer)) (codes "</li><li>") (Outside (codes "li" ∷ outer)) refl refl))
     (more-goes (lit-goes (Outside (codes "li" ∷ outer)) (codes "node ") (Outside (codes "li" ∷ outer)) refl refl) (number-goes (Outside (codes "li" ∷ outer)) tt s.phy)))
     (lit-goes (Outside (codes "li" ∷ outer)) (codes ": ") (Outside (codes "li" ∷ outer)) refl refl)) (row_text-outside (slice_get rows s.phy) (codes "li" ∷ outer)))

@@ -1,29 +1,29 @@
 -- The texts of fw_page_marks, Shapes: each keeps a page whole.
 use Rattle.fw_page_laws.proofs.Common.{List, [], codes, refl, ℕ, ◌∷◌, InValue, Outside}
-use Rattle.fw_page_marks.specs.Shapes.{halves, level_line, mark, path, path_front, rect, symbol_at, there_and_back}
+use Rattle.fw_page_marks.specs.Shapes.{halves, level_line, mark, path, path_prefix, rect, symbol_at, there_and_back}
 use Rattle.std.specs.Str.{bytes_eq}
 use Rattle.fw_page_laws.proofs.Modes.{Goes, IsValued, IsWhole, if-goes, lit-goes, more-goes, none-goes, number-goes}
 
-pub path_front-outside : (a0 : List ℕ) → IsValued a0 → (outer : List (List ℕ)) → Goes (Outside outer) (path_front a0) (InValue (codes "path" ∷ outer))
-unfolding path_front
-path_front-outside class h0v outer = more-goes (more-goes (lit-goes (Outside outer) (codes "<path class=\"") (InValue (codes "path" ∷ outer)) refl refl) (h0v (codes "path" ∷ outer))) (lit-goes
+pub path_prefix-outside : (a0 : List ℕ) → IsValued a0 → (outer : List (List ℕ)) → Goes (Outside outer) (path_prefix a0) (InValue (codes "path" ∷ outer))
+unfolding path_prefix
+path_prefix-outside class h0v outer = more-goes (more-goes (lit-goes (Outside outer) (codes "<path class=\"") (InValue (codes "path" ∷ outer)) refl refl) (h0v (codes "path" ∷ outer))) (lit-goes
     (InValue (codes "path" ∷ outer)) (codes "\" d=\"") (InValue (codes "path" ∷ outer)) refl refl)
 
 pub path-outside : (a0 : List ℕ) (a1 : List ℕ) → IsValued a0 → IsValued a1 → (outer : List (List ℕ)) → Goes (Outside outer) (path a0 a1) (Outside outer)
 unfolding path
 path-outside class [] h0v h1v outer = none-goes (Outside outer)
-path-outside class (s ∷ shapes) h0v h1v outer = more-goes (more-goes (path_front-outside class h0v outer) (h1v (codes "path" ∷ outer))) (lit-goes (InValue (codes "path" ∷ outer)) (codes "\"/>")
+path-outside class (s ∷ shapes) h0v h1v outer = more-goes (more-goes (path_prefix-outside class h0v outer) (h1v (codes "path" ∷ outer))) (lit-goes (InValue (codes "path" ∷ outer)) (codes "\"/>")
     (Outside outer) refl refl)
 
 pub mark-outside : (a0 : List ℕ) (a1 : ℕ) (a2 : List ℕ) → IsValued a0 → IsValued a2 → (outer : List (List ℕ)) → Goes (Outside outer) (mark a0 a1 a2) (Outside outer)
 unfolding mark
-mark-outside class x shape h0v h2v outer = more-goes (more-goes (more-goes (path_front-outside class h0v outer) (more-goes (lit-goes (InValue (codes "path" ∷ outer)) (codes "M") (InValue (codes
+mark-outside class x shape h0v h2v outer = more-goes (more-goes (more-goes (path_prefix-outside class h0v outer) (more-goes (lit-goes (InValue (codes "path" ∷ outer)) (codes "M") (InValue (codes
     "path" ∷ outer)) refl refl) (number-goes (InValue (codes "path" ∷ outer)) tt x))) (h2v (codes "path" ∷ outer))) (lit-goes (InValue (codes "path" ∷ outer)) (codes "\"/>") (Outside outer) refl
     refl)
 
 pub level_line-outside : (a0 : List ℕ) (a1 : ℕ) (a2 : List ℕ) (a3 : ℕ) → IsValued a0 → IsValued a2 → (outer : List (List ℕ)) → Goes (Outside outer) (level_line a0 a1 a2 a3) (Outside outer)
 unfolding level_line
-level_line-outside class from height to h0v h2v outer = more-goes (more-goes (more-goes (path_front-outside class h0v outer) (more-goes (lit-goes (InValue (codes "path" ∷ outer)) (codes "M")
+level_line-outside class from height to h0v h2v outer = more-goes (more-goes (more-goes (path_prefix-outside class h0v outer) (more-goes (lit-goes (InValue (codes "path" ∷ outer)) (codes "M")
     (InValue (codes "path" ∷ outer)) refl refl) (number-goes (InValue (codes "path" ∷ outer)) tt from))) (more-goes (h2v (codes "path" ∷ outer)) (number-goes (InValue (codes "path" ∷ outer)) tt
     to))) (lit-goes (InValue (codes "path" ∷ outer)) (codes "\"/>") (Outside outer) refl refl)
 
@@ -48,7 +48,7 @@ rect-value x width outer = more-goes (more-goes (more-goes (more-goes (lit-goes 
 
 pub there_and_back-outside : (a0 : ℕ) (a1 : ℕ) (a2 : ℕ) → (outer : List (List ℕ)) → Goes (Outside outer) (there_and_back a0 a1 a2) (Outside outer)
 unfolding there_and_back
-there_and_back-outside from to back outer = more-goes (more-goes (more-goes (more-goes (path_front-outside (codes "l") (λ outer. lit-goes (InValue outer) (codes "l") (InValue outer) refl refl)
+there_and_back-outside from to back outer = more-goes (more-goes (more-goes (more-goes (path_prefix-outside (codes "l") (λ outer. lit-goes (InValue outer) (codes "l") (InValue outer) refl refl)
     outer) (more-goes (lit-goes (InValue (codes "path" ∷ outer)) (codes "M") (InValue (codes "path" ∷ outer)) refl refl) (number-goes (InValue (codes "path" ∷ outer)) tt from))) (more-goes
     (lit-goes (InValue (codes "path" ∷ outer)) (codes " 7H") (InValue (codes "path" ∷ outer)) refl refl) (number-goes (InValue (codes "path" ∷ outer)) tt to))) (more-goes (lit-goes (InValue
     (codes "path" ∷ outer)) (codes "V17H") (InValue (codes "path" ∷ outer)) refl refl) (number-goes (InValue (codes "path" ∷ outer)) tt back))) (lit-goes (InValue (codes "path" ∷ outer)) (codes

@@ -1,5 +1,32 @@
 -- No text of a log can put markup into a page.
-use Rattle.fw_page_laws.proofs.Common.{◌≡◌, ℕ, zero, suc, ◌++◌, Bool, true, false, List, [], ◌∷◌, codes, Option, Some, None, refl, ap, subst, sym, ◌∙◌, arith, Timed, State, Step, then_do, plain}
+use Rattle.fw_page_laws.proofs.Common.{
+  ◌≡◌,
+  ℕ,
+  zero,
+  suc,
+  ◌++◌,
+  Bool,
+  true,
+  false,
+  List,
+  [],
+  ◌∷◌,
+  codes,
+  Option,
+  Some,
+  None,
+  refl,
+  ap,
+  subst,
+  sym,
+  ◌∙◌,
+  arith,
+  Timed,
+  State,
+  TextAndState,
+  then_do,
+  plain,
+}
 use Rattle.fw_page_laws.proofs.Common.{piece_of, piece, Mode, Outside, InValue, mode_of}
 use Rattle.std.proofs.Common.{append_assoc}
 use Rattle.std.specs.List.{All}
@@ -88,7 +115,7 @@ closed-keeps b st h = record {
   held_is = k.held_is;
 }
   where
-    shut : Step
+    shut : TextAndState
     shut = then_do (release st) (why b)
 
     k : Keeps (between st.begun) shut (between shut.state.begun) (held_numbers st.held) st.number (nothing_held st.number st.held)

@@ -39,7 +39,7 @@ use Rattle.std.proofs.lemmas.Bool.Decides.{nat_tests}
 use Rattle.fw_log_names.specs.Digits.{byte_digits}
 use Rattle.fw_log_names.specs.Texts.{hex_bytes}
 use Rattle.fw_page_marks.specs.Small.{digit, three}
-use Rattle.fw_page_laws.specs.Markup.{InElement, InTag, InLink, InName, Broken, is_plain, is_value, mode_behind, name_at}
+use Rattle.fw_page_laws.specs.Markup.{InElement, InTag, InLink, InName, Broken, is_plain, is_value, mode_after, name_at}
 
 -- a text leads from a mode to a mode, and names nothing
 pub record Goes (m : Mode) (text : List ℕ) (n : Mode) : Type 0 where
@@ -64,13 +64,13 @@ none-goes m = record { is = refl; none = refl }
 
 pub mode_more : (m : Mode) (a b : List ℕ) → mode_of m (a ++ b) ≡ mode_of (mode_of m a) b
 mode_more m [] b = refl
-mode_more m (x ∷ a) b = mode_more (mode_behind m x) a b
+mode_more m (x ∷ a) b = mode_more (mode_after m x) a b
 
 pub names_more : (m : Mode) (a b : List ℕ) → names_of m (a ++ b) ≡ names_of m a ++ names_of (mode_of m a) b
 names_more m [] b = refl
 names_more m (x ∷ a) b =
-    ap (λ (names : List (List ℕ)). name_at m x ++ names) (names_more (mode_behind m x) a b)
-    ∙ sym (append_assoc (name_at m x) (names_of (mode_behind m x) a) (names_of (mode_of (mode_behind m x) a) b))
+    ap (λ (names : List (List ℕ)). name_at m x ++ names) (names_more (mode_after m x) a b)
+    ∙ sym (append_assoc (name_at m x) (names_of (mode_after m x) a) (names_of (mode_of (mode_after m x) a) b))
 
 pub more-goes : {m n k : Mode} {a b : List ℕ} → Goes m a n → Goes n b k → Goes m (a ++ b) k
 more-goes {m = m} {n = n} {k = k} {a = a} {b = b} p q = record {
@@ -122,7 +122,7 @@ space_plain = record { not_less = refl; no_quote = refl; no_feed = refl; plain =
 
 -- one byte more that leaves a mode as it is
 unfoldable pub Kept : Mode → ℕ → Type 0
-Kept m b = (mode_behind m b ≡ m) × (name_at m b ≡ [])
+Kept m b = (mode_after m b ≡ m) × (name_at m b ≡ [])
 
 pub plain_kept : (m : Mode) (b : ℕ) → IsSteady m → IsPlain b → Kept m b
 unfolding Kept
@@ -138,7 +138,7 @@ pub one-goes : (m : Mode) (b : ℕ) (text : List ℕ) → Kept m b → Goes m te
 unfolding Kept
 one-goes m b text k h = record {
   is = ap (λ (x : Mode). mode_of x text) k.0 ∙ h.is;
-  none = ap (λ (names : List (List ℕ)). names ++ names_of (mode_behind m b) text) k.1 ∙ (ap (λ (x : Mode). names_of x text) k.0 ∙ h.none);
+  none = ap (λ (names : List (List ℕ)). names ++ names_of (mode_after m b) text) k.1 ∙ (ap (λ (x : Mode). names_of x text) k.0 ∙ h.none);
 }
 
 -- ---- a text of plain bytes

@@ -6,7 +6,7 @@ use Rattle.fw_words.specs.Quadlet.{quadlet_at}
 use Rattle.fw_log_names.specs.Texts.{first_quadlets, quadlets_text, quadlet_text}
 use Rattle.fw_log_frames.specs.Frames.{first_name}
 use Rattle.fw_page_phrases.specs.Asks.{wrapped}
-use Rattle.fw_page_laws.specs.Markup.{mode_behind, name_at}
+use Rattle.fw_page_laws.specs.Markup.{mode_after, name_at}
 use Rattle.fw_page_laws.proofs.Modes.{Goes, IsWhole, IsSteady, Kept, more-goes, none-goes, hex-goes, one-goes, plain_kept, space_plain}
 
 -- ---- quadlets, without the space before the first
@@ -32,11 +32,11 @@ unfolding Kept
 without_space m [] k s h = h
 without_space m (b ∷ text) k s h =
     let space = space_kept m k in
-    let same : mode_behind m b ≡ m = ap (mode_behind m) s ∙ space.0 in
+    let same : mode_after m b ≡ m = ap (mode_after m) s ∙ space.0 in
     let none : name_at m b ≡ [] = ap (name_at m) s ∙ space.1 in
     record {
       is = ap (λ (x : Mode). mode_of x text) (sym same) ∙ h.is;
-      none = ap (λ (x : Mode). names_of x text) (sym same) ∙ (sym (ap (λ (names : List (List ℕ)). names ++ names_of (mode_behind m b) text) none) ∙ h.none);
+      none = ap (λ (x : Mode). names_of x text) (sym same) ∙ (sym (ap (λ (names : List (List ℕ)). names ++ names_of (mode_after m b) text) none) ∙ h.none);
     }
 
 quadlets : (m : Mode) (bytes : List ℕ) (n : ℕ) → IsSteady m → Goes m (first_quadlets bytes n) m
@@ -71,6 +71,6 @@ first-goes table (x ∷ list) each = each x
 
 -- ---- texts within tags, or nothing
 
-pub wrapped-goes : (front behind text : List ℕ) (m : Mode) {n : Mode} → Goes m front n → Goes n text n → Goes n behind m → Goes m (wrapped front behind text) m
-wrapped-goes front behind [] m p q r = none-goes m
-wrapped-goes front behind (c ∷ cs) m p q r = more-goes (more-goes p q) r
+pub wrapped-goes : (prefix following text : List ℕ) (m : Mode) {n : Mode} → Goes m prefix n → Goes n text n → Goes n following m → Goes m (wrapped prefix following text) m
+wrapped-goes prefix following [] m p q r = none-goes m
+wrapped-goes prefix following (c ∷ cs) m p q r = more-goes (more-goes p q) r

@@ -1,6 +1,33 @@
 -- Packets and runs keep a page whole, and are told.
-use Rattle.fw_page_laws.proofs.Common.{refl, ◌≡◌, ℕ, zero, suc, ◌+◌, Bool, true, false, List, [], ◌∷◌, ◌++◌, codes, Option, Some, None, ap, subst, head_of, Packet, Request, Run, Standing, State, Step}
-use Rattle.fw_page_laws.proofs.Common.{Held, Nothing, Asks, Runs, then_do, InValue}
+use Rattle.fw_page_laws.proofs.Common.{
+  refl,
+  ◌≡◌,
+  ℕ,
+  zero,
+  suc,
+  ◌+◌,
+  Bool,
+  true,
+  false,
+  List,
+  [],
+  ◌∷◌,
+  ◌++◌,
+  codes,
+  Option,
+  Some,
+  None,
+  ap,
+  subst,
+  head_of,
+  Packet,
+  Request,
+  Run,
+  OutstandingRequest,
+  State,
+  TextAndState,
+}
+use Rattle.fw_page_laws.proofs.Common.{Deferred, Nothing, Asks, Runs, then_do, InValue}
 use Rattle.std.specs.Option.{option_map}
 use Rattle.fw_log_entry.specs.Network.{first_id}
 use Rattle.fw_page_marks.specs.Places.{device_of}
@@ -12,7 +39,7 @@ use Rattle.fw_page_phrases.specs.Standing.{standing_for}
 use Rattle.fw_page_phrases.specs.declared.run.Flow.{Flow}
 use Rattle.fw_page.specs.State.{becomes}
 use Rattle.fw_page.specs.Rows.{before, row}
-use Rattle.fw_page_content.specs.Heads.{classes_of, devices_of, own_front, request_front}
+use Rattle.fw_page_content.specs.Heads.{classes_of, devices_of, own_prefix, request_prefix}
 use Rattle.fw_page.specs.Requests.{asked, alone, exchange, answered, answer_to, answer}
 use Rattle.fw_page_content.specs.Exchanges.{alone_marks, alone_words, exchange_marks, exchange_words, answer_kind, request_of, answer_marks, answer_words}
 use Rattle.fw_page.specs.Streams.{starter, starts_marks, starts, flow_marks, channel_row, channel_rows, cycles, held_run, taken}
@@ -49,9 +76,9 @@ use Rattle.fw_page_laws.proofs.PhrasesCycles.{cycles_text-outside, flow_text-out
 -- ---- requests and answers
 
 request-acts : (cycle number : ℕ) (q : Request) (more marks words : List ℕ) (anchor : Bool) (st : State) → IsValued more → IsWhole marks → IsWhole words →
-    Acts (row (request_front st.nodes anchor q more number cycle) marks words None) (λ n h. row_numbers anchor number) stays
+    Acts (row (request_prefix st.nodes anchor q more number cycle) marks words None) (λ n h. row_numbers anchor number) stays
 request-acts cycle number q more marks words anchor st m a w =
-    row-acts (request_front st.nodes anchor q more number cycle) marks words None (classes_of-value (class_of (kind_of q)) more (devices_of st.nodes q.asked.source q.asked.destination)
+    row-acts (request_prefix st.nodes anchor q more number cycle) marks words None (classes_of-value (class_of (kind_of q)) more (devices_of st.nodes q.asked.source q.asked.destination)
     (class_of-value (kind_of q)) m) a w
 
 alone-acts : (cycle number : ℕ) (q : Request) (p : Packet) → Acts (alone cycle number q p) (λ n h. number ∷ []) stays
@@ -87,12 +114,12 @@ exchange-acts cycle number q asking p = λ st h.
 asked-acts : (cycle : ℕ) (q : Request) (p : Packet) → Acts (asked cycle q p) no_numbers (λ n h. Asks cycle n q p)
 asked-acts cycle q p = λ st h. none-keeps st (asked cycle q p st).state (record { lines = h.lines; lanes = h.lanes }) refl st.number (Asks cycle st.number q p) refl refl
 
-answer_to-acts : (cycle : ℕ) (s : Option Standing) (p : Packet) → Acts (answer_to cycle s p) (λ n h. n ∷ []) (λ n h. Nothing)
+answer_to-acts : (cycle : ℕ) (s : Option OutstandingRequest) (p : Packet) → Acts (answer_to cycle s p) (λ n h. n ∷ []) (λ n h. Nothing)
 answer_to-acts cycle s p = λ st h.
     keeps-as (answered p true (option_map request_of s) st).begun st.begun (answer_to cycle s p st) (st.number ∷ []) (answered p true (option_map request_of s) st).number st.number (answered p
     true (option_map request_of s) st).held Nothing
     (answered-begun p true (option_map request_of s) st) (answered-number p true (option_map request_of s) st) (answered-held p true (option_map request_of s) st)
-    (row-acts (own_front st.number (class_of (answer_kind s (answer_of p))) (devices_of st.nodes (head_of p).destination (head_of p).source) cycle) (answer_marks st.nodes (head_of p) (told_of p
+    (row-acts (own_prefix st.number (class_of (answer_kind s (answer_of p))) (devices_of st.nodes (head_of p).destination (head_of p).source) cycle) (answer_marks st.nodes (head_of p) (told_of p
     (option_map request_of s))) (answer_words s p) None
     (classes_of-value (class_of (answer_kind s (answer_of p))) [] (devices_of st.nodes (head_of p).destination (head_of p).source) (class_of-value (answer_kind s (answer_of p))) (λ o. none-goes
     (InValue o)))
@@ -134,18 +161,18 @@ cycles-acts run =
 -- ---- what is held back
 
 -- the number by which it will be told
-abbrev pub held_numbers : Held → List ℕ
+abbrev pub held_numbers : Deferred → List ℕ
 held_numbers Nothing = []
 held_numbers (Asks cycle number q p) = number ∷ []
 held_numbers (Runs run) = run.number ∷ []
 
-abbrev pub release_numbers : ℕ → Held → List ℕ
+abbrev pub release_numbers : ℕ → Deferred → List ℕ
 release_numbers n h = held_numbers h
 
-abbrev pub nothing_held : ℕ → Held → Held
+abbrev pub nothing_held : ℕ → Deferred → Deferred
 nothing_held n h = Nothing
 
-released-acts : (held : Held) → Acts (released held) (λ n h. held_numbers held) stays
+released-acts : (held : Deferred) → Acts (released held) (λ n h. held_numbers held) stays
 released-acts Nothing = none-clean
 released-acts (Asks cycle number q p) = alone-acts cycle number q p
 released-acts (Runs run) = cycles-acts run
@@ -163,7 +190,8 @@ begun-acts cycle = λ st h.
     (λ s k. none-keeps s (run_begun cycle s) (record { lines = k.lines; lanes = k.lanes }) refl s.number (Runs (run_from cycle s.number)) refl refl) st h)
 
 -- an entry that joins the run that is held back, and one that begins a run
-taken-keeps : (take : Run → Run) (b : Bool) (s : Step) (numbers : List ℕ) (n : ℕ) (h : Held) → Keeps_from b s numbers n h → Keeps_from b (then_do s (λ x. becomes (held_run take x))) numbers n
+taken-keeps : (take : Run → Run) (b : Bool) (s : TextAndState) (numbers : List ℕ) (n : ℕ) (h : Deferred) → Keeps_from b s numbers n h
+    → Keeps_from b (then_do s (λ x. becomes (held_run take x))) numbers n
     (taken take h)
 taken-keeps take b s numbers n h k = record {
   text = subst (λ (x : List ℕ). IsTold (between b) (s.text ++ []) (between s.state.begun) x) (nothing_more numbers)
@@ -186,11 +214,11 @@ begun-keeps cycle false take st e h = taken-keeps take st.begun (begun_run cycle
 
 -- ---- packets that are no cycle starts
 
-abbrev pub asked_numbers : Option Request → ℕ → Held → List ℕ
+abbrev pub asked_numbers : Option Request → ℕ → Deferred → List ℕ
 asked_numbers None n h = n ∷ []
 asked_numbers (Some q) n h = []
 
-abbrev pub asked_held : ℕ → Packet → Option Request → ℕ → Held → Held
+abbrev pub asked_held : ℕ → Packet → Option Request → ℕ → Deferred → Deferred
 asked_held cycle p None n h = Nothing
 asked_held cycle p (Some q) n h = Asks cycle n q p
 

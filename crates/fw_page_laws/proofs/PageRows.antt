@@ -1,7 +1,7 @@
 -- The texts of fw_page, Rows: each keeps a page whole.
 use Rattle.fw_page_laws.proofs.Common.{plain, State, Bool, List, None, Option, Some, [], codes, decimal, nat_lt, refl, ℕ, ◌++◌, ◌∷◌, InValue, Outside}
 use Rattle.fw_page_marks.specs.Small.{millis}
-use Rattle.fw_page.specs.Rows.{before_text, due_words, gap_class, gap_text, lanes_now, lines_now, plain_back, strip_front, strip_text}
+use Rattle.fw_page.specs.Rows.{before_text, due_words, gap_class, gap_text, lanes_now, lines_now, plain_back, strip_opening, strip_text}
 use Rattle.fw_page_laws.proofs.ContentHeads.{edge_text-value}
 use Rattle.fw_page_laws.proofs.MarksShapes.{halves-outside}
 use Rattle.fw_page_laws.proofs.MarksSmall.{millis-outside}
@@ -20,8 +20,8 @@ gap_class-value cycles outer = if-goes (nat_lt cycles 10) (lit-goes (InValue out
     (codes "gp g4") (InValue outer) refl refl) (if-goes (nat_lt cycles 100000) (lit-goes (InValue outer) (codes "gp g5") (InValue outer) refl refl) (lit-goes (InValue outer) (codes "gp g6")
     (InValue outer) refl refl)))))
 
-pub strip_front-in-p-li : (a0 : Bool) → (outer : List (List ℕ)) → Goes (Outside (codes "p" ∷ codes "li" ∷ outer)) (strip_front a0) (Outside (codes "svg" ∷ codes "li" ∷ outer))
-strip_front-in-p-li blank outer = if-goes blank (lit-goes (Outside (codes "p" ∷ codes "li" ∷ outer)) (codes "</p><svg class=\"s na\" aria-hidden=\"true\">") (Outside (codes "svg" ∷ codes "li" ∷
+pub strip_opening-in-p-li : (a0 : Bool) → (outer : List (List ℕ)) → Goes (Outside (codes "p" ∷ codes "li" ∷ outer)) (strip_opening a0) (Outside (codes "svg" ∷ codes "li" ∷ outer))
+strip_opening-in-p-li blank outer = if-goes blank (lit-goes (Outside (codes "p" ∷ codes "li" ∷ outer)) (codes "</p><svg class=\"s na\" aria-hidden=\"true\">") (Outside (codes "svg" ∷ codes "li" ∷
     outer)) refl refl) (lit-goes (Outside (codes "p" ∷ codes "li" ∷ outer)) (codes "</p><svg class=\"s\" aria-hidden=\"true\">") (Outside (codes "svg" ∷ codes "li" ∷ outer)) refl refl)
 
 pub before_text-outside : (outer : List (List ℕ)) → Goes (Outside outer) before_text (Outside (codes "ol" ∷ codes "section" ∷ outer))
@@ -29,12 +29,12 @@ before_text-outside outer = more-goes (more-goes (lit-goes (Outside outer) (code
     (codes "section" ∷ outer)) (codes "<div class=\"h\"><h2>Before the first bus reset</h2></div>\n") (Outside (codes "section" ∷ outer)) refl refl)) (lit-goes (Outside (codes "section" ∷ outer))
     (codes "<ol class=\"r\">\n") (Outside (codes "ol" ∷ codes "section" ∷ outer)) refl refl)
 
-pub strip_front-in-p : (a0 : Bool) → (outer : List (List ℕ)) → Goes (Outside (codes "p" ∷ outer)) (strip_front a0) (Outside (codes "svg" ∷ outer))
-strip_front-in-p blank outer = if-goes blank (lit-goes (Outside (codes "p" ∷ outer)) (codes "</p><svg class=\"s na\" aria-hidden=\"true\">") (Outside (codes "svg" ∷ outer)) refl refl) (lit-goes
+pub strip_opening-in-p : (a0 : Bool) → (outer : List (List ℕ)) → Goes (Outside (codes "p" ∷ outer)) (strip_opening a0) (Outside (codes "svg" ∷ outer))
+strip_opening-in-p blank outer = if-goes blank (lit-goes (Outside (codes "p" ∷ outer)) (codes "</p><svg class=\"s na\" aria-hidden=\"true\">") (Outside (codes "svg" ∷ outer)) refl refl) (lit-goes
     (Outside (codes "p" ∷ outer)) (codes "</p><svg class=\"s\" aria-hidden=\"true\">") (Outside (codes "svg" ∷ outer)) refl refl)
 
 pub plain_back-in-p-li : (a0 : State) → IsWhole a0.drawn.lanes → (outer : List (List ℕ)) → Goes (Outside (codes "p" ∷ codes "li" ∷ outer)) (plain_back a0) (Outside outer)
-plain_back-in-p-li st h0lanes outer = more-goes (more-goes (strip_front-in-p st.drawn.blank (codes "li" ∷ outer)) (h0lanes (codes "svg" ∷ codes "li" ∷ outer))) (lit-goes (Outside (codes "svg" ∷
+plain_back-in-p-li st h0lanes outer = more-goes (more-goes (strip_opening-in-p st.drawn.blank (codes "li" ∷ outer)) (h0lanes (codes "svg" ∷ codes "li" ∷ outer))) (lit-goes (Outside (codes "svg" ∷
     codes "li" ∷ outer)) (codes "</svg></li>\n") (Outside outer) refl refl)
 
 pub plain-outside : (class words : List ℕ) (st : State) → IsValued class → IsWhole words → IsWhole st.drawn.lanes → IsWhole st.drawn.lines → (outer : List (List ℕ)) → Goes (Outside outer) (plain
@@ -57,7 +57,7 @@ pub lanes_now-outside : (a0 : State) → (outer : List (List ℕ)) → Goes (Out
 lanes_now-outside st outer = lanes-outside st.followed.account outer
 
 pub strip_text-in-p-li : (a0 : Option ℕ) (a1 : State) → IsWhole a1.drawn.lanes → (outer : List (List ℕ)) → Goes (Outside (codes "p" ∷ codes "li" ∷ outer)) (strip_text a0 a1) (Outside outer)
-strip_text-in-p-li dot st h1lanes outer = more-goes (more-goes (strip_front-in-p (not (is_some st.followed.account)) (codes "li" ∷ outer)) (more-goes (more-goes (halves-outside st.drawn.lanes
+strip_text-in-p-li dot st h1lanes outer = more-goes (more-goes (strip_opening-in-p (not (is_some st.followed.account)) (codes "li" ∷ outer)) (more-goes (more-goes (halves-outside st.drawn.lanes
     (lanes_now st) h1lanes (lanes_now-outside st) (codes "svg" ∷ codes "li" ∷ outer)) (dot_text-outside dot (codes "svg" ∷ codes "li" ∷ outer))) (labels-outside st.drawn.owners st.drawn.units
     st.followed.account (codes "svg" ∷ codes "li" ∷ outer)))) (lit-goes (Outside (codes "svg" ∷ codes "li" ∷ outer)) (codes "</svg></li>\n") (Outside outer) refl refl)
 

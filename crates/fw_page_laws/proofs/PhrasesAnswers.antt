@@ -1,5 +1,5 @@
 -- The texts of fw_page_phrases, Answers: each keeps a page whole.
-use Rattle.fw_page_laws.proofs.Common.{Packet, hex, Request, Standing, place_of, List, None, Option, Some, codes, refl, ℕ, ◌==◌, ◌∷◌, InValue, Outside}
+use Rattle.fw_page_laws.proofs.Common.{Packet, hex, Request, OutstandingRequest, place_of, List, None, Option, Some, codes, refl, ℕ, ◌==◌, ◌∷◌, InValue, Outside}
 use Rattle.fw_async.specs.declared.packet.Packet.TheVariants.{LockReply, ReadBlockReply, ReadQuadletReply}
 use Rattle.fw_log_names.specs.Names.{rcode_name}
 use Rattle.fw_page_laws.proofs.NamesNames.{rcode_name-outside}
@@ -62,7 +62,7 @@ link_text-outside number outer = more-goes (more-goes (more-goes (lit-goes (Outs
     outer)) tt number)) (more-goes (lit-goes (InValue (codes "a" ∷ outer)) (codes "\">answer to ") (Outside (codes "a" ∷ outer)) refl refl) (number-goes (Outside (codes "a" ∷ outer)) tt number)))
     (lit-goes (Outside (codes "a" ∷ outer)) (codes "</a> ") (Outside outer) refl refl)
 
-pub answer_text-outside : (a0 : Option Standing) (a1 : Packet) → (outer : List (List ℕ)) → Goes (Outside outer) (answer_text a0 a1) (Outside outer)
+pub answer_text-outside : (a0 : Option OutstandingRequest) (a1 : Packet) → (outer : List (List ℕ)) → Goes (Outside outer) (answer_text a0 a1) (Outside outer)
 unfolding answer_text
 answer_text-outside None p outer = more-goes (more-goes (lit-goes (Outside outer) (codes "<b>answer</b> ") (Outside outer) refl refl) (got-outside None p outer)) (lit-goes (Outside outer) (codes
     ", no request stands") (Outside outer) refl refl)

@@ -9,8 +9,8 @@ use Rattle.fw_page_laws.proofs.PhrasesAsking.{subject-outside}
 use Rattle.fw_page_laws.proofs.RegistersTold.{told_text-outside}
 use Rattle.fw_page_phrases.specs.Asks.{ask, block_written, brought, code, code_data, code_quadlets, code_word, end_text, framed, label_text, lock_asked, quadlet_written, sized, swap_asked, told, who}
 use Rattle.fw_log_registers.specs.Words.{told_text}
-use Rattle.fw_log_registers.specs.declared.place.Place.{Place}
-use Rattle.fw_log_registers.specs.declared.told.Told.TheVariants.{Word}
+use Rattle.fw_log_registers.specs.declared.place.RegisterPlace.{RegisterPlace}
+use Rattle.fw_log_registers.specs.declared.told.RegisterValue.TheVariants.{Word}
 use Rattle.fw_words.specs.Swaps.{quadlet_swap}
 use Rattle.fw_words.specs.declared.swap.Swap.{Swap}
 use Rattle.std.proofs.Common.{drop, nat_le}
@@ -22,7 +22,7 @@ pub code-outside : (a0 : List ℕ) → IsWhole a0 → (outer : List (List ℕ)) 
 code-outside text h0o outer = more-goes (more-goes (lit-goes (Outside outer) (codes "<code>") (Outside (codes "code" ∷ outer)) refl refl) (h0o (codes "code" ∷ outer))) (lit-goes (Outside (codes
     "code" ∷ outer)) (codes "</code>") (Outside outer) refl refl)
 
-pub code_word-outside : (a0 : Place) (a1 : ℕ) → (outer : List (List ℕ)) → Goes (Outside outer) (code_word a0 a1) (Outside outer)
+pub code_word-outside : (a0 : RegisterPlace) (a1 : ℕ) → (outer : List (List ℕ)) → Goes (Outside outer) (code_word a0 a1) (Outside outer)
 unfolding code_word
 code_word-outside place word outer = more-goes (code-outside (hex 8 word) (λ outer. hex-goes (Outside outer) tt 8 word) outer) (wrapped-goes (codes "<small>") (codes "</small>") (told_text (Word
     word) place) (Outside outer) (lit-goes (Outside outer) (codes "<small>") (Outside (codes "small" ∷ outer)) refl refl) (told_text-outside (Word word) place (codes "small" ∷ outer)) (lit-goes
@@ -33,7 +33,7 @@ unfolding framed
 framed-outside bytes outer = more-goes (more-goes (lit-goes (Outside outer) (codes "<em>") (Outside (codes "em" ∷ outer)) refl refl) (frame_text-outside bytes (codes "em" ∷ outer))) (lit-goes
     (Outside (codes "em" ∷ outer)) (codes "</em>") (Outside outer) refl refl)
 
-pub quadlet_written-outside : (a0 : Place) (a1 : ℕ) → (outer : List (List ℕ)) → Goes (Outside outer) (quadlet_written a0 a1) (Outside outer)
+pub quadlet_written-outside : (a0 : RegisterPlace) (a1 : ℕ) → (outer : List (List ℕ)) → Goes (Outside outer) (quadlet_written a0 a1) (Outside outer)
 unfolding quadlet_written
 quadlet_written-outside place value outer = if-goes (takes_frames place) (framed-outside (to_be_bytes w32 value) outer) (more-goes (lit-goes (Outside outer) (codes " ") (Outside outer) refl refl)
     (code_word-outside place value outer))
@@ -43,10 +43,10 @@ unfolding code_data
 code_data-outside bytes outer = code-outside (hex_bytes bytes) (λ outer. bytes-goes (Outside outer) tt bytes) outer
 
 pub sized-outside : (a0 : List ℕ) (a1 : List ℕ) → IsWhole a0 → (outer : List (List ℕ)) → Goes (Outside outer) (sized a0 a1) (Outside outer)
-sized-outside front bytes h0o outer = more-goes (more-goes (more-goes (h0o outer) (number-goes (Outside outer) tt (length bytes))) (lit-goes (Outside outer) (codes " ") (Outside outer) refl
+sized-outside prefix bytes h0o outer = more-goes (more-goes (more-goes (h0o outer) (number-goes (Outside outer) tt (length bytes))) (lit-goes (Outside outer) (codes " ") (Outside outer) refl
     refl)) (code_data-outside bytes outer)
 
-pub block_written-outside : (a0 : Place) (a1 : List ℕ) → (outer : List (List ℕ)) → Goes (Outside outer) (block_written a0 a1) (Outside outer)
+pub block_written-outside : (a0 : RegisterPlace) (a1 : List ℕ) → (outer : List (List ℕ)) → Goes (Outside outer) (block_written a0 a1) (Outside outer)
 unfolding block_written
 block_written-outside place bytes outer = if-goes (takes_frames place) (framed-outside bytes outer) (sized-outside (codes ", data_length ") bytes (λ outer. lit-goes (Outside outer) (codes
     ", data_length ") (Outside outer) refl refl) outer)
@@ -55,18 +55,18 @@ pub code_quadlets-outside : (a0 : List ℕ) → (outer : List (List ℕ)) → Go
 unfolding code_quadlets
 code_quadlets-outside bytes outer = code-outside (drop 1 (quadlets_text bytes)) (λ outer. spaced-goes (Outside outer) tt bytes) outer
 
-pub swap_asked-outside : (a0 : Place) (a1 : Swap) → (outer : List (List ℕ)) → Goes (Outside outer) (swap_asked a0 a1) (Outside outer)
+pub swap_asked-outside : (a0 : RegisterPlace) (a1 : Swap) → (outer : List (List ℕ)) → Goes (Outside outer) (swap_asked a0 a1) (Outside outer)
 unfolding swap_asked
 swap_asked-outside place s outer = more-goes (more-goes (more-goes (more-goes (more-goes (more-goes (lit-goes (Outside outer) (codes "<em>") (Outside (codes "em" ∷ outer)) refl refl)
     (told_text-outside (told s) place (codes "em" ∷ outer))) (lit-goes (Outside (codes "em" ∷ outer)) (codes "</em> <code>") (Outside (codes "code" ∷ outer)) refl refl)) (hex-goes (Outside (codes
     "code" ∷ outer)) tt 8 s.argument)) (lit-goes (Outside (codes "code" ∷ outer)) (codes " &rarr; ") (Outside (codes "code" ∷ outer)) refl refl)) (hex-goes (Outside (codes "code" ∷ outer)) tt 8
     s.new)) (lit-goes (Outside (codes "code" ∷ outer)) (codes "</code>") (Outside outer) refl refl)
 
-pub lock_asked-outside : (a0 : Place) (a1 : List ℕ) (a2 : Option Swap) → (outer : List (List ℕ)) → Goes (Outside outer) (lock_asked a0 a1 a2) (Outside outer)
+pub lock_asked-outside : (a0 : RegisterPlace) (a1 : List ℕ) (a2 : Option Swap) → (outer : List (List ℕ)) → Goes (Outside outer) (lock_asked a0 a1 a2) (Outside outer)
 lock_asked-outside place bytes None outer = more-goes (lit-goes (Outside outer) (codes " ") (Outside outer) refl refl) (code_quadlets-outside bytes outer)
 lock_asked-outside place bytes (Some s) outer = swap_asked-outside place s outer
 
-pub brought-outside : (a0 : Place) (a1 : Packet) → (outer : List (List ℕ)) → Goes (Outside outer) (brought a0 a1) (Outside outer)
+pub brought-outside : (a0 : RegisterPlace) (a1 : Packet) → (outer : List (List ℕ)) → Goes (Outside outer) (brought a0 a1) (Outside outer)
 unfolding brought
 brought-outside place (WriteQuadlet h offset value) outer = quadlet_written-outside place value outer
 brought-outside place (WriteBlock h offset bytes) outer = block_written-outside place bytes outer

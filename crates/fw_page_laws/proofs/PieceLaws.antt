@@ -1,6 +1,6 @@
 -- Each piece keeps a page whole, and tells its entry.
 use Rattle.fw_page_laws.proofs.Common.{◌≡◌, ℕ, ◌==◌, ◌&&◌, IsTrue, Bool, true, false, List, [], ◌∷◌, ◌++◌, Option, Some, None, if◌then◌else◌, refl, subst, sym, head_of, Packet, Request, Run, State}
-use Rattle.fw_page_laws.proofs.Common.{Step, Held, Nothing, Asks, Runs, then_do, piece_of}
+use Rattle.fw_page_laws.proofs.Common.{TextAndState, Deferred, Nothing, Asks, Runs, then_do, piece_of}
 use Rattle.std.proofs.Common.{◌⊎◌, inl, inr}
 use Rattle.fw_async.specs.declared.packet.Packet.TheVariants.{WriteQuadlet, WriteBlock, WriteReply, ReadQuadlet, ReadBlock, ReadQuadletReply, ReadBlockReply, CycleStart, Lock, LockReply}
 use Rattle.fw_cip.specs.declared.packet.IsoPacket.{IsoPacket}
@@ -26,28 +26,28 @@ use Rattle.fw_page_laws.proofs.ResetLaws.{reset-acts}
 -- ---- what is held back after an entry
 
 -- the run that is held back has this number
-abbrev pub IsRunOf : Held → ℕ → Type 0
+abbrev pub IsRunOf : Deferred → ℕ → Type 0
 IsRunOf Nothing number = ⊥
 IsRunOf (Asks c m q p) number = ⊥
 IsRunOf (Runs run) number = run.number ≡ number
 
 -- what an entry in a cycle leaves held back: nothing; its own request; or a run that it begins or joins
-abbrev pub Holds : ℕ → Entry → ℕ → Held → Held → Type 0
+abbrev pub Holds : ℕ → Entry → ℕ → Deferred → Deferred → Type 0
 Holds cycle e number old Nothing = Unit {0}
 Holds cycle e number old (Asks c m q p) = (c ≡ cycle) × (e ≡ Async p) × (m ≡ number) × (request_by p ≡ Some q)
 Holds cycle e number old (Runs run) = IsTrue (is_streamed e) × ((run.number ≡ number) ⊎ IsRunOf old run.number)
 
 -- a step tells the present entry, or will, by this number
-pub record Piece (cycle : ℕ) (e : Entry) (st : State) (s : Step) (home : ℕ) : Type 0 where
+pub record Piece (cycle : ℕ) (e : Entry) (st : State) (s : TextAndState) (home : ℕ) : Type 0 where
   pub numbers : List ℕ
-  pub held : Held
+  pub held : Deferred
   pub keeps : Keeps_from st.begun s numbers st.number held
   pub holds : Holds cycle e st.number st.held held
   pub accounts : Accounted st.number (held_numbers st.held) (held_numbers held) numbers home
 
 -- ---- entries in rows of their own
 
-own-piece : (cycle : ℕ) (e : Entry) (f : State → Step) (st : State) → Acts f own_number stays → IsClean st → Piece cycle e st (then_do (released_in_section st) f) st.number
+own-piece : (cycle : ℕ) (e : Entry) (f : State → TextAndState) (st : State) → Acts f own_number stays → IsClean st → Piece cycle e st (then_do (released_in_section st) f) st.number
 own-piece cycle e f st a h = record {
   numbers = held_numbers st.held ++ st.number ∷ [];
   held = Nothing;
@@ -56,7 +56,7 @@ own-piece cycle e f st a h = record {
   accounts = fresh_own st.number (held_numbers st.held);
 }
 
-reset-piece : (cycle : ℕ) (e : Entry) (f : State → Step) (st : State) → Acts f own_number stays → IsClean st → Piece cycle e st (then_do (release st) f) st.number
+reset-piece : (cycle : ℕ) (e : Entry) (f : State → TextAndState) (st : State) → Acts f own_number stays → IsClean st → Piece cycle e st (then_do (release st) f) st.number
 reset-piece cycle e f st a h = record {
   numbers = held_numbers st.held ++ st.number ∷ [];
   held = Nothing;
@@ -84,13 +84,13 @@ joined-piece cycle e joins take st run same is streams each h = record {
   numbers = [];
   held = taken take st.held;
   keeps = joined-keeps cycle joins take st same h;
-  holds = subst (λ (x : Held). Holds cycle e st.number x (taken take x)) (sym is) (streams, inr (sym (each run)));
-  accounts = subst (λ (x : Held). Accounted st.number (held_numbers x) (held_numbers (taken take x)) [] run.number) (sym is)
+  holds = subst (λ (x : Deferred). Holds cycle e st.number x (taken take x)) (sym is) (streams, inr (sym (each run)));
+  accounts = subst (λ (x : Deferred). Accounted st.number (held_numbers x) (held_numbers (taken take x)) [] run.number) (sym is)
       (subst (λ (n : ℕ). Accounted st.number (run.number ∷ []) (n ∷ []) [] run.number) (sym (each run)) (again_held st.number run.number));
 }
 
 -- by what is held back: `joins` says that the entry joins that run
-stream-piece : (cycle : ℕ) (e : Entry) (joins : Bool) (take : Run → Run) (st : State) (held : Held) → st.held ≡ held → ((joins ≡ true → (run : Run) × (held ≡ Runs run))) → IsTrue (is_streamed e)
+stream-piece : (cycle : ℕ) (e : Entry) (joins : Bool) (take : Run → Run) (st : State) (held : Deferred) → st.held ≡ held → ((joins ≡ true → (run : Run) × (held ≡ Runs run))) → IsTrue (is_streamed e)
     → ((r : Run) → (take r).number ≡ r.number) → IsClean st
     → Piece cycle e st (streamed cycle joins take st) (run_number joins held st.number)
 stream-piece cycle e true take st Nothing is some streams each h = absurd (let w = some refl in let a = w.1 in let z : ⊥ = cc in z)
@@ -100,12 +100,12 @@ stream-piece cycle e false take st Nothing is some streams each h = begun-piece 
 stream-piece cycle e false take st (Asks c m q p) is some streams each h = begun-piece cycle e false take st refl streams each h
 stream-piece cycle e false take st (Runs run) is some streams each h = begun-piece cycle e false take st refl streams each h
 
-start-runs : (cycle source : ℕ) (held : Held) → start_joins cycle source held ≡ true → (run : Run) × (held ≡ Runs run)
+start-runs : (cycle source : ℕ) (held : Deferred) → start_joins cycle source held ≡ true → (run : Run) × (held ≡ Runs run)
 start-runs cycle source Nothing e = absurd (let z : ⊥ = cc in z)
 start-runs cycle source (Asks c m q p) e = absurd (let z : ⊥ = cc in z)
 start-runs cycle source (Runs run) e = (run, refl)
 
-packet-runs : (cycle : ℕ) (p : IsoPacket) (held : Held) → packet_joins cycle p held ≡ true → (run : Run) × (held ≡ Runs run)
+packet-runs : (cycle : ℕ) (p : IsoPacket) (held : Deferred) → packet_joins cycle p held ≡ true → (run : Run) × (held ≡ Runs run)
 packet-runs cycle p Nothing e = absurd (let z : ⊥ = cc in z)
 packet-runs cycle p (Asks c m q asking) e = absurd (let z : ⊥ = cc in z)
 packet-runs cycle p (Runs run) e = (run, refl)
@@ -129,11 +129,11 @@ others-piece : (cycle : ℕ) (p : Packet) (st : State) → IsClean st → Piece 
 others-piece cycle p st h = asked-piece cycle p (request_by p) st refl (others-acts cycle p st h)
 
 -- the number by which a packet is told that answers nothing that is held back
-abbrev lone_home : ℕ → Packet → Held → ℕ → ℕ
+abbrev lone_home : ℕ → Packet → Deferred → ℕ → ℕ
 lone_home cycle (CycleStart h offset time) held number = run_number (start_joins cycle h.source held) held number
 lone_home cycle p held number = number
 
-lone-piece : (cycle : ℕ) (p : Packet) (st : State) (held : Held) → st.held ≡ held → IsClean st → Piece cycle (Async p) st (lone_packet cycle p st) (lone_home cycle p held st.number)
+lone-piece : (cycle : ℕ) (p : Packet) (st : State) (held : Deferred) → st.held ≡ held → IsClean st → Piece cycle (Async p) st (lone_packet cycle p st) (lone_home cycle p held st.number)
 lone-piece cycle (WriteQuadlet h offset value) st held is k = others-piece cycle (WriteQuadlet h offset value) st k
 lone-piece cycle (WriteBlock h offset bytes) st held is k = others-piece cycle (WriteBlock h offset bytes) st k
 lone-piece cycle (WriteReply h rcode) st held is k = others-piece cycle (WriteReply h rcode) st k
@@ -144,7 +144,7 @@ lone-piece cycle (ReadBlockReply h rcode bytes) st held is k = others-piece cycl
 lone-piece cycle (Lock h offset function bytes) st held is k = others-piece cycle (Lock h offset function bytes) st k
 lone-piece cycle (LockReply h rcode function bytes) st held is k = others-piece cycle (LockReply h rcode function bytes) st k
 lone-piece cycle (CycleStart h offset time) st held is k =
-    subst (λ (x : Held). Piece cycle (Async (CycleStart h offset time)) st (streamed cycle (start_joins cycle h.source x) (with_start cycle h.source) st) (run_number (start_joins cycle h.source
+    subst (λ (x : Deferred). Piece cycle (Async (CycleStart h offset time)) st (streamed cycle (start_joins cycle h.source x) (with_start cycle h.source) st) (run_number (start_joins cycle h.source
     held) held st.number)) (sym is)
     (stream-piece cycle (Async (CycleStart h offset time)) (start_joins cycle h.source held) (with_start cycle h.source) st held is (start-runs cycle h.source held) refl (λ r. refl) k)
 
@@ -161,7 +161,7 @@ home_alone cycle since m q asking (Lock h offset function bytes) number = refl
 home_alone cycle since m q asking (LockReply h rcode function bytes) number = refl
 home_alone cycle since m q asking (CycleStart h offset time) number = refl
 
-packet-piece : (cycle : ℕ) (p : Packet) (st : State) (held : Held) → st.held ≡ held → IsClean st → Piece cycle (Async p) st (packet_by cycle p held st) (packet_home cycle p held st.number)
+packet-piece : (cycle : ℕ) (p : Packet) (st : State) (held : Deferred) → st.held ≡ held → IsClean st → Piece cycle (Async p) st (packet_by cycle p held st) (packet_home cycle p held st.number)
 packet-piece cycle (WriteQuadlet h offset value) st Nothing is k = lone-piece cycle (WriteQuadlet h offset value) st Nothing is k
 packet-piece cycle (WriteQuadlet h offset value) st (Runs run) is k = lone-piece cycle (WriteQuadlet h offset value) st (Runs run) is k
 packet-piece cycle (WriteBlock h offset bytes) st Nothing is k = lone-piece cycle (WriteBlock h offset bytes) st Nothing is k
@@ -190,7 +190,7 @@ packet-piece cycle p st (Asks since m q asking) is k = go ((since == cycle) && i
       held = Nothing;
       keeps = exchange-acts cycle m q asking p st k;
       holds = tt;
-      accounts = subst (λ (x : Held). Accounted st.number (held_numbers x) [] (m ∷ []) m) (sym is) (again_told st.number m);
+      accounts = subst (λ (x : Deferred). Accounted st.number (held_numbers x) [] (m ∷ []) m) (sym is) (again_told st.number m);
     }
     go false = subst (λ (n : ℕ). Piece cycle (Async p) st (lone_packet cycle p st) n) (home_alone cycle since m q asking p st.number) (lone-piece cycle p st (Asks since m q asking) is k)
 

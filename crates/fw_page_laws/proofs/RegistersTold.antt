@@ -2,10 +2,10 @@
 use Rattle.fw_page_laws.proofs.Common.{refl, ◌==◌, ◌&&◌, Bool, true, false, List, [], ◌∷◌, IsTrue, list_all, Outside}
 use Rattle.std.proofs.Common.{flat_map}
 use Rattle.fw_words.specs.Quadlet.{field}
-use Rattle.fw_log_registers.specs.declared.place.Place.{Place}
-use Rattle.fw_log_registers.specs.declared.place.Place.TheVariants.{Named, Unnamed}
-use Rattle.fw_log_registers.specs.declared.register.Register.{Register}
-use Rattle.fw_log_registers.specs.declared.register.Register.TheVariants.{
+use Rattle.fw_log_registers.specs.declared.place.RegisterPlace.{RegisterPlace}
+use Rattle.fw_log_registers.specs.declared.place.RegisterPlace.TheVariants.{Named, Unnamed}
+use Rattle.fw_log_registers.specs.declared.register.NamedRegister.{NamedRegister}
+use Rattle.fw_log_registers.specs.declared.register.NamedRegister.TheVariants.{
   StateClear,
   StateSet,
   NodeIds,
@@ -35,8 +35,8 @@ use Rattle.fw_log_registers.specs.declared.register.Register.TheVariants.{
   FcpResponse,
   TopologyMap,
 }
-use Rattle.fw_log_registers.specs.declared.told.Told.{Told}
-use Rattle.fw_log_registers.specs.declared.told.Told.TheVariants.{Word, Swap}
+use Rattle.fw_log_registers.specs.declared.told.RegisterValue.{RegisterValue}
+use Rattle.fw_log_registers.specs.declared.told.RegisterValue.TheVariants.{Word, Swap}
 use Rattle.fw_log_registers.specs.Words.{Field, fields_of, told_field, told_register, told_text}
 use Rattle.fw_page_laws.specs.Markup.{is_plain}
 use Rattle.fw_page_laws.proofs.Modes.{IsWhole, plain-goes, more-goes, none-goes, if-goes}
@@ -48,13 +48,13 @@ both_parts : (a b : Bool) → IsTrue (a && b) → IsTrue a × IsTrue b
 both_parts true b h = (refl, h)
 both_parts false b h = absurd (let z : ⊥ = cc in z)
 
-field-goes : (told : Told) (f : Field) → IsWhole f.label → IsWhole (told_field told f)
+field-goes : (told : RegisterValue) (f : Field) → IsWhole f.label → IsWhole (told_field told f)
 unfolding told_field
 field-goes (Word word) f h outer = field_text-outside f.label f.shown (field word f.first f.last) h outer
 field-goes (Swap old new) f h outer =
     if-goes (field old f.first f.last == field new f.first f.last) (none-goes (Outside outer)) (change_text-outside f.label f.shown (field old f.first f.last) (field new f.first f.last) h outer)
 
-fields-go : (told : Told) (list : List Field) → IsTrue (list_all (λ (f : Field). list_all is_plain f.label) list) → IsWhole (flat_map (told_field told) list)
+fields-go : (told : RegisterValue) (list : List Field) → IsTrue (list_all (λ (f : Field). list_all is_plain f.label) list) → IsWhole (flat_map (told_field told) list)
 fields-go told [] h outer = none-goes (Outside outer)
 fields-go told (f ∷ list) h outer =
     let both = both_parts (list_all is_plain f.label) (list_all (λ (f : Field). list_all is_plain f.label) list) h in
@@ -62,7 +62,7 @@ fields-go told (f ∷ list) h outer =
 
 -- ---- registers
 
-labels : (r : Register) → IsTrue (list_all (λ (f : Field). list_all is_plain f.label) (fields_of r))
+labels : (r : NamedRegister) → IsTrue (list_all (λ (f : Field). list_all is_plain f.label) (fields_of r))
 labels StateClear = refl
 labels StateSet = refl
 labels NodeIds = refl
@@ -92,7 +92,7 @@ labels FcpCommand = refl
 labels FcpResponse = refl
 labels TopologyMap = refl
 
-register-goes : (told : Told) (r : Register) → IsWhole (told_register told r)
+register-goes : (told : RegisterValue) (r : NamedRegister) → IsWhole (told_register told r)
 register-goes told StateClear = fields-go told (fields_of StateClear) (labels StateClear)
 register-goes told StateSet = fields-go told (fields_of StateSet) (labels StateSet)
 register-goes told NodeIds = fields-go told (fields_of NodeIds) (labels NodeIds)
@@ -122,7 +122,7 @@ register-goes told FcpCommand = fields-go told (fields_of FcpCommand) (labels Fc
 register-goes told FcpResponse = fields-go told (fields_of FcpResponse) (labels FcpResponse)
 register-goes told TopologyMap = fields-go told (fields_of TopologyMap) (labels TopologyMap)
 
-pub told_text-outside : (told : Told) (place : Place) → IsWhole (told_text told place)
+pub told_text-outside : (told : RegisterValue) (place : RegisterPlace) → IsWhole (told_text told place)
 unfolding told_text
 told_text-outside told (Named register index) = register-goes told register
 told_text-outside told (Unnamed offset) = λ outer. none-goes (Outside outer)

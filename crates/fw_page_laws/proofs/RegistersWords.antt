@@ -23,10 +23,10 @@ use Rattle.fw_log_registers.specs.Words.{
   told_channels,
   value_text,
 }
-use Rattle.fw_log_registers.specs.declared.place.Place.{Place}
-use Rattle.fw_log_registers.specs.declared.place.Place.TheVariants.{Named, Unnamed}
-use Rattle.fw_log_registers.specs.declared.register.Register.{Register}
-use Rattle.fw_log_registers.specs.declared.register.Register.TheVariants.{
+use Rattle.fw_log_registers.specs.declared.place.RegisterPlace.{RegisterPlace}
+use Rattle.fw_log_registers.specs.declared.place.RegisterPlace.TheVariants.{Named, Unnamed}
+use Rattle.fw_log_registers.specs.declared.register.NamedRegister.{NamedRegister}
+use Rattle.fw_log_registers.specs.declared.register.NamedRegister.TheVariants.{
   BandwidthAvailable,
   BroadcastChannel,
   BusManagerId,
@@ -60,13 +60,13 @@ use Rattle.fw_log_registers.specs.declared.shown.Amount.{Amount}
 use Rattle.fw_log_registers.specs.declared.shown.Amount.TheVariants.{BroadcastConnections, PointToPointConnections, Units}
 use Rattle.fw_log_registers.specs.declared.shown.Shown.{Shown}
 use Rattle.fw_log_registers.specs.declared.shown.Shown.TheVariants.{Company, Counted, Decimal, Node, Rate}
-use Rattle.fw_log_registers.specs.declared.told.Told.{Told}
-use Rattle.fw_log_registers.specs.declared.told.Told.TheVariants.{Swap, Word}
+use Rattle.fw_log_registers.specs.declared.told.RegisterValue.{RegisterValue}
+use Rattle.fw_log_registers.specs.declared.told.RegisterValue.TheVariants.{Swap, Word}
 use Rattle.fw_words.specs.Quadlet.{field}
 use Rattle.std.proofs.Common.{bit_and}
 use Rattle.fw_page_laws.proofs.Modes.{Goes, IsWhole, hex-goes, if-goes, lit-goes, more-goes, none-goes, number-goes}
 
-pub register_name-outside : (a0 : Register) → (outer : List (List ℕ)) → Goes (Outside outer) (register_name a0) (Outside outer)
+pub register_name-outside : (a0 : NamedRegister) → (outer : List (List ℕ)) → Goes (Outside outer) (register_name a0) (Outside outer)
 register_name-outside StateClear outer = lit-goes (Outside outer) (codes "STATE_CLEAR") (Outside outer) refl refl
 register_name-outside StateSet outer = lit-goes (Outside outer) (codes "STATE_SET") (Outside outer) refl refl
 register_name-outside NodeIds outer = lit-goes (Outside outer) (codes "NODE_IDS") (Outside outer) refl refl
@@ -96,7 +96,7 @@ register_name-outside FcpCommand outer = lit-goes (Outside outer) (codes "FCP_CO
 register_name-outside FcpResponse outer = lit-goes (Outside outer) (codes "FCP_RESPONSE") (Outside outer) refl refl
 register_name-outside TopologyMap outer = lit-goes (Outside outer) (codes "TOPOLOGY_MAP") (Outside outer) refl refl
 
-pub place_text-outside : (a0 : Place) → (outer : List (List ℕ)) → Goes (Outside outer) (place_text a0) (Outside outer)
+pub place_text-outside : (a0 : RegisterPlace) → (outer : List (List ℕ)) → Goes (Outside outer) (place_text a0) (Outside outer)
 unfolding place_text
 place_text-outside (Named register index) outer = more-goes (register_name-outside register outer) (if-goes (is_row register) (more-goes (more-goes (lit-goes (Outside outer) (codes "[") (Outside
     outer) refl refl) (number-goes (Outside outer) tt index)) (lit-goes (Outside outer) (codes "]") (Outside outer) refl refl)) (none-goes (Outside outer)))
@@ -163,7 +163,7 @@ taken_text-outside first word outer = if-goes (word == 0) (lit-goes (Outside out
 pub moved_text-outside : (a0 : List ℕ) (a1 : ℕ) (a2 : ℕ) → IsWhole a0 → (outer : List (List ℕ)) → Goes (Outside outer) (moved_text a0 a1 a2) (Outside outer)
 moved_text-outside lead first word h0o outer = if-goes (word == 0) (none-goes (Outside outer)) (more-goes (h0o outer) (channels_text-outside first word outer))
 
-pub told_channels-outside : (a0 : Told) (a1 : ℕ) → (outer : List (List ℕ)) → Goes (Outside outer) (told_channels a0 a1) (Outside outer)
+pub told_channels-outside : (a0 : RegisterValue) (a1 : ℕ) → (outer : List (List ℕ)) → Goes (Outside outer) (told_channels a0 a1) (Outside outer)
 told_channels-outside (Word word) first outer = more-goes (lit-goes (Outside outer) (codes ", channels taken") (Outside outer) refl refl) (taken_text-outside first (inverted word) outer)
 told_channels-outside (Swap old new) first outer = more-goes (moved_text-outside (codes ", takes channel") first (bit_and old (inverted new)) (λ outer. lit-goes (Outside outer) (codes
     ", takes channel") (Outside outer) refl refl) outer) (moved_text-outside (codes ", gives back channel") first (bit_and new (inverted old)) (λ outer. lit-goes (Outside outer) (codes

@@ -1,5 +1,30 @@
 -- A bus reset keeps a page whole, and is told by its heading.
-use Rattle.fw_page_laws.proofs.Common.{Some, refl, ◌≡◌, ℕ, ◌==◌, ◌++◌, Bool, true, false, List, [], ◌∷◌, codes, None, if◌then◌else◌, subst, sym, ◌∙◌, Subject, Standing, State, Step, then_do, Outside}
+use Rattle.fw_page_laws.proofs.Common.{
+  Some,
+  refl,
+  ◌≡◌,
+  ℕ,
+  ◌==◌,
+  ◌++◌,
+  Bool,
+  true,
+  false,
+  List,
+  [],
+  ◌∷◌,
+  codes,
+  None,
+  if◌then◌else◌,
+  subst,
+  sym,
+  ◌∙◌,
+  Subject,
+  OutstandingRequest,
+  State,
+  TextAndState,
+  then_do,
+  Outside,
+}
 use Rattle.fw_page_laws.proofs.Common.{InValue}
 use Rattle.std.proofs.Common.{Result, Ok, Err}
 use Rattle.fw_log_entry.specs.Log.{ResetFits}
@@ -11,7 +36,7 @@ use Rattle.fw_page_section.specs.Sections.{section_by, section_over}
 use Rattle.fw_page_phrases.specs.Asking.{kind_of, class_of}
 use Rattle.fw_page.specs.State.{says, becomes}
 use Rattle.fw_page.specs.Rows.{gap}
-use Rattle.fw_page_content.specs.Heads.{classes_of, devices_of, request_front}
+use Rattle.fw_page_content.specs.Heads.{classes_of, devices_of, request_prefix}
 use Rattle.fw_page.specs.Resets.{drop_row, drop_by, drops, closed, reset_state, section_step, reset_row, reset}
 use Rattle.fw_page_content.specs.Exchanges.{dropped_marks, dropped_words}
 use Rattle.fw_page_content.specs.Kept.{account_text, orphans}
@@ -50,42 +75,42 @@ use Rattle.fw_page_laws.proofs.PhrasesAsking.{class_of-value}
 
 -- ---- what is dropped
 
-drop-clean : (cycle : ℕ) (s : Standing) → Clean (drop_row cycle s)
+drop-clean : (cycle : ℕ) (s : OutstandingRequest) → Clean (drop_row cycle s)
 drop-clean cycle s = λ st h.
-    row-acts (request_front st.nodes false s.request (codes " dp") st.number cycle) (dropped_marks st.nodes s.request.asked) (dropped_words s) None
+    row-acts (request_prefix st.nodes false s.request (codes " dp") st.number cycle) (dropped_marks st.nodes s.request.asked) (dropped_words s) None
     (classes_of-value (class_of (kind_of s.request)) (codes " dp") (devices_of st.nodes s.request.asked.source s.request.asked.destination) (class_of-value (kind_of s.request))
     (λ o. lit-goes (InValue o) (codes " dp") (InValue o) refl refl))
     (dropped_marks-outside st.nodes s.request.asked) (dropped_words-outside s) st h
 
-drop_by-clean : (cycle : ℕ) (s : Standing) → Clean (drop_by cycle s)
+drop_by-clean : (cycle : ℕ) (s : OutstandingRequest) → Clean (drop_by cycle s)
 drop_by-clean cycle s = λ st h. if-keeps (between st.begun) s.waits (drop_row cycle s st) (becomes st) [] st.number st.held (drop-clean cycle s st h) (none-clean st h)
 
-drops-clean : (cycle : ℕ) (list : List Standing) → Clean (drops cycle list)
+drops-clean : (cycle : ℕ) (list : List OutstandingRequest) → Clean (drops cycle list)
 drops-clean cycle [] = λ st h. none-keeps st (record st { standing = [] }) (record { lines = h.lines; lanes = h.lanes }) refl st.number st.held refl refl
 drops-clean cycle (s ∷ list) = λ st h.
     clean-acts (drop_by cycle s) (drops cycle list) no_numbers stays (drop_by-clean cycle s) (drops-clean cycle list) (record st { standing = list }) (record { lines = h.lines; lanes = h.lanes })
 
-drop_by-begun : (cycle : ℕ) (s : Standing) (st : State) → (drop_by cycle s st).state.begun ≡ st.begun
+drop_by-begun : (cycle : ℕ) (s : OutstandingRequest) (st : State) → (drop_by cycle s st).state.begun ≡ st.begun
 drop_by-begun cycle s st = go s.waits
   where
     go : (b : Bool) → (if b then drop_row cycle s st else becomes st).state.begun ≡ st.begun
-    go true = row-begun (request_front st.nodes false s.request (codes " dp") st.number cycle) (dropped_marks st.nodes s.request.asked) (dropped_words s) None st
+    go true = row-begun (request_prefix st.nodes false s.request (codes " dp") st.number cycle) (dropped_marks st.nodes s.request.asked) (dropped_words s) None st
     go false = refl
 
-drops-begun : (cycle : ℕ) (list : List Standing) (st : State) → (drops cycle list st).state.begun ≡ st.begun
+drops-begun : (cycle : ℕ) (list : List OutstandingRequest) (st : State) → (drops cycle list st).state.begun ≡ st.begun
 drops-begun cycle [] st = refl
 drops-begun cycle (s ∷ list) st = drops-begun cycle list (drop_by cycle s (record st { standing = list })).state ∙ drop_by-begun cycle s (record st { standing = list })
 
 -- ---- the end of a section
 
 -- up to its end
-abbrev dropped : ℕ → State → Step
+abbrev dropped : ℕ → State → TextAndState
 dropped cycle st = then_do (gap cycle st) (λ s. drops cycle s.standing s)
 
 dropped-clean : (cycle : ℕ) → Clean (dropped cycle)
 dropped-clean cycle = clean-acts (gap cycle) (λ s. drops cycle s.standing s) no_numbers stays (gap-clean cycle) (λ s k. drops-clean cycle s.standing s k)
 
-abbrev closed_by : Bool → ℕ → State → Step
+abbrev closed_by : Bool → ℕ → State → TextAndState
 closed_by begun cycle st = if begun then then_do (dropped cycle st) (says (codes "</ol>\n</section>\n")) else becomes st
 
 closed-by : (begun : Bool) (cycle : ℕ) (st : State) → st.begun ≡ begun → IsClean st → Keeps (between st.begun) (closed_by begun cycle st) (between false) [] st.number st.held
@@ -133,7 +158,7 @@ open-keeps cycle e st fits h = record {
 }
 
 -- from the end of one section to the beginning of the next
-abbrev turned : ℕ → ResetEntry → State → Step
+abbrev turned : ℕ → ResetEntry → State → TextAndState
 turned cycle e st = then_do (closed cycle st) (section_step cycle e)
 
 turned-acts : (cycle : ℕ) (e : ResetEntry) → ResetFits e → Acts (turned cycle e) own_number stays

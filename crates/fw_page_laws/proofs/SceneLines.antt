@@ -1,5 +1,5 @@
 -- The texts of fw_page_scene, Lines: each keeps a page whole.
-use Rattle.fw_page_laws.proofs.Common.{Account, NodeRow, Standing, List, None, Option, Some, [], codes, length, refl, slice_get, suc, zero, ℕ, ◌++◌, ◌+◌, ◌-◌, ◌∷◌, InValue, Outside}
+use Rattle.fw_page_laws.proofs.Common.{Account, NodeRow, OutstandingRequest, List, None, Option, Some, [], codes, length, refl, slice_get, suc, zero, ℕ, ◌++◌, ◌+◌, ◌-◌, ◌∷◌, InValue, Outside}
 use Rattle.fw_page_marks.specs.Places.{number_of, place_of}
 use Rattle.fw_page_laws.proofs.MarksShapes.{mark-outside, path-outside, rect-value}
 use Rattle.fw_page_laws.proofs.PhrasesAsking.{bar_class-value}
@@ -42,18 +42,18 @@ bar_at-outside class x (suc zero) h0v outer = mark-outside class (x + 8) (codes 
 bar_at-outside class x (suc (suc zero)) h0v outer = mark-outside class (x - 8) (codes " 0v999") h0v (λ outer. lit-goes (InValue outer) (codes " 0v999") (InValue outer) refl refl) outer
 bar_at-outside class x (suc (suc (suc n))) h0v outer = none-goes (Outside outer)
 
-pub bar_by-outside : (a0 : List NodeRow) (a1 : ℕ) (a2 : Standing) (a3 : Option ℕ) → (outer : List (List ℕ)) → Goes (Outside outer) (bar_by a0 a1 a2 a3) (Outside outer)
+pub bar_by-outside : (a0 : List NodeRow) (a1 : ℕ) (a2 : OutstandingRequest) (a3 : Option ℕ) → (outer : List (List ℕ)) → Goes (Outside outer) (bar_by a0 a1 a2 a3) (Outside outer)
 bar_by-outside rows before s None outer = none-goes (Outside outer)
 bar_by-outside rows before s (Some node) outer = if-goes s.waits (bar_at-outside (bar_class (kind_of s.request)) (place_of rows node) before (bar_class-value (kind_of s.request)) outer)
     (none-goes (Outside outer))
 
-pub bar_of-outside : (a0 : List NodeRow) (a1 : List Standing) (a2 : Standing) → (outer : List (List ℕ)) → Goes (Outside outer) (bar_of a0 a1 a2) (Outside outer)
+pub bar_of-outside : (a0 : List NodeRow) (a1 : List OutstandingRequest) (a2 : OutstandingRequest) → (outer : List (List ℕ)) → Goes (Outside outer) (bar_of a0 a1 a2) (Outside outer)
 bar_of-outside rows before s outer = bar_by-outside rows (waiting rows s.request.asked.source before) s (number_of rows s.request.asked.source) outer
 
-pub bars-outside : (a0 : List NodeRow) (a1 : List Standing) (a2 : List Standing) → (outer : List (List ℕ)) → Goes (Outside outer) (bars a0 a1 a2) (Outside outer)
+pub bars-outside : (a0 : List NodeRow) (a1 : List OutstandingRequest) (a2 : List OutstandingRequest) → (outer : List (List ℕ)) → Goes (Outside outer) (bars a0 a1 a2) (Outside outer)
 unfolding bars
 bars-outside rows before [] outer = none-goes (Outside outer)
 bars-outside rows before (s ∷ list) outer = more-goes (bar_of-outside rows before s outer) (bars-outside rows (before ++ (s ∷ [])) list outer)
 
-pub lines-outside : (a0 : Lives) (a1 : Option Account) (a2 : List NodeRow) (a3 : List Standing) → (outer : List (List ℕ)) → Goes (Outside outer) (lines a0 a1 a2 a3) (Outside outer)
+pub lines-outside : (a0 : Lives) (a1 : Option Account) (a2 : List NodeRow) (a3 : List OutstandingRequest) → (outer : List (List ℕ)) → Goes (Outside outer) (lines a0 a1 a2 a3) (Outside outer)
 lines-outside lives l rows standing outer = more-goes (nodes_text-outside lives l rows outer) (bars-outside rows [] standing outer)

@@ -24,22 +24,22 @@ use Rattle.fw_page_section.specs.Signs.{
   tags,
   tags_text,
   text_at,
-  text_front,
+  text_prefix,
   tick,
 }
 use Rattle.fw_page_laws.specs.Markup.{InTag}
 use Rattle.fw_page_laws.proofs.Modes.{Goes, IsValued, IsWhole, if-goes, lit-goes, more-goes, none-goes, number-goes}
 
-pub text_front-outside : (a0 : List ℕ) (a1 : ℕ) (a2 : ℕ) → IsValued a0 → (outer : List (List ℕ)) → Goes (Outside outer) (text_front a0 a1 a2) (Outside (codes "text" ∷ outer))
-unfolding text_front
-text_front-outside class x y h0v outer = more-goes (more-goes (more-goes (more-goes (lit-goes (Outside outer) (codes "<text class=\"") (InValue (codes "text" ∷ outer)) refl refl) (h0v (codes
+pub text_prefix-outside : (a0 : List ℕ) (a1 : ℕ) (a2 : ℕ) → IsValued a0 → (outer : List (List ℕ)) → Goes (Outside outer) (text_prefix a0 a1 a2) (Outside (codes "text" ∷ outer))
+unfolding text_prefix
+text_prefix-outside class x y h0v outer = more-goes (more-goes (more-goes (more-goes (lit-goes (Outside outer) (codes "<text class=\"") (InValue (codes "text" ∷ outer)) refl refl) (h0v (codes
     "text" ∷ outer))) (more-goes (lit-goes (InValue (codes "text" ∷ outer)) (codes "\" x=\"") (InValue (codes "text" ∷ outer)) refl refl) (number-goes (InValue (codes "text" ∷ outer)) tt x)))
     (more-goes (lit-goes (InValue (codes "text" ∷ outer)) (codes "\" y=\"") (InValue (codes "text" ∷ outer)) refl refl) (number-goes (InValue (codes "text" ∷ outer)) tt y))) (lit-goes (InValue
     (codes "text" ∷ outer)) (codes "\">") (Outside (codes "text" ∷ outer)) refl refl)
 
 pub text_at-outside : (a0 : List ℕ) (a1 : ℕ) (a2 : ℕ) (a3 : List ℕ) → IsValued a0 → IsWhole a3 → (outer : List (List ℕ)) → Goes (Outside outer) (text_at a0 a1 a2 a3) (Outside outer)
 unfolding text_at
-text_at-outside class x y text h0v h3o outer = more-goes (more-goes (text_front-outside class x y h0v outer) (h3o (codes "text" ∷ outer))) (lit-goes (Outside (codes "text" ∷ outer)) (codes
+text_at-outside class x y text h0v h3o outer = more-goes (more-goes (text_prefix-outside class x y h0v outer) (h3o (codes "text" ∷ outer))) (lit-goes (Outside (codes "text" ∷ outer)) (codes
     "</text>") (Outside outer) refl refl)
 
 pub tags-outside : (a0 : Subject) (a1 : ℕ) → (outer : List (List ℕ)) → Goes (Outside outer) (tags a0 a1) (Outside outer)

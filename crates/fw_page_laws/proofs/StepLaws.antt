@@ -1,5 +1,31 @@
 -- Steps keep a page whole, and tell entries by the numbers of rows: each by what is held back and the number of the present entry.
-use Rattle.fw_page_laws.proofs.Common.{◌≡◌, ℕ, ◌-◌, ◌==◌, Bool, true, false, List, [], ◌∷◌, ◌++◌, codes, Option, if◌then◌else◌, refl, ap, subst, sym, ◌∙◌, State, Step, Held, then_do, plain, Mode}
+use Rattle.fw_page_laws.proofs.Common.{
+  ◌≡◌,
+  ℕ,
+  ◌-◌,
+  ◌==◌,
+  Bool,
+  true,
+  false,
+  List,
+  [],
+  ◌∷◌,
+  ◌++◌,
+  codes,
+  Option,
+  if◌then◌else◌,
+  refl,
+  ap,
+  subst,
+  sym,
+  ◌∙◌,
+  State,
+  TextAndState,
+  Deferred,
+  then_do,
+  plain,
+  Mode,
+}
 use Rattle.fw_page_laws.proofs.Common.{Outside, mode_of, names_of}
 use Rattle.std.proofs.Common.{slice_index, map}
 use Rattle.std.specs.List.{filter}
@@ -7,7 +33,7 @@ use Rattle.std.proofs.lemmas.List.{map-append}
 use Rattle.std.proofs.lemmas.List.Elements.{filter-append}
 use Rattle.fw_page.specs.State.{becomes}
 use Rattle.fw_page.specs.Rows.{gap, bare_row, row, before, before_text, due, due_words}
-use Rattle.fw_page_content.specs.Heads.{Front}
+use Rattle.fw_page_content.specs.Heads.{Prefix}
 use Rattle.fw_page_laws.specs.Markup.{told_as, told_names}
 use Rattle.fw_page_laws.proofs.Modes.{Goes, IsWhole, IsValued, mode_more, names_more, none-goes}
 use Rattle.fw_page_laws.proofs.Tells.{Tells, anchor_names, row-tells, stop-tells}
@@ -50,31 +76,32 @@ told-more m a n b k xs ys p q = record {
 -- ---- steps
 
 -- a step leads from a mode to a mode, tells these numbers, and leaves the number of the present entry and this held back
-pub record Keeps (m : Mode) (s : Step) (n : Mode) (numbers : List ℕ) (number : ℕ) (held : Held) : Type 0 where
+pub record Keeps (m : Mode) (s : TextAndState) (n : Mode) (numbers : List ℕ) (number : ℕ) (held : Deferred) : Type 0 where
   pub text : IsTold m s.text n numbers
   pub state : IsClean s.state
   pub number_is : s.state.number ≡ number
   pub held_is : s.state.held ≡ held
 
 -- from what is open to what is open then
-abbrev pub Keeps_from : Bool → Step → List ℕ → ℕ → Held → Type 0
+abbrev pub Keeps_from : Bool → TextAndState → List ℕ → ℕ → Deferred → Type 0
 Keeps_from begun s numbers number held = Keeps (between begun) s (between s.state.begun) numbers number held
 
-abbrev pub Acts : (State → Step) → (ℕ → Held → List ℕ) → (ℕ → Held → Held) → Type 0
+abbrev pub Acts : (State → TextAndState) → (ℕ → Deferred → List ℕ) → (ℕ → Deferred → Deferred) → Type 0
 Acts step numbers held = (st : State) → IsClean st → Keeps_from st.begun (step st) (numbers st.number st.held) st.number (held st.number st.held)
 
 -- no numbers, and what is held back stays
-abbrev pub no_numbers : ℕ → Held → List ℕ
+abbrev pub no_numbers : ℕ → Deferred → List ℕ
 no_numbers n h = []
 
-abbrev pub stays : ℕ → Held → Held
+abbrev pub stays : ℕ → Deferred → Deferred
 stays n h = h
 
 -- a step that tells nothing and holds nothing else back
-abbrev pub Clean : (State → Step) → Type 0
+abbrev pub Clean : (State → TextAndState) → Type 0
 Clean step = Acts step no_numbers stays
 
-pub then-acts : (f g : State → Step) (fn gn : ℕ → Held → List ℕ) (fh gh : ℕ → Held → Held) → Acts f fn fh → Acts g gn gh → Acts (λ st. then_do (f st) g) (λ n h. fn n h ++ gn n (fh n h)) (λ n h.
+pub then-acts : (f g : State → TextAndState) (fn gn : ℕ → Deferred → List ℕ) (fh gh : ℕ → Deferred → Deferred) → Acts f fn fh → Acts g gn gh
+    → Acts (λ st. then_do (f st) g) (λ n h. fn n h ++ gn n (fh n h)) (λ n h.
     gh n (fh n h))
 then-acts f g fn gn fh gh p q = λ st h.
     let a = p st h in
@@ -91,15 +118,16 @@ then-acts f g fn gn fh gh p q = λ st h.
     }
 
 -- one that tells nothing, and then another
-pub clean-acts : (f g : State → Step) (gn : ℕ → Held → List ℕ) (gh : ℕ → Held → Held) → Clean f → Acts g gn gh → Acts (λ st. then_do (f st) g) gn gh
+pub clean-acts : (f g : State → TextAndState) (gn : ℕ → Deferred → List ℕ) (gh : ℕ → Deferred → Deferred) → Clean f → Acts g gn gh → Acts (λ st. then_do (f st) g) gn gh
 clean-acts f g gn gh p q = then-acts f g no_numbers gn stays gh p q
 
 -- a text that names nothing
-pub text-keeps : (m : Mode) (s : Step) (n : Mode) (number : ℕ) (held : Held) → Goes m s.text n → IsClean s.state → s.state.number ≡ number → s.state.held ≡ held → Keeps m s n [] number held
+pub text-keeps : (m : Mode) (s : TextAndState) (n : Mode) (number : ℕ) (held : Deferred) → Goes m s.text n → IsClean s.state → s.state.number ≡ number → s.state.held ≡ held
+    → Keeps m s n [] number held
 text-keeps m s n number held g c e f = record { text = goes-told_so m s.text n g; state = c; number_is = e; held_is = f }
 
 -- no text
-pub none-keeps : (st new : State) → IsClean new → new.begun ≡ st.begun → (number : ℕ) (held : Held) → new.number ≡ number → new.held ≡ held → Keeps_from st.begun (becomes new) [] number held
+pub none-keeps : (st new : State) → IsClean new → new.begun ≡ st.begun → (number : ℕ) (held : Deferred) → new.number ≡ number → new.held ≡ held → Keeps_from st.begun (becomes new) [] number held
 none-keeps st new c b number held e f =
     text-keeps (between st.begun) (becomes new) (between new.begun) number held (subst (λ (x : Bool). Goes (between st.begun) [] (between x)) (sym b) (none-goes (between st.begun))) c e f
 
@@ -110,7 +138,8 @@ none-clean = λ st h. none-keeps st st h refl st.number st.held refl refl
 pub says-keeps : (text : List ℕ) (st : State) → IsClean st → IsWhole text → Keeps_from st.begun (record { text = text; state = st }) [] st.number st.held
 says-keeps text st h p = text-keeps (between st.begun) (record { text = text; state = st }) (between st.begun) st.number st.held (p (open_elements st.begun)) h refl refl
 
-pub if-keeps : (m : Mode) (b : Bool) (x y : Step) (numbers : List ℕ) (number : ℕ) (held : Held) → Keeps m x (between x.state.begun) numbers number held → Keeps m y (between y.state.begun) numbers
+pub if-keeps : (m : Mode) (b : Bool) (x y : TextAndState) (numbers : List ℕ) (number : ℕ) (held : Deferred) → Keeps m x (between x.state.begun) numbers number held
+    → Keeps m y (between y.state.begun) numbers
     number held
     → Keeps m (if b then x else y) (between (if b then x else y).state.begun) numbers number held
 if-keeps m true x y numbers number held p q = p
@@ -124,7 +153,7 @@ gap-clean cycle = λ st h.
     (record { lines = h.lines; lanes = h.lanes }) refl refl
 
 -- the beginning of a section, if none is open
-abbrev begun_by : Bool → State → Step
+abbrev begun_by : Bool → State → TextAndState
 begun_by begun st = if begun then becomes st else record { text = before_text; state = record st { begun = true } }
 
 before-by : (begun : Bool) (st : State) → st.begun ≡ begun → IsClean st → Keeps_from st.begun (begun_by begun st) [] st.number st.held
@@ -156,11 +185,11 @@ told_so : (is_anchor : Bool) (number : ℕ) → filter (λ name. slice_index nam
 told_so true number = refl
 told_so false number = refl
 
-bare-acts : (front : Front) (marks words : List ℕ) (dot : Option ℕ) → IsValued front.classes → IsWhole marks → IsWhole words
-    → Acts (bare_row front marks words dot) (λ n h. row_numbers front.is_anchor front.number) stays
-bare-acts front marks words dot c m w = λ st h. record {
-  text = tells-told (between st.begun) _ (between st.begun) (anchor_names front.is_anchor front.number) (row_numbers front.is_anchor front.number) (told_so front.is_anchor front.number)
-      (row-tells front marks words dot st c m w h.lanes h.lines (open_elements st.begun));
+bare-acts : (prefix : Prefix) (marks words : List ℕ) (dot : Option ℕ) → IsValued prefix.classes → IsWhole marks → IsWhole words
+    → Acts (bare_row prefix marks words dot) (λ n h. row_numbers prefix.is_anchor prefix.number) stays
+bare-acts prefix marks words dot c m w = λ st h. record {
+  text = tells-told (between st.begun) _ (between st.begun) (anchor_names prefix.is_anchor prefix.number) (row_numbers prefix.is_anchor prefix.number) (told_so prefix.is_anchor prefix.number)
+      (row-tells prefix marks words dot st c m w h.lanes h.lines (open_elements st.begun));
   state = record { lines = lines_now-outside st; lanes = lanes_now-outside st };
   number_is = refl;
   held_is = refl;
@@ -170,20 +199,20 @@ pub nothing_more : (xs : List ℕ) → xs ++ [] ≡ xs
 nothing_more [] = refl
 nothing_more (x ∷ xs) = ap (λ (ys : List ℕ). x ∷ ys) (nothing_more xs)
 
-pub row-acts : (front : Front) (marks words : List ℕ) (dot : Option ℕ) → IsValued front.classes → IsWhole marks → IsWhole words
-    → Acts (row front marks words dot) (λ n h. row_numbers front.is_anchor front.number) stays
-row-acts front marks words dot c m w = λ st h.
-    let k = then-acts (λ s. then_do (gap front.cycle s) (bare_row front marks words dot)) due (λ n h. row_numbers front.is_anchor front.number) no_numbers stays stays
-    (clean-acts (gap front.cycle) (bare_row front marks words dot) (λ n h. row_numbers front.is_anchor front.number) stays (gap-clean front.cycle) (bare-acts front marks words dot c m w))
+pub row-acts : (prefix : Prefix) (marks words : List ℕ) (dot : Option ℕ) → IsValued prefix.classes → IsWhole marks → IsWhole words
+    → Acts (row prefix marks words dot) (λ n h. row_numbers prefix.is_anchor prefix.number) stays
+row-acts prefix marks words dot c m w = λ st h.
+    let k = then-acts (λ s. then_do (gap prefix.cycle s) (bare_row prefix marks words dot)) due (λ n h. row_numbers prefix.is_anchor prefix.number) no_numbers stays stays
+    (clean-acts (gap prefix.cycle) (bare_row prefix marks words dot) (λ n h. row_numbers prefix.is_anchor prefix.number) stays (gap-clean prefix.cycle) (bare-acts prefix marks words dot c m w))
     due-clean st h in
-    subst (λ (x : List ℕ). Keeps_from st.begun (row front marks words dot st) x st.number st.held) (nothing_more (row_numbers front.is_anchor front.number)) k
+    subst (λ (x : List ℕ). Keeps_from st.begun (row prefix marks words dot st) x st.number st.held) (nothing_more (row_numbers prefix.is_anchor prefix.number)) k
 
 -- a row leaves the section open, or closed
-pub row-begun : (front : Front) (marks words : List ℕ) (dot : Option ℕ) (st : State) → (row front marks words dot st).state.begun ≡ st.begun
-row-begun front marks words dot st = due-begun st.is_due
+pub row-begun : (prefix : Prefix) (marks words : List ℕ) (dot : Option ℕ) (st : State) → (row prefix marks words dot st).state.begun ≡ st.begun
+row-begun prefix marks words dot st = due-begun st.is_due
   where
     after : State
-    after = (bare_row front marks words dot (gap front.cycle st).state).state
+    after = (bare_row prefix marks words dot (gap prefix.cycle st).state).state
 
     due-begun : (b : Bool) → (if b then record { text = plain (codes " id=\"stop\"") (codes "nt") (due_words after.followed.stop) after; state = record after { is_due = false } } else becomes
         after).state.begun ≡ st.begun
@@ -191,12 +220,12 @@ row-begun front marks words dot st = due-begun st.is_due
     due-begun false = refl
 
 -- a step, and one that tells nothing
-pub acts-clean : (f g : State → Step) (fn : ℕ → Held → List ℕ) (fh : ℕ → Held → Held) → Acts f fn fh → Clean g → Acts (λ st. then_do (f st) g) fn fh
+pub acts-clean : (f g : State → TextAndState) (fn : ℕ → Deferred → List ℕ) (fh : ℕ → Deferred → Deferred) → Acts f fn fh → Clean g → Acts (λ st. then_do (f st) g) fn fh
 acts-clean f g fn fh p q = λ st h.
     subst (λ (x : List ℕ). Keeps_from st.begun (then_do (f st) g) x st.number (fh st.number st.held)) (nothing_more (fn st.number st.held)) (then-acts f g fn no_numbers fh stays p q st h)
 
 -- the same under equal numbers
-pub keeps-as : (b c : Bool) (s : Step) (numbers : List ℕ) (n m : ℕ) (h k : Held) → b ≡ c → n ≡ m → h ≡ k → Keeps_from b s numbers n h → Keeps_from c s numbers m k
+pub keeps-as : (b c : Bool) (s : TextAndState) (numbers : List ℕ) (n m : ℕ) (h k : Deferred) → b ≡ c → n ≡ m → h ≡ k → Keeps_from b s numbers n h → Keeps_from c s numbers m k
 keeps-as b c s numbers n m h k d e f p = record {
   text = subst (λ (x : Bool). IsTold (between x) s.text (between s.state.begun) numbers) d p.text;
   state = p.state;

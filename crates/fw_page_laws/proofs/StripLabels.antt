@@ -1,14 +1,14 @@
 -- The texts of fw_page_strip, Labels: each keeps a page whole.
 use Rattle.fw_page_laws.proofs.Common.{Account, Owner, Plug, List, None, Option, Some, codes, nat_lt, refl, ℕ, ◌*◌, ◌+◌, ◌-◌, ◌==◌, ◌∷◌, InValue, Outside}
-use Rattle.fw_page_strip.specs.Labels.{change_of, changed_below, changes, channel_label, dot_text, label_front, label_text, labels, owner_in, owner_text, taken, units_label}
+use Rattle.fw_page_strip.specs.Labels.{change_of, changed_below, changes, channel_label, dot_text, label_prefix, label_text, labels, owner_in, owner_text, taken, units_label}
 use Rattle.fw_page_strip.specs.Owners.{owners}
 use Rattle.fw_page_strip.specs.declared.labels.Change.{Change}
 use Rattle.fw_page_strip.specs.declared.labels.Change.TheVariants.{More, Nothing, One}
 use Rattle.fw_page_strip.specs.declared.owner.Owner.TheVariants.{Bus, Nobody}
 use Rattle.fw_page_laws.proofs.Modes.{Goes, if-goes, lit-goes, more-goes, none-goes, number-goes}
 
-pub label_front-outside : (a0 : ℕ) → (outer : List (List ℕ)) → Goes (Outside outer) (label_front a0) (InValue (codes "text" ∷ outer))
-label_front-outside channel outer = if-goes (nat_lt channel 40) (more-goes (lit-goes (Outside outer) (codes "<text class=\"b\" x=\"") (InValue (codes "text" ∷ outer)) refl refl) (number-goes
+pub label_prefix-outside : (a0 : ℕ) → (outer : List (List ℕ)) → Goes (Outside outer) (label_prefix a0) (InValue (codes "text" ∷ outer))
+label_prefix-outside channel outer = if-goes (nat_lt channel 40) (more-goes (lit-goes (Outside outer) (codes "<text class=\"b\" x=\"") (InValue (codes "text" ∷ outer)) refl refl) (number-goes
     (InValue (codes "text" ∷ outer)) tt (150 + (6 * channel)))) (more-goes (lit-goes (Outside outer) (codes "<text class=\"e\" x=\"") (InValue (codes "text" ∷ outer)) refl refl) (number-goes
     (InValue (codes "text" ∷ outer)) tt (135 + (6 * channel))))
 
@@ -20,7 +20,7 @@ owner_text-outside channel Bus outer = lit-goes (Outside outer) (codes "31 withh
 
 pub label_text-outside : (a0 : ℕ) (a1 : Owner) → (outer : List (List ℕ)) → Goes (Outside outer) (label_text a0 a1) (Outside outer)
 unfolding label_text
-label_text-outside channel owner outer = more-goes (more-goes (more-goes (label_front-outside channel outer) (lit-goes (InValue (codes "text" ∷ outer)) (codes "\" y=\"16\">") (Outside (codes
+label_text-outside channel owner outer = more-goes (more-goes (more-goes (label_prefix-outside channel outer) (lit-goes (InValue (codes "text" ∷ outer)) (codes "\" y=\"16\">") (Outside (codes
     "text" ∷ outer)) refl refl)) (owner_text-outside channel owner (codes "text" ∷ outer))) (lit-goes (Outside (codes "text" ∷ outer)) (codes "</text>") (Outside outer) refl refl)
 
 pub channel_label-outside : (a0 : Change) (a1 : List Owner) → (outer : List (List ℕ)) → Goes (Outside outer) (channel_label a0 a1) (Outside outer)

@@ -8,8 +8,8 @@ use Rattle.fw_map.specs.declared.MapFault.{MapFault}
 use Rattle.fw_map.specs.declared.tree.Tree.{Tree}
 use Rattle.fw_page_section.specs.Sections.{heading, section_over}
 use Rattle.fw_page.specs.Rows.{lines_now, row_text}
-use Rattle.fw_page_content.specs.Heads.{Front, anchor_text, head_text}
-use Rattle.fw_page_laws.specs.Markup.{InElement, InTag, InName, mode_behind, name_at, told_as}
+use Rattle.fw_page_content.specs.Heads.{Prefix, anchor_text, head_text}
+use Rattle.fw_page_laws.specs.Markup.{InElement, InTag, InName, mode_after, name_at, told_as}
 use Rattle.fw_page_laws.proofs.Modes.{Goes, IsWhole, IsValued, IsPlain, mode_more, names_more, lit-goes, more-goes, number-goes, glyph_plain}
 use Rattle.fw_page_laws.proofs.Items.{IsOfNode, items_text-in-div}
 use Rattle.fw_page_laws.proofs.MarksShapes.{halves-outside}
@@ -18,7 +18,7 @@ use Rattle.fw_page_laws.proofs.ContentHeads.{edge_text-value}
 use Rattle.fw_page_laws.proofs.PageRows.{lines_now-outside, strip_text-in-p-li, plain_back-in-p-li}
 use Rattle.fw_page_laws.proofs.SectionPictures.{picture-outside}
 use Rattle.fw_page_laws.proofs.SectionSays.{says-outside}
-use Rattle.fw_page_laws.proofs.SectionSections.{section_front-outside}
+use Rattle.fw_page_laws.proofs.SectionSections.{section_prefix-outside}
 use Rattle.fw_page_laws.proofs.SectionSigns.{columns_text-outside}
 
 -- a text leads from a mode to a mode, and has these names
@@ -52,10 +52,10 @@ named_one : (within : List (List ℕ)) (read : List ℕ) (b : ℕ) (text : List 
     → Goes (InName within read) (b ∷ text) (InName within (read ++ b ∷ text))
 named_one within read b text h w = record {
   is = ap (λ (x : Mode). mode_of x text) next ∙ (w.is ∙ ap (InName within) (append_assoc read (b ∷ []) text));
-  none = ap (λ (x : List (List ℕ)). x ++ names_of (mode_behind (InName within read) b) text) here ∙ (ap (λ (x : Mode). names_of x text) next ∙ w.none);
+  none = ap (λ (x : List (List ℕ)). x ++ names_of (mode_after (InName within read) b) text) here ∙ (ap (λ (x : Mode). names_of x text) next ∙ w.none);
 }
   where
-    next : mode_behind (InName within read) b ≡ InName within (read ++ b ∷ [])
+    next : mode_after (InName within read) b ≡ InName within (read ++ b ∷ [])
     next = rw (h.plain, h.no_quote) refl
 
     here : name_at (InName within read) b ≡ []
@@ -103,20 +103,20 @@ begin-tells true number outer =
     ended = record { is = refl; names_are = refl }
 begin-tells false number outer = record { is = refl; names_are = refl }
 
-head-tells : (front : Front) (edge : Bool) → IsValued front.classes → (outer : List (List ℕ))
-    → Tells (Outside outer) (head_text front edge) (Outside (codes "svg" ∷ codes "li" ∷ outer)) (anchor_names front.is_anchor front.number)
+head-tells : (prefix : Prefix) (edge : Bool) → IsValued prefix.classes → (outer : List (List ℕ))
+    → Tells (Outside outer) (head_text prefix edge) (Outside (codes "svg" ∷ codes "li" ∷ outer)) (anchor_names prefix.is_anchor prefix.number)
 unfolding head_text
-head-tells front edge h outer =
-    tells-goes (tells-goes (tells-goes (tells-goes (tells-goes (begin-tells front.is_anchor front.number outer) (h (codes "li" ∷ outer))) (edge_text-value edge (codes "li" ∷ outer)))
-    (more-goes (lit-goes (Outside (codes "li" ∷ outer)) (codes "<i>") (Outside (codes "i" ∷ codes "li" ∷ outer)) refl refl) (number-goes (Outside (codes "i" ∷ codes "li" ∷ outer)) tt front.number)))
+head-tells prefix edge h outer =
+    tells-goes (tells-goes (tells-goes (tells-goes (tells-goes (begin-tells prefix.is_anchor prefix.number outer) (h (codes "li" ∷ outer))) (edge_text-value edge (codes "li" ∷ outer)))
+    (more-goes (lit-goes (Outside (codes "li" ∷ outer)) (codes "<i>") (Outside (codes "i" ∷ codes "li" ∷ outer)) refl refl) (number-goes (Outside (codes "i" ∷ codes "li" ∷ outer)) tt prefix.number)))
     (more-goes (lit-goes (Outside (codes "i" ∷ codes "li" ∷ outer)) (codes "</i><b>") (Outside (codes "b" ∷ codes "li" ∷ outer)) refl refl) (number-goes (Outside (codes "b" ∷ codes "li" ∷ outer))
-    tt front.cycle)))
+    tt prefix.cycle)))
     (lit-goes (Outside (codes "b" ∷ codes "li" ∷ outer)) (codes "</b><svg class=\"f\" aria-hidden=\"true\">") (Outside (codes "svg" ∷ codes "li" ∷ outer)) refl refl)
 
-pub row-tells : (front : Front) (marks words : List ℕ) (dot : Option ℕ) (st : State) → IsValued front.classes → IsWhole marks → IsWhole words → IsWhole st.drawn.lanes → IsWhole st.drawn.lines
-    → (outer : List (List ℕ)) → Tells (Outside outer) (row_text front marks words dot st) (Outside outer) (anchor_names front.is_anchor front.number)
-row-tells front marks words dot st c m w lanes lines outer =
-    tells-goes (tells-goes (tells-goes (tells-goes (tells-goes (head-tells front st.second c outer)
+pub row-tells : (prefix : Prefix) (marks words : List ℕ) (dot : Option ℕ) (st : State) → IsValued prefix.classes → IsWhole marks → IsWhole words → IsWhole st.drawn.lanes → IsWhole st.drawn.lines
+    → (outer : List (List ℕ)) → Tells (Outside outer) (row_text prefix marks words dot st) (Outside outer) (anchor_names prefix.is_anchor prefix.number)
+row-tells prefix marks words dot st c m w lanes lines outer =
+    tells-goes (tells-goes (tells-goes (tells-goes (tells-goes (head-tells prefix st.second c outer)
     (halves-outside st.drawn.lines (lines_now st) lines (lines_now-outside st) (codes "svg" ∷ codes "li" ∷ outer))) (m (codes "svg" ∷ codes "li" ∷ outer)))
     (lit-goes (Outside (codes "svg" ∷ codes "li" ∷ outer)) (codes "</svg><p>") (Outside (codes "p" ∷ codes "li" ∷ outer)) refl refl)) (w (codes "p" ∷ codes "li" ∷ outer)))
     (strip_text-in-p-li dot st lanes outer)
@@ -157,7 +157,7 @@ pub section-tells : (s : Subject) (t : Option Tree) (fault : Option MapFault) (l
     → Tells (Outside outer) (section_over s t fault lanes) (Outside (codes "ol" ∷ codes "section" ∷ outer)) (told_as s.number ∷ [])
 unfolding section_over
 section-tells s t fault lanes first l outer =
-    tells-goes (tells-goes (tells-goes (tells-goes (tells-goes (tells-goes (goes-tells (section_front-outside s outer) (heading-tells s (codes "section" ∷ outer)))
+    tells-goes (tells-goes (tells-goes (tells-goes (tells-goes (tells-goes (goes-tells (section_prefix-outside s outer) (heading-tells s (codes "section" ∷ outer)))
     (lit-goes (Outside (codes "div" ∷ codes "section" ∷ outer)) (codes "<p>") (Outside (codes "p" ∷ codes "div" ∷ codes "section" ∷ outer)) refl refl))
     (says-outside s fault (codes "p" ∷ codes "div" ∷ codes "section" ∷ outer)))
     (lit-goes (Outside (codes "p" ∷ codes "div" ∷ codes "section" ∷ outer)) (codes "</p>\n") (Outside (codes "div" ∷ codes "section" ∷ outer)) refl refl))

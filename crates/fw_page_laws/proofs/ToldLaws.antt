@@ -1,5 +1,5 @@
 -- Each entry is told.
-use Rattle.fw_page_laws.proofs.Common.{◌≡◌, ℕ, ◌+◌, List, [], ◌∷◌, ◌++◌, length, ap, subst, sym, ◌∙◌, arith, Timed, State, Held, piece_of, piece, Outside}
+use Rattle.fw_page_laws.proofs.Common.{◌≡◌, ℕ, ◌+◌, List, [], ◌∷◌, ◌++◌, length, ap, subst, sym, ◌∙◌, arith, Timed, State, Deferred, piece_of, piece, Outside}
 use Rattle.std.proofs.Common.{◌^◌, ◌<◌, append_assoc}
 use Rattle.std.proofs.lemmas.List.{append-nil}
 use Rattle.fw_page.specs.State.{first_state}
@@ -67,7 +67,7 @@ telling st (t ∷ list) before told low f h o =
     step : IsOnce (piece t st).state.number (held_numbers (piece t st).state.held) (before ++ home t.cycle t.what st ∷ []) (told ++ p.numbers)
     step =
         subst (λ (n : ℕ). IsOnce n (held_numbers (piece t st).state.held) (before ++ home t.cycle t.what st ∷ []) (told ++ p.numbers)) (sym number)
-        (subst (λ (x : Held). IsOnce (st.number + 1) (held_numbers x) (before ++ home t.cycle t.what st ∷ []) (told ++ p.numbers)) (sym p.keeps.held_is)
+        (subst (λ (x : Deferred). IsOnce (st.number + 1) (held_numbers x) (before ++ home t.cycle t.what st ∷ []) (told ++ p.numbers)) (sym p.keeps.held_is)
         (one_more st.number (held_numbers st.held) (held_numbers p.held) before told p.numbers (home t.cycle t.what st) o p.accounts))
 
     sum : (piece t st).state.number + length list ≡ st.number + length (t ∷ list)

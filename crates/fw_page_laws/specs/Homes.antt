@@ -29,19 +29,19 @@ is_answered _ _ = false
 
 -- An entry is told by the number of the request just before it, which it answers in the same cycle.
 pub record IsAtOnce (before : List Timed) (t : Timed) (home : ℕ) : Type 0 where
-  pub front : List Timed
+  pub prefix : List Timed
   pub asking : Timed
-  pub here : before ≡ front ++ asking ∷ []
-  pub number : home ≡ length front
+  pub here : before ≡ prefix ++ asking ∷ []
+  pub number : home ≡ length prefix
   pub in_cycle : IsTrue (asking.cycle == t.cycle)
   pub answered : IsTrue (is_answered asking.what t.what)
 
 -- It is told by the number of the first of a run: of entries of a stream one after another, of which it is the last.
 pub record IsOfRun (before : List Timed) (t : Timed) (home : ℕ) : Type 0 where
-  pub front : List Timed
+  pub prefix : List Timed
   pub run : List Timed
-  pub here : before ≡ front ++ run
-  pub number : home ≡ length front
+  pub here : before ≡ prefix ++ run
+  pub number : home ≡ length prefix
   pub streamed : IsTrue (list_all (λ (x : Timed). is_streamed x.what) (run ++ t ∷ []))
 
 -- An entry after others is told by its own number, by that of its request, or by that of its run.

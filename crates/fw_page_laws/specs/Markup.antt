@@ -70,22 +70,22 @@ after_tag within [] = Outside within
 after_tag within (byte ∷ more) = if bytes_eq (byte ∷ more) (codes "/") then emptied within else Broken
 
 -- after a byte; a link leads within the page, by `#`
-abbrev pub mode_behind : Mode → ℕ → Mode
-mode_behind (Outside within) byte = if byte == 60 then InElement within [] else if (byte == 10) || is_plain byte then Outside within else Broken
-mode_behind (InElement within read) byte =
+abbrev pub mode_after : Mode → ℕ → Mode
+mode_after (Outside within) byte = if byte == 60 then InElement within [] else if (byte == 10) || is_plain byte then Outside within else Broken
+mode_after (InElement within read) byte =
     if byte == 62 then after_element within read else if (byte == 32) && is_one_of elements read then InTag (read ∷ within) (byte ∷ [])
     else if is_plain byte then InElement within (read ++ byte ∷ []) else Broken
-mode_behind (InTag within read) byte =
+mode_after (InTag within read) byte =
     if byte == 34 then after_attribute within read else if byte == 62 then after_tag within read else if is_plain byte then InTag within (read ++ byte ∷ []) else Broken
-mode_behind (InValue within) byte = if byte == 34 then InTag within [] else if is_value byte then InValue within else Broken
-mode_behind (InLink within) byte = if byte == 35 then InValue within else Broken
-mode_behind (InName within read) byte = if byte == 34 then InTag within [] else if is_plain byte then InName within (read ++ byte ∷ []) else Broken
-mode_behind Broken byte = Broken
+mode_after (InValue within) byte = if byte == 34 then InTag within [] else if is_value byte then InValue within else Broken
+mode_after (InLink within) byte = if byte == 35 then InValue within else Broken
+mode_after (InName within read) byte = if byte == 34 then InTag within [] else if is_plain byte then InName within (read ++ byte ∷ []) else Broken
+mode_after Broken byte = Broken
 
 -- after a text
 abbrev pub mode_of : Mode → List ℕ → Mode
 mode_of mode [] = mode
-mode_of mode (byte ∷ bytes) = mode_of (mode_behind mode byte) bytes
+mode_of mode (byte ∷ bytes) = mode_of (mode_after mode byte) bytes
 
 -- ---- names
 
@@ -97,7 +97,7 @@ name_at _ byte = []
 -- the values of the attributes `id` of a text, in order
 abbrev pub names_of : Mode → List ℕ → List (List ℕ)
 names_of mode [] = []
-names_of mode (byte ∷ bytes) = name_at mode byte ++ names_of (mode_behind mode byte) bytes
+names_of mode (byte ∷ bytes) = name_at mode byte ++ names_of (mode_after mode byte) bytes
 
 -- by which an entry is told: the name of its row, or of the heading of a bus reset
 abbrev pub told_as : ℕ → List ℕ

@@ -3,12 +3,12 @@
 ghost use Rattle.std.specs.Prelude.{◌≡◌, ◌++◌, ◌<◌, ◌≤◌, ◌^◌, OnOk};
 ghost use Rattle.fw_page_marks.specs.Arrows.{arrow, turn, middle, cross, cross_shape};
 
-use crate::shapes::{put_line, put_mark, put_there_and_back};
+use crate::shapes::{put_mark, put_there_and_back, put_whole_line, put_whole_mark};
 use std::alloc::AllocError;
 
 /// What an answer says of the request.
 #[derive(Clone, Copy)]
-pub enum Told {
+pub enum SwapResult {
     /// Nothing of a swap.
     Nothing,
     /// Its swap was made.
@@ -17,17 +17,19 @@ pub enum Told {
     NotMade,
 }
 
-impl Told {
+impl SwapResult {
     ghost use Rattle.fw_page_marks.specs.Arrows.{head_class};
+    ghost use Rattle.fw_page_marks.specs.Shapes.{mark_prefix};
 
-    // The class of an arrow's head.
+    // The begin of an arrow's head, up to its place.
+    #[tactic(auto, unfolding(crate::specs::Shapes::path_prefix, crate::specs::Shapes::mark_prefix))]
     fn head(self) -> &'static str
-        ensures { result.now ≡ head_class self }
+        ensures { result.now ≡ mark_prefix (head_class self) }
     {
         match self {
-            Told::Nothing => "hd",
-            Told::Made => "hd y",
-            Told::NotMade => "hd n",
+            SwapResult::Nothing => r#"<path class="hd" d="M"#,
+            SwapResult::Made => r#"<path class="hd y" d="M"#,
+            SwapResult::NotMade => r#"<path class="hd n" d="M"#,
         }
     }
 }
@@ -43,14 +45,16 @@ pub enum Line {
 
 impl Line {
     ghost use Rattle.fw_page_marks.specs.Arrows.{line_class};
+    ghost use Rattle.fw_page_marks.specs.Shapes.{mark_prefix};
 
-    // The class of its path.
-    fn class(self) -> &'static str
-        ensures { result.now ≡ line_class self }
+    // The begin of its path, up to its place.
+    #[tactic(auto, unfolding(crate::specs::Shapes::path_prefix, crate::specs::Shapes::mark_prefix))]
+    fn prefix(self) -> &'static str
+        ensures { result.now ≡ mark_prefix (line_class self) }
     {
         match self {
-            Line::Whole => "l",
-            Line::Dashed => "l a",
+            Line::Whole => r#"<path class="l" d="M"#,
+            Line::Dashed => r#"<path class="l a" d="M"#,
         }
     }
 }
@@ -62,7 +66,7 @@ pub fn put_arrow(
     line: Line,
     from: u64,
     to: u64,
-    told: Told,
+    told: SwapResult,
 ) -> Result<(), AllocError>
     requires from { 8 ≤ from }
     requires to { 8 ≤ to }
@@ -70,34 +74,34 @@ pub fn put_arrow(
     ensures { OnOk result (text.new.items ≡ text.old.items ++ arrow line from to told) }
 {
     if from == to {
-        put_mark(text, line.class(), from, " 8h16v9h-8")?;
-        return put_mark(text, told.head(), from, " 17l8-4v8z");
+        put_whole_mark(text, line.prefix(), from, r#" 8h16v9h-8"/>"#)?;
+        return put_whole_mark(text, told.head(), from, r#" 17l8-4v8z"/>"#);
     }
     if from < to {
-        put_line(text, line.class(), from, " 12H", to - 8)?;
-        return put_mark(text, told.head(), to, " 12l-8-4v8z");
+        put_whole_line(text, line.prefix(), from, " 12H", to - 8)?;
+        return put_whole_mark(text, told.head(), to, r#" 12l-8-4v8z"/>"#);
     }
-    put_line(text, line.class(), from, " 12H", to + 8)?;
-    put_mark(text, told.head(), to, " 12l8-4v8z")
+    put_whole_line(text, line.prefix(), from, " 12H", to + 8)?;
+    put_whole_mark(text, told.head(), to, r#" 12l8-4v8z"/>"#)
 }
 
 /// Appends an arrow from one place to another and back.
 #[tactic(auto, unfolding(crate::specs::Arrows::turn))]
-pub fn put_turn(text: &mut Vec<u8>, from: u64, to: u64, told: Told) -> Result<(), AllocError>
+pub fn put_turn(text: &mut Vec<u8>, from: u64, to: u64, told: SwapResult) -> Result<(), AllocError>
     requires from { 8 ≤ from }
     requires room { from < 2 ^ 32 }
     ensures { OnOk result (text.new.items ≡ text.old.items ++ turn from to told) }
 {
     if from == to {
         put_mark(text, "l", from, " 7h16v10h-8")?;
-        return put_mark(text, told.head(), from, " 17l8-4v8z");
+        return put_whole_mark(text, told.head(), from, r#" 17l8-4v8z"/>"#);
     }
     if from < to {
         put_there_and_back(text, from, to, from + 8)?;
-        return put_mark(text, told.head(), from, " 17l8-4v8z");
+        return put_whole_mark(text, told.head(), from, r#" 17l8-4v8z"/>"#);
     }
     put_there_and_back(text, from, to, from - 8)?;
-    put_mark(text, told.head(), from, " 17l-8-4v8z")
+    put_whole_mark(text, told.head(), from, r#" 17l-8-4v8z"/>"#)
 }
 
 // The place of a cross over an arrow.
@@ -121,7 +125,7 @@ pub fn put_cross(
     turns: bool,
     from: u64,
     to: u64,
-    told: Told,
+    told: SwapResult,
 ) -> Result<(), AllocError>
     requires from { 8 ≤ from }
     requires room { from < 2 ^ 32 }
@@ -129,7 +133,7 @@ pub fn put_cross(
     ensures { OnOk result (text.new.items ≡ text.old.items ++ cross turns from to told) }
 {
     match told {
-        Told::NotMade => put_mark(text, "l n", middle(from, to), cross(turns)),
+        SwapResult::NotMade => put_mark(text, "l n", middle(from, to), cross(turns)),
         _ => Ok(()),
     }
 }

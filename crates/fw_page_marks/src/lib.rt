@@ -10,7 +10,7 @@ mod figures;
 mod shapes;
 mod small;
 
-pub use arrows::{Line, Told, put_arrow, put_cross, put_turn};
+pub use arrows::{Line, SwapResult, put_arrow, put_cross, put_turn};
 pub use columns::Columns;
 pub use figures::put_figures;
 pub use shapes::{put_halves, put_line, put_mark, put_path, put_rect, put_use};

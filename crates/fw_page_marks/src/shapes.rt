@@ -1,16 +1,16 @@
 //! Shapes of SVG.
 
-ghost use Rattle.std.specs.Prelude.{◌≡◌, ◌++◌, OnOk};
-ghost use Rattle.fw_page_marks.specs.Shapes.{path_front, path, mark, level_line, there_and_back, rect, symbol_at, halves};
+ghost use Rattle.std.specs.Prelude.{◌≡◌, ◌≤◌, ◌<◌, ◌++◌, ℕ, List, OnOk, codes};
+ghost use Rattle.fw_page_marks.specs.Shapes.{path_prefix, mark_prefix, path, mark, level_line, there_and_back, rect, symbol_at, halves};
 
 use crate::small::put_part;
 use fw_log_names::put_word;
 use std::alloc::AllocError;
 
 // Begins a path of a class.
-#[tactic(auto, unfolding(crate::specs::Shapes::path_front))]
-fn put_front(text: &mut Vec<u8>, class: &str) -> Result<(), AllocError>
-    ensures { OnOk result (text.new.items ≡ text.old.items ++ path_front class.now) }
+#[tactic(auto, unfolding(crate::specs::Shapes::path_prefix))]
+fn put_prefix(text: &mut Vec<u8>, class: &str) -> Result<(), AllocError>
+    ensures { OnOk result (text.new.items ≡ text.old.items ++ path_prefix class.now) }
 {
     put_word(text, r#"<path class=""#)?;
     put_word(text, class)?;
@@ -25,7 +25,7 @@ pub fn put_path(text: &mut Vec<u8>, class: &str, shapes: &[u8]) -> Result<(), Al
     if shapes.is_empty() {
         return Ok(());
     }
-    put_front(text, class)?;
+    put_prefix(text, class)?;
     text.extend_from_slice(shapes)?;
     put_word(text, r#""/>"#)
 }
@@ -35,10 +35,23 @@ pub fn put_path(text: &mut Vec<u8>, class: &str, shapes: &[u8]) -> Result<(), Al
 pub fn put_mark(text: &mut Vec<u8>, class: &str, x: u64, shape: &str) -> Result<(), AllocError>
     ensures { OnOk result (text.new.items ≡ text.old.items ++ mark class.now x shape.now) }
 {
-    put_front(text, class)?;
+    put_prefix(text, class)?;
     put_part(text, "M", x)?;
     put_word(text, shape)?;
     put_word(text, r#""/>"#)
+}
+
+/// Appends the same, of which what stands before the place and after it is given whole.
+pub(crate) fn put_whole_mark(
+    text: &mut Vec<u8>,
+    prefix: &str,
+    x: u64,
+    back: &str,
+) -> Result<(), AllocError>
+    ensures { (class shape : List ℕ) → prefix.now ≡ mark_prefix class → back.now ≡ shape ++ codes "\"/>" → OnOk result (text.new.items ≡ text.old.items ++ mark class x shape) }
+{
+    put_part(text, prefix, x)?;
+    put_word(text, back)
 }
 
 /// Appends a path of a class that goes level from a place, at this height, to another.
@@ -52,8 +65,23 @@ pub fn put_line(
 ) -> Result<(), AllocError>
     ensures { OnOk result (text.new.items ≡ text.old.items ++ level_line class.now from height.now to) }
 {
-    put_front(text, class)?;
+    put_prefix(text, class)?;
     put_part(text, "M", from)?;
+    put_part(text, height, to)?;
+    put_word(text, r#""/>"#)
+}
+
+/// Appends the same, of which what stands before the first place is given whole.
+pub(crate) fn put_whole_line(
+    text: &mut Vec<u8>,
+    prefix: &str,
+    from: u64,
+    height: &str,
+    to: u64,
+) -> Result<(), AllocError>
+    ensures { (class : List ℕ) → prefix.now ≡ mark_prefix class → OnOk result (text.new.items ≡ text.old.items ++ level_line class from height.now to) }
+{
+    put_part(text, prefix, from)?;
     put_part(text, height, to)?;
     put_word(text, r#""/>"#)
 }
@@ -68,11 +96,27 @@ pub(crate) fn put_there_and_back(
 ) -> Result<(), AllocError>
     ensures { OnOk result (text.new.items ≡ text.old.items ++ there_and_back from to back) }
 {
-    put_front(text, "l")?;
-    put_part(text, "M", from)?;
+    put_part(text, r#"<path class="l" d="M"#, from)?;
     put_part(text, " 7H", to)?;
     put_part(text, "V17H", back)?;
     put_word(text, r#""/>"#)
+}
+
+// Appends a shape of a width of one digit at a place of three, in one piece.
+fn put_usual_rect(shapes: &mut Vec<u8>, x: u64, width: u64) -> Result<(), AllocError>
+    requires low { 100 ≤ x }
+    requires high { x < 1000 }
+    requires narrow { width < 10 }
+    ensures { OnOk result (shapes.new.items ≡ shapes.old.items ++ rect x width) }
+{
+    let mut shape = *b"M000 0h0v999h-0z";
+    let digit = b'0' + width as u8;
+    shape[1] = b'0' + (x / 100) as u8;
+    shape[2] = b'0' + (x / 10 % 10) as u8;
+    shape[3] = b'0' + (x % 10) as u8;
+    shape[7] = digit;
+    shape[14] = digit;
+    shapes.extend_from_slice(&shape)
 }
 
 /// Appends a shape of this width over the whole height of a row.
@@ -80,6 +124,10 @@ pub(crate) fn put_there_and_back(
 pub fn put_rect(shapes: &mut Vec<u8>, x: u64, width: u64) -> Result<(), AllocError>
     ensures { OnOk result (shapes.new.items ≡ shapes.old.items ++ rect x width) }
 {
+    // Most shapes are of this kind.
+    if 100 <= x && x < 1000 && width < 10 {
+        return put_usual_rect(shapes, x, width);
+    }
     put_part(shapes, "M", x)?;
     put_part(shapes, " 0h", width)?;
     put_part(shapes, "v999h-", width)?;

@@ -8,7 +8,7 @@ use Rattle.fw_log_names.specs.Names.{rcode_name}
 use Rattle.fw_log_registers.specs.Places.{place_of}
 use Rattle.fw_log_registers.specs.Words.{told_text}
 use Rattle.fw_page_phrases.specs.declared.request.Request.{Request}
-use Rattle.fw_page_phrases.specs.declared.standing.Standing.{Standing}
+use Rattle.fw_page_phrases.specs.declared.standing.OutstandingRequest.{OutstandingRequest}
 use Rattle.fw_page_phrases.specs.Asking.{subject}
 use Rattle.fw_page_phrases.specs.Asks.{wrapped, code, code_word, code_quadlets, sized, told}
 use Rattle.fw_page_phrases.specs.Made.{rcode_of, found, is_made, changed_by}
@@ -58,7 +58,7 @@ change q p = change_of q.asked.offset (changed_by q (found p (Some q)))
 unfoldable pub link_text : ℕ → List ℕ
 link_text number = (codes "<a href=\"#e" ++ decimal number) ++ (codes "\">answer to " ++ decimal number) ++ codes "</a> "
 
--- an answer, by the request that stands and that it answers, if there is one
-unfoldable pub answer_text : Option Standing → Packet → List ℕ
+-- an answer, by the outstanding request and that it answers, if there is one
+unfoldable pub answer_text : Option OutstandingRequest → Packet → List ℕ
 answer_text None p = codes "<b>answer</b> " ++ got None p ++ codes ", no request stands"
 answer_text (Some s) p = link_text s.number ++ subject s.request ++ change s.request p ++ codes " " ++ got (Some s.request) p

@@ -7,9 +7,9 @@ use Rattle.fw_log_entry.specs.Network.{first_id}
 use Rattle.fw_words.specs.Swaps.{quadlet_swap}
 use Rattle.fw_words.specs.declared.swap.Swap.{Swap}
 use Rattle.fw_log_names.specs.Texts.{hex, hex_bytes, quadlets_text}
-use Rattle.fw_log_registers.specs.declared.place.Place.{Place}
-use Rattle.fw_log_registers.specs.declared.told.Told.{Told}
-use Rattle.fw_log_registers.specs.declared.told.Told.TheVariants.{Word, Swap as TheSwap}
+use Rattle.fw_log_registers.specs.declared.place.RegisterPlace.{RegisterPlace}
+use Rattle.fw_log_registers.specs.declared.told.RegisterValue.{RegisterValue}
+use Rattle.fw_log_registers.specs.declared.told.RegisterValue.TheVariants.{Word, Swap as TheSwap}
 use Rattle.fw_log_registers.specs.Places.{place_of}
 use Rattle.fw_log_registers.specs.Words.{told_text}
 use Rattle.fw_log_frames.specs.Frames.{frame_text}
@@ -31,15 +31,15 @@ who source sign destination label = codes "<i>" ++ end_text source ++ sign ++ en
 
 -- a text within these tags, or nothing if it is nothing
 abbrev pub wrapped : List ℕ → List ℕ → List ℕ → List ℕ
-wrapped front back [] = []
-wrapped front back (c ∷ cs) = front ++ (c ∷ cs) ++ back
+wrapped prefix back [] = []
+wrapped prefix back (c ∷ cs) = prefix ++ (c ∷ cs) ++ back
 
 -- a text as a code
 abbrev pub code : List ℕ → List ℕ
 code text = codes "<code>" ++ text ++ codes "</code>"
 
 -- a word, and what it says at its place
-unfoldable pub code_word : Place → ℕ → List ℕ
+unfoldable pub code_word : RegisterPlace → ℕ → List ℕ
 code_word place word = code (hex 8 word) ++ wrapped (codes "<small>") (codes "</small>") (told_text (Word word) place)
 
 -- the digits of bytes
@@ -52,35 +52,35 @@ code_quadlets bytes = code (drop 1 (quadlets_text bytes))
 
 -- how many bytes there are, after this word, and their digits
 abbrev pub sized : List ℕ → List ℕ → List ℕ
-sized front bytes = (front ++ decimal (length bytes)) ++ codes " " ++ code_data bytes
+sized prefix bytes = (prefix ++ decimal (length bytes)) ++ codes " " ++ code_data bytes
 
 -- a frame
 unfoldable pub framed : List ℕ → List ℕ
 framed bytes = codes "<em>" ++ frame_text bytes ++ codes "</em>"
 
 -- a quadlet that is written
-unfoldable pub quadlet_written : Place → ℕ → List ℕ
+unfoldable pub quadlet_written : RegisterPlace → ℕ → List ℕ
 quadlet_written place value = if takes_frames place then framed (to_be_bytes w32 value) else codes " " ++ code_word place value
 
 -- a block that is written
-unfoldable pub block_written : Place → List ℕ → List ℕ
+unfoldable pub block_written : RegisterPlace → List ℕ → List ℕ
 block_written place bytes = if takes_frames place then framed bytes else sized (codes ", data_length ") bytes
 
 -- what a swap is told as
-abbrev pub told : Swap → Told
+abbrev pub told : Swap → RegisterValue
 told s = TheSwap s.argument s.new
 
 -- what a swap is to change
-unfoldable pub swap_asked : Place → Swap → List ℕ
+unfoldable pub swap_asked : RegisterPlace → Swap → List ℕ
 swap_asked place s = codes "<em>" ++ told_text (told s) place ++ codes "</em> <code>" ++ hex 8 s.argument ++ codes " &rarr; " ++ hex 8 s.new ++ codes "</code>"
 
 -- a lock: of a quadlet compare_swap what it is to change, of another its quadlets
-abbrev pub lock_asked : Place → List ℕ → Option Swap → List ℕ
+abbrev pub lock_asked : RegisterPlace → List ℕ → Option Swap → List ℕ
 lock_asked place bytes None = codes " " ++ code_quadlets bytes
 lock_asked place bytes (Some s) = swap_asked place s
 
 -- what a request brings, or how much it asks for
-unfoldable pub brought : Place → Packet → List ℕ
+unfoldable pub brought : RegisterPlace → Packet → List ℕ
 brought place (WriteQuadlet h offset value) = quadlet_written place value
 brought place (WriteBlock h offset bytes) = block_written place bytes
 brought place (ReadBlock h offset len) = codes ", data_length " ++ decimal len

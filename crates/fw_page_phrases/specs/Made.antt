@@ -9,8 +9,8 @@ use Rattle.fw_words.specs.declared.swap.TheConstants.{COMPARE_SWAP}
 use Rattle.fw_log_requests.specs.declared.asked.Answer.{Answer}
 use Rattle.fw_log_requests.specs.declared.asked.Answer.TheVariants.{Write as WriteResponse, ReadQuadlet as ReadQuadletResponse, ReadBlock as ReadBlockResponse, Lock as LockResponse}
 use Rattle.fw_log_requests.specs.Requests.{answers}
-use Rattle.fw_page_marks.specs.declared.arrows.Told.{Told}
-use Rattle.fw_page_marks.specs.declared.arrows.Told.TheVariants.{Nothing, Made, NotMade}
+use Rattle.fw_page_marks.specs.declared.arrows.SwapResult.{SwapResult}
+use Rattle.fw_page_marks.specs.declared.arrows.SwapResult.TheVariants.{Nothing, Made, NotMade}
 use Rattle.fw_page_phrases.specs.declared.request.Request.{Request}
 
 -- the kind of response that a packet is, and its response code
@@ -68,15 +68,15 @@ changed_by q None = None
 changed_by q (Some old) = if is_made q old then q.asked.swap else None
 
 -- what a swap is told as that found this word
-abbrev pub told_by : Request → Option ℕ → Told
+abbrev pub told_by : Request → Option ℕ → SwapResult
 told_by q None = Nothing
 told_by q (Some old) = if is_made q old then Made else NotMade
 
 -- what a response tells of the swap of the request that it answers
-abbrev pub made : Packet → Option Request → Told
+abbrev pub made : Packet → Option Request → SwapResult
 made p None = Nothing
 made p (Some q) = told_by q (found p (Some q))
 
 -- the same, but a response that is not complete stands for a swap that was not made
-abbrev pub told_of : Packet → Option Request → Told
+abbrev pub told_of : Packet → Option Request → SwapResult
 told_of p q = if rcode_of p == 0 then made p q else NotMade

@@ -6,11 +6,11 @@ ghost use Rattle.fw_page_phrases.specs.Answers.{refused, made_text, read_text, c
 
 use crate::asks::{put_code, put_code_quadlets, put_sized, put_within, told};
 use crate::request::Request;
-use crate::standing::Standing;
+use crate::standing::OutstandingRequest;
 use crate::tells::{changed_by, found, is_made, rcode_of};
 use fw_async::Packet;
 use fw_log_names::{Pairs, put_hex8, put_named, put_word, rcode_name};
-use fw_log_registers::Place;
+use fw_log_registers::RegisterPlace;
 use fw_page_marks::put_part;
 use std::alloc::AllocError;
 
@@ -37,7 +37,7 @@ fn put_made(
         return put_word(text, r#"<b class="y">made</b>"#);
     }
     put_word(text, r#"<b class="n">not made</b>, it is "#)?;
-    put_code(text, pairs, Place::of(request.asked.offset), old)
+    put_code(text, pairs, RegisterPlace::of(request.asked.offset), old)
 }
 
 // Appends the word that a read brings.
@@ -51,7 +51,7 @@ fn put_read(
     ensures { OnOk result (text.new.items ≡ text.old.items ++ read_text (option_copied request.entry) value) }
 {
     match request {
-        Some(request) => put_code(text, pairs, Place::of(request.asked.offset), value),
+        Some(request) => put_code(text, pairs, RegisterPlace::of(request.asked.offset), value),
         None => {
             put_word(text, "<code>")?;
             put_hex8(text, pairs, value)?;
@@ -133,7 +133,7 @@ fn put_change(
     let Some(swap) = changed_by(request, found(p, Some(request))) else {
         return Ok(());
     };
-    let place = Place::of(request.asked.offset);
+    let place = RegisterPlace::of(request.asked.offset);
     put_within(text, pairs, ("<em>", "</em>"), place, told(swap))
 }
 
@@ -146,11 +146,11 @@ fn put_link(text: &mut Vec<u8>, number: u64) -> Result<(), AllocError>
     put_word(text, "</a> ")
 }
 
-// Appends the answer to a request that stands.
+// Appends the answer to an outstanding request.
 fn put_later(
     text: &mut Vec<u8>,
     pairs: &Pairs,
-    standing: &Standing,
+    standing: &OutstandingRequest,
     p: &Packet,
 ) -> Result<(), AllocError>
     ensures { OnOk result (text.new.items ≡ text.old.items ++ answer_text (Some standing.now) p.now) }
@@ -162,12 +162,12 @@ fn put_later(
     put_got(text, pairs, Some(&standing.request), p)
 }
 
-/// Appends an answer, by the request that stands and that it answers, if there is one.
+/// Appends an answer, by the outstanding request and that it answers, if there is one.
 #[tactic(auto, unfolding(crate::specs::Answers::answer_text))]
 pub fn put_answer(
     text: &mut Vec<u8>,
     pairs: &Pairs,
-    standing: Option<&Standing>,
+    standing: Option<&OutstandingRequest>,
     p: &Packet,
 ) -> Result<(), AllocError>
     ensures { OnOk result (text.new.items ≡ text.old.items ++ answer_text (option_copied standing.entry) p.now) }

@@ -10,7 +10,7 @@ use crate::standing::BROADCAST;
 use crate::written::{put_block_written, put_quadlet_written};
 use fw_async::{Packet, local_number};
 use fw_log_names::{Pairs, put_bytes, put_hex4, put_hex8, put_number, put_quadlets, put_word};
-use fw_log_registers::{Place, Told, put_told};
+use fw_log_registers::{RegisterPlace, RegisterValue, put_told};
 use fw_page_marks::put_part;
 use fw_words::{Swap, get_quadlet};
 use std::alloc::AllocError;
@@ -62,8 +62,8 @@ pub fn put_within(
     text: &mut Vec<u8>,
     pairs: &Pairs,
     tags: (&str, &str),
-    place: Place,
-    told: Told,
+    place: RegisterPlace,
+    told: RegisterValue,
 ) -> Result<(), AllocError>
     ensures { OnOk result (text.new.items ≡ text.old.items ++ wrapped tags.entry.0.now tags.entry.1.now (told_text told place)) }
 {
@@ -83,7 +83,7 @@ pub fn put_within(
 pub fn put_code(
     text: &mut Vec<u8>,
     pairs: &Pairs,
-    place: Place,
+    place: RegisterPlace,
     word: u32,
 ) -> Result<(), AllocError>
     ensures { OnOk result (text.new.items ≡ text.old.items ++ code_word place word) }
@@ -96,7 +96,7 @@ pub fn put_code(
         pairs,
         ("<small>", "</small>"),
         place,
-        Told::Word(word),
+        RegisterValue::Word(word),
     )
 }
 
@@ -146,7 +146,12 @@ pub fn put_code_quadlets(text: &mut Vec<u8>, pairs: &Pairs, bytes: &[u8]) -> Res
 }
 
 // Appends what a swap is to change.
-fn put_swap(text: &mut Vec<u8>, pairs: &Pairs, place: Place, s: Swap) -> Result<(), AllocError>
+fn put_swap(
+    text: &mut Vec<u8>,
+    pairs: &Pairs,
+    place: RegisterPlace,
+    s: Swap,
+) -> Result<(), AllocError>
     ensures { OnOk result (text.new.items ≡ text.old.items ++ swap_asked place s) }
 {
     put_word(text, "<em>")?;
@@ -159,10 +164,10 @@ fn put_swap(text: &mut Vec<u8>, pairs: &Pairs, place: Place, s: Swap) -> Result<
 }
 
 /// What a swap is told as.
-pub fn told(s: Swap) -> Told
+pub fn told(s: Swap) -> RegisterValue
     ensures { result ≡ told s }
 {
-    Told::Swap {
+    RegisterValue::Swap {
         old: s.argument,
         new: s.new,
     }
@@ -173,7 +178,7 @@ pub fn told(s: Swap) -> Told
 fn put_brought(
     text: &mut Vec<u8>,
     pairs: &Pairs,
-    place: Place,
+    place: RegisterPlace,
     p: &Packet,
 ) -> Result<(), AllocError>
     ensures { OnOk result (text.new.items ≡ text.old.items ++ brought place p.now) }
@@ -208,5 +213,5 @@ pub fn put_ask(
     ensures { OnOk result (text.new.items ≡ text.old.items ++ ask request.now p.now) }
 {
     request.put_subject(text, pairs)?;
-    put_brought(text, pairs, Place::of(request.asked.offset), p)
+    put_brought(text, pairs, RegisterPlace::of(request.asked.offset), p)
 }

@@ -6,7 +6,7 @@ ghost use Rattle.fw_page_phrases.specs.Asking.{function_of};
 use fw_async::Packet;
 use fw_csr::offset::BUS_MANAGER_ID;
 use fw_log_names::{Pairs, function_name, put_named, put_word};
-use fw_log_registers::{Place, put_place};
+use fw_log_registers::{RegisterPlace, put_place};
 use fw_log_requests::{Answer, Asked};
 use std::alloc::AllocError;
 
@@ -152,6 +152,6 @@ impl Request {
         put_word(text, "<b>")?;
         self.put_verb(text)?;
         put_word(text, "</b> ")?;
-        put_place(text, pairs, Place::of(self.asked.offset))
+        put_place(text, pairs, RegisterPlace::of(self.asked.offset))
     }
 }

@@ -1,8 +1,9 @@
-//! The requests that stand.
+//! The outstanding requests.
 
-ghost use Rattle.std.specs.Prelude.{◌≡◌, ◌<◌, [], IfSome, drop, length, map, slice_get};
+ghost use Rattle.std.specs.Prelude.{◌≡◌, ◌<◌, [], IfSome, Some, drop, length, map, slice_get};
+ghost use Rattle.std.specs.List.{remove};
 ghost use Rattle.fw_page_phrases.specs.Made.{answer_of};
-ghost use Rattle.fw_page_phrases.specs.Standing.{apart_from, with_request, place_answered, standing_answered, without_answered, standing_for, without, given_up};
+ghost use Rattle.fw_page_phrases.specs.Standing.{apart_from, with_request, place_answered, place_for, given_up};
 
 use crate::request::Request;
 use crate::tells::answer_of;
@@ -14,9 +15,9 @@ use std::marker::Model;
 /// The node_ID of all nodes, of which none answers.
 pub const BROADCAST: u16 = 0xffff;
 
-/// A request that stands.
+/// An outstanding request.
 #[derive(Clone, Copy)]
-pub struct Standing {
+pub struct OutstandingRequest {
     pub request: Request,
     /// The number of its entry.
     pub number: u64,
@@ -25,9 +26,9 @@ pub struct Standing {
 }
 
 /// What fills the free places of a list; it has no meaning of its own.
-impl Default for Standing {
+impl Default for OutstandingRequest {
     fn default() -> Self {
-        Standing {
+        OutstandingRequest {
             request: Request::default(),
             number: 0,
             waits: false,
@@ -35,14 +36,14 @@ impl Default for Standing {
     }
 }
 
-impl Standing {
+impl OutstandingRequest {
     ghost use Rattle.fw_page_phrases.specs.Standing.{standing_from, given_up};
 
     // One that begins to stand with the entry of this number.
-    fn new(request: Request, number: u64) -> Standing
+    fn new(request: Request, number: u64) -> OutstandingRequest
         ensures { result ≡ standing_from request number }
     {
-        Standing {
+        OutstandingRequest {
             request,
             number,
             waits: request.asked.destination != BROADCAST,
@@ -63,14 +64,14 @@ impl Standing {
 /// room for a new one, as for `explain`.
 #[derive(Drop)]
 pub struct Requests {
-    rows: ArrayVec<Standing, 256>,
+    rows: ArrayVec<OutstandingRequest, 256>,
 }
 
 impl Model for Requests {
     ghost use Rattle.std.specs.Prelude.{List};
-    ghost use Rattle.fw_page_phrases.specs.declared.standing.Standing.{Standing};
+    ghost use Rattle.fw_page_phrases.specs.declared.standing.OutstandingRequest.{OutstandingRequest};
 
-    ghost Value = { List Standing };
+    ghost Value = { List OutstandingRequest };
 
     ghost view = { λ r. r.rows.items };
 }
@@ -86,13 +87,13 @@ impl Requests {
     }
 
     /// All, the oldest first.
-    pub fn as_slice(&self) -> &[Standing]
+    pub fn as_slice(&self) -> &[OutstandingRequest]
         ensures { result.now ≡ self.now }
     {
         self.rows.as_slice()
     }
 
-    /// A request stands from this entry on, in place of one with its source, destination and label.
+    /// A request is outstanding from this entry on, in place of one with its source, destination and label.
     #[tactic(auto, unfolding(crate::specs::Standing::with_request))]
     pub fn ask(&mut self, request: Request, number: u64)
         ensures { self.new ≡ with_request request number self.old }
@@ -101,33 +102,31 @@ impl Requests {
         if self.rows.is_full() {
             self.rows.remove(0);
         }
-        self.rows.push(Standing::new(request, number));
+        self.rows.push(OutstandingRequest::new(request, number));
     }
 
-    // Ends the request that a response of this kind with this head answers, and answers it, if one that stands is it.
-    fn take_answered(&mut self, answer: Answer, head: &Head) -> Option<Standing>
-        ensures found { result ≡ standing_answered answer head.now self.old }
-        ensures left { self.new ≡ without_answered answer head.now self.old }
-    {
-        match place_answered(self.rows.as_slice(), answer, head) {
-            Some(at) => Some(self.rows.remove(at)),
-            None => None,
-        }
-    }
-
-    /// Ends the request that a response answers, and answers it, if one that stands is it.
-    pub fn take(&mut self, p: &Packet, head: &Head) -> Option<Standing>
-        ensures found { result ≡ standing_for (answer_of p.now) head.now self.old }
-        ensures left { self.new ≡ without (answer_of p.now) head.now self.old }
+    /// The place of the request that a response answers, if one that stands is it.
+    pub fn place(&self, p: &Packet, head: &Head) -> Option<usize>
+        ensures value { result ≡ place_for (answer_of p.now) head.now self.now }
+        ensures there { IfSome result (λ at. at < length self.now) }
     {
         match answer_of(p) {
-            Some((answer, _)) => self.take_answered(answer, head),
+            Some((answer, _)) => place_answered(self.rows.as_slice(), answer, head),
             None => None,
         }
+    }
+
+    /// Ends the request at a place, and answers it.
+    pub fn end_at(&mut self, at: usize) -> OutstandingRequest
+        requires { at < length self.old }
+        ensures found { slice_get self.old at ≡ Some result }
+        ensures left { self.new ≡ remove self.old at }
+    {
+        self.rows.remove(at)
     }
 
     /// Ends the oldest, and answers it.
-    pub fn take_first(&mut self) -> Option<Standing>
+    pub fn take_first(&mut self) -> Option<OutstandingRequest>
         ensures first { result ≡ slice_get self.old 0 }
         ensures left { self.new ≡ drop 1 self.old }
     {
@@ -154,14 +153,14 @@ impl Requests {
 }
 
 // Keeps the requests that have another source, destination or label than a new one.
-fn retain_apart(rows: &mut ArrayVec<Standing, 256>, new: &Request)
+fn retain_apart(rows: &mut ArrayVec<OutstandingRequest, 256>, new: &Request)
     ensures { rows.new.items ≡ apart_from new.now rows.old.items }
 {
     rows.retain(|s| !new.asked.is_same(&s.request.asked));
 }
 
 // The place of the one that a response answers.
-fn place_answered(rows: &[Standing], answer: Answer, head: &Head) -> Option<usize>
+fn place_answered(rows: &[OutstandingRequest], answer: Answer, head: &Head) -> Option<usize>
     ensures value { result ≡ place_answered answer head.now rows.now }
     ensures there { IfSome result (λ at. at < length rows.now) }
 {
@@ -170,7 +169,7 @@ fn place_answered(rows: &[Standing], answer: Answer, head: &Head) -> Option<usiz
 }
 
 // The requests of this node wait no longer.
-fn give_up_all(rows: &mut [Standing], source: u16)
+fn give_up_all(rows: &mut [OutstandingRequest], source: u16)
     ensures { rows.new ≡ map (given_up source) rows.old }
 {
     for row in rows.iter_mut() {

@@ -7,7 +7,7 @@ ghost use Rattle.fw_page_phrases.specs.Made.{answer_of, rcode_of, is_answer, old
 use crate::request::Request;
 use fw_async::{Head, Packet};
 use fw_log_requests::Answer;
-use fw_page_marks::Told;
+use fw_page_marks::SwapResult;
 use fw_words::{COMPARE_SWAP, Swap, quadlet_at};
 
 /// The kind of response that a packet is, and its response code; none if it is no response.
@@ -106,38 +106,38 @@ pub fn changed_by(request: &Request, old: Option<u32>) -> Option<Swap>
 }
 
 // What a swap is told as that found this word.
-fn told_by(request: &Request, old: Option<u32>) -> Told
+fn told_by(request: &Request, old: Option<u32>) -> SwapResult
     ensures { result ≡ told_by request.now old }
 {
     match old {
         Some(old) => {
             if is_made(request, old) {
-                Told::Made
+                SwapResult::Made
             } else {
-                Told::NotMade
+                SwapResult::NotMade
             }
         }
-        None => Told::Nothing,
+        None => SwapResult::Nothing,
     }
 }
 
 /// What a response tells of the swap of the request that it answers.
-pub fn made(p: &Packet, request: Option<&Request>) -> Told
+pub fn made(p: &Packet, request: Option<&Request>) -> SwapResult
     ensures { result ≡ made p.now (option_copied request.entry) }
 {
     match request {
         Some(request) => told_by(request, found(p, Some(request))),
-        None => Told::Nothing,
+        None => SwapResult::Nothing,
     }
 }
 
 /// The same, but a response that is not complete stands for a swap that was not made.
-pub fn told_of(p: &Packet, request: Option<&Request>) -> Told
+pub fn told_of(p: &Packet, request: Option<&Request>) -> SwapResult
     ensures { result ≡ told_of p.now (option_copied request.entry) }
 {
     if rcode_of(p) == 0 {
         made(p, request)
     } else {
-        Told::NotMade
+        SwapResult::NotMade
     }
 }

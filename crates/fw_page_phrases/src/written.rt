@@ -7,17 +7,17 @@ ghost use Rattle.fw_page_phrases.specs.Asks.{framed, quadlet_written, block_writ
 use crate::asks::{put_code, put_sized};
 use fw_log_frames::put_frame;
 use fw_log_names::{Pairs, put_word};
-use fw_log_registers::{Place, Register};
+use fw_log_registers::{NamedRegister, RegisterPlace};
 use std::alloc::AllocError;
 
 // Frames are written there.
 #[tactic(auto, unfolding(fw_log_explain::specs::Lines::takes_frames))]
-fn takes_frames(place: Place) -> bool
+fn takes_frames(place: RegisterPlace) -> bool
     ensures { result ≡ takes_frames place }
 {
     matches!(
         place,
-        Place::Named(Register::FcpCommand | Register::FcpResponse, _)
+        RegisterPlace::Named(NamedRegister::FcpCommand | NamedRegister::FcpResponse, _)
     )
 }
 
@@ -35,7 +35,7 @@ fn put_framed(text: &mut Vec<u8>, pairs: &Pairs, bytes: &[u8]) -> Result<(), All
 pub(crate) fn put_quadlet_written(
     text: &mut Vec<u8>,
     pairs: &Pairs,
-    place: Place,
+    place: RegisterPlace,
     value: u32,
 ) -> Result<(), AllocError>
     ensures { OnOk result (text.new.items ≡ text.old.items ++ quadlet_written place value) }
@@ -52,7 +52,7 @@ pub(crate) fn put_quadlet_written(
 pub(crate) fn put_block_written(
     text: &mut Vec<u8>,
     pairs: &Pairs,
-    place: Place,
+    place: RegisterPlace,
     bytes: &[u8],
 ) -> Result<(), AllocError>
     ensures { OnOk result (text.new.items ≡ text.old.items ++ block_written place bytes.now) }

@@ -1,16 +1,16 @@
 -- What loops over nodes and over requests that wait append.
 use Rattle.std.proofs.Common.{◌≡◌, ◌⊎◌, inl, inr, ℕ, zero, suc, ◌+◌, ◌-◌, ◌<◌, ◌≤◌, ◌==◌, ◌&&◌, nat_lt, nat_le, Bool, true, false, Option, Some, None, List, [], ◌∷◌, ◌++◌, length, slice_get}
-use Rattle.std.proofs.Common.{slice_index, slice_set, replicate, get_or, get_or-set_same, get_or-set_other, take, min, cond, if◌then◌else◌, refl, ap, subst, sym, ◌∙◌, arith, append_assoc}
+use Rattle.std.proofs.Common.{slice_index, slice_set, replicate, get_or-set_same, get_or-set_other, min, cond, if◌then◌else◌, refl, ap, sym, ◌∙◌, arith, append_assoc}
 use Rattle.std.specs.Option.{is_some}
 use Rattle.std.proofs.lemmas.Bool.{cases_eq, eq-eqb, ne_eqb}
 use Rattle.std.proofs.lemmas.Bool.Decides.{nat_tests}
-use Rattle.std.proofs.lemmas.List.{append-nil, length-set, take_more}
+use Rattle.std.proofs.lemmas.List.{append-nil, length-set}
 use Rattle.fw_log_entry.specs.Network.{first_id}
 use Rattle.fw_log_entry.specs.declared.nodes.NodeRow.{NodeRow}
 use Rattle.fw_model_account.specs.Account.{Account}
 use Rattle.fw_page_marks.specs.Places.{place_of, number_of}
 use Rattle.fw_page_marks.specs.Shapes.{path}
-use Rattle.fw_page_phrases.specs.declared.standing.Standing.{Standing}
+use Rattle.fw_page_phrases.specs.declared.standing.OutstandingRequest.{OutstandingRequest}
 use Rattle.fw_page_scene.specs.declared.lives.Lives.{Lives}
 use Rattle.fw_page_scene.specs.declared.lines.Spot.{Spot}
 use Rattle.fw_page_phrases.specs.Asking.{kind_of, bar_class}
@@ -42,7 +42,7 @@ bar_capped class x (suc (suc (suc n))) = go (min 255 (suc (suc (suc n)))) (omega
     go (suc (suc zero)) l = absurd (omega arith)
     go (suc (suc (suc m))) l = refl
 
-pub waiting_more : (rows : List NodeRow) (source : ℕ) (before : List Standing) (s : Standing)
+pub waiting_more : (rows : List NodeRow) (source : ℕ) (before : List OutstandingRequest) (s : OutstandingRequest)
     → waiting rows source (before ++ s ∷ []) ≡ waiting rows source before + (if waits_at rows source s then 1 else 0)
 waiting_more rows source [] s = omega arith
 waiting_more rows source (x ∷ before) s = let h = waiting_more rows source before s in omega arith
@@ -51,20 +51,20 @@ pub no_bars : (rows : List NodeRow) → bars rows [] [] ≡ []
 unfolding bars
 no_bars rows = refl
 
-bars_behind : (rows : List NodeRow) (before list : List Standing) (s : Standing) → bars rows before (list ++ s ∷ []) ≡ bars rows before list ++ bar_of rows (before ++ list) s
+bars_after : (rows : List NodeRow) (before list : List OutstandingRequest) (s : OutstandingRequest) → bars rows before (list ++ s ∷ []) ≡ bars rows before list ++ bar_of rows (before ++ list) s
 unfolding bars
-bars_behind rows before [] s = append-nil (bar_of rows before s) ∙ ap (λ b. bar_of rows b s) (sym (append-nil before))
-bars_behind rows before (x ∷ list) s =
-    let h = bars_behind rows (before ++ x ∷ []) list s in
+bars_after rows before [] s = append-nil (bar_of rows before s) ∙ ap (λ b. bar_of rows b s) (sym (append-nil before))
+bars_after rows before (x ∷ list) s =
+    let h = bars_after rows (before ++ x ∷ []) list s in
     ap (λ t. bar_of rows before x ++ t) h ∙ (sym (append_assoc (bar_of rows before x) (bars rows (before ++ x ∷ []) list) (bar_of rows ((before ++ x ∷ []) ++ list) s))
     ∙ ap (λ b. (bar_of rows before x ++ bars rows (before ++ x ∷ []) list) ++ bar_of rows b s) (append_assoc before (x ∷ []) list))
 
-pub more_bars : (rows : List NodeRow) (list : List Standing) (s : Standing) → bars rows [] (list ++ s ∷ []) ≡ bars rows [] list ++ bar_of rows list s
-more_bars rows list s = bars_behind rows [] list s
+pub more_bars : (rows : List NodeRow) (list : List OutstandingRequest) (s : OutstandingRequest) → bars rows [] (list ++ s ∷ []) ≡ bars rows [] list ++ bar_of rows list s
+more_bars rows list s = bars_after rows [] list s
 
 -- ---- counts
 
-number_is : (rows : List NodeRow) (id node : ℕ) → number_of rows id ≡ Some node → (id ≡ first_id + node) × (node < length rows)
+pub number_is : (rows : List NodeRow) (id node : ℕ) → number_of rows id ≡ Some node → (id ≡ first_id + node) × (node < length rows)
 number_is rows id node e = go (nat_le first_id id && nat_lt (id - first_id) (length rows)) refl e
   where
     go : (b : Bool) → (nat_le first_id id && nat_lt (id - first_id) (length rows)) ≡ b → (if b then Some (id - first_id) else None) ≡ Some node → (id ≡ first_id + node) × (node < length rows)
@@ -72,7 +72,8 @@ number_is rows id node e = go (nat_le first_id id && nat_lt (id - first_id) (len
     go false t e = absurd (let z : ⊥ = cc in z)
 
 -- a request that does not wait, or of no node, is not counted
-pub counts_still : (rows : List NodeRow) (before : List Standing) (s : Standing) (counts : List ℕ) → (s.waits && is_some (number_of rows s.request.asked.source)) ≡ false → CountsFor rows before counts
+pub counts_still : (rows : List NodeRow) (before : List OutstandingRequest) (s : OutstandingRequest) (counts : List ℕ) → (s.waits && is_some (number_of rows s.request.asked.source)) ≡ false
+    → CountsFor rows before counts
     → CountsFor rows (before ++ s ∷ []) counts
 counts_still rows before s counts off c = (
   c.0,
@@ -87,7 +88,8 @@ counts_still rows before s counts off c = (
     zero a b e = grind arith
 
 -- one that waits is counted at its node
-next_at : (rows : List NodeRow) (before : List Standing) (s : Standing) (counts : List ℕ) (node v : ℕ) → node < 63 → s.waits ≡ true → number_of rows s.request.asked.source ≡ Some node
+next_at : (rows : List NodeRow) (before : List OutstandingRequest) (s : OutstandingRequest) (counts : List ℕ) (node v : ℕ) → node < 63 → s.waits ≡ true
+    → number_of rows s.request.asked.source ≡ Some node
     → v ≡ min 255 (slice_index counts node + 1) → CountsFor rows before counts → (k : ℕ) → k < 63 → slice_index (slice_set counts node v) k ≡ min 255 (waiting rows (first_id + k) (before ++ s ∷ []))
 next_at rows before s counts node v under waits is value c k low =
     let m = waiting_more rows (first_id + k) before s in
@@ -115,7 +117,8 @@ next_at rows before s counts node v under waits is value c k low =
     not_counted true m n e = ap (λ b. if b then 1 else 0) (ne_eqb m n e)
     not_counted false m n e = refl
 
-pub counts_next : (rows : List NodeRow) (before : List Standing) (s : Standing) (counts : List ℕ) (node v : ℕ) → node < 63 → s.waits ≡ true → number_of rows s.request.asked.source ≡ Some node
+pub counts_next : (rows : List NodeRow) (before : List OutstandingRequest) (s : OutstandingRequest) (counts : List ℕ) (node v : ℕ) → node < 63 → s.waits ≡ true
+    → number_of rows s.request.asked.source ≡ Some node
     → v ≡ min 255 (slice_index counts node + 1) → CountsFor rows before counts → CountsFor rows (before ++ s ∷ []) (slice_set counts node v)
 counts_next rows before s counts node v under waits is value c = (length-set counts node v ∙ c.0, next_at rows before s counts node v under waits is value c)
 
@@ -130,11 +133,11 @@ counts_none rows = (refl, λ node low. slice_index-replicate 63 node low)
 
 -- ---- one request more
 
-no_bar : (rows : List NodeRow) (before : List Standing) (s : Standing) (old : List ℕ) → bar_of rows before s ≡ [] → old ≡ old ++ bar_of rows before s
+no_bar : (rows : List NodeRow) (before : List OutstandingRequest) (s : OutstandingRequest) (old : List ℕ) → bar_of rows before s ≡ [] → old ≡ old ++ bar_of rows before s
 no_bar rows before s old e = sym (append-nil old) ∙ ap (λ (x : List ℕ). old ++ x) (sym e)
 
 -- one of no node
-pub of_no_node : (rows : List NodeRow) (before : List Standing) (s : Standing) (counts old : List ℕ) → number_of rows s.request.asked.source ≡ None → CountsFor rows before counts
+pub of_no_node : (rows : List NodeRow) (before : List OutstandingRequest) (s : OutstandingRequest) (counts old : List ℕ) → number_of rows s.request.asked.source ≡ None → CountsFor rows before counts
     → (old ≡ old ++ bar_of rows before s) × CountsFor rows (before ++ s ∷ []) counts
 of_no_node rows before s counts old none c = (
   no_bar rows before s old (ap (bar_by rows (waiting rows s.request.asked.source before) s) none),
@@ -145,7 +148,7 @@ of_no_node rows before s counts old none c = (
     neither a b e = grind arith
 
 -- one that does not wait
-pub waits_not : (rows : List NodeRow) (before : List Standing) (s : Standing) (counts old : List ℕ) → s.waits ≡ false → CountsFor rows before counts
+pub waits_not : (rows : List NodeRow) (before : List OutstandingRequest) (s : OutstandingRequest) (counts old : List ℕ) → s.waits ≡ false → CountsFor rows before counts
     → (old ≡ old ++ bar_of rows before s) × CountsFor rows (before ++ s ∷ []) counts
 waits_not rows before s counts old off c =
     (no_bar rows before s old (none (number_of rows s.request.asked.source)), counts_still rows before s counts (neither s.waits (is_some (number_of rows s.request.asked.source)) off) c)
@@ -158,7 +161,7 @@ waits_not rows before s counts old off c =
     neither a b e = grind arith
 
 -- one that waits
-pub one_waits : (rows : List NodeRow) (before : List Standing) (s : Standing) (counts : List ℕ) (node x v : ℕ) (class old new : List ℕ) → node < 63 → s.waits ≡ true
+pub one_waits : (rows : List NodeRow) (before : List OutstandingRequest) (s : OutstandingRequest) (counts : List ℕ) (node x v : ℕ) (class old new : List ℕ) → node < 63 → s.waits ≡ true
     → number_of rows s.request.asked.source ≡ Some node → class ≡ bar_class (kind_of s.request) → x ≡ place_of rows node → new ≡ old ++ bar_at class x (slice_index counts node)
     → v ≡ min 255 (slice_index counts node + 1) → CountsFor rows before counts → (new ≡ old ++ bar_of rows before s) × CountsFor rows (before ++ s ∷ []) (slice_set counts node v)
 one_waits rows before s counts node x v class old new under waits is named placed put value c =
@@ -181,33 +184,3 @@ path_of name s0 s1 a t0 t1 e f g = g ∙ ap (λ (x : List ℕ). t0 ++ path name 
 
 pub path_of_two : (name s0 s1 s2 a b t0 t1 : List ℕ) → s0 ≡ [] → s1 ≡ s0 ++ a → s2 ≡ s1 ++ b → t1 ≡ t0 ++ path name s2 → t1 ≡ t0 ++ path name (a ++ b)
 path_of_two name s0 s1 s2 a b t0 t1 e f g h = h ∙ ap (λ (x : List ℕ). t0 ++ path name x) (g ∙ ap (λ (x : List ℕ). x ++ b) (f ∙ ap (λ (x : List ℕ). x ++ a) e))
-
--- ---- as far as a loop over the requests has come
-
-pub record BarsTo (rows : List NodeRow) (list : List Standing) (n : ℕ) (counts old new : List ℕ) : Type 0 where
-  pub text_is : new ≡ old ++ bars rows [] (take n list)
-  pub counts_are : CountsFor rows (take n list) counts
-
-pub bars_at_first : (rows : List NodeRow) (list : List Standing) (old : List ℕ) → BarsTo rows list 0 (replicate 63 0) old old
-bars_at_first rows list old = record { text_is = sym (append-nil old) ∙ ap (λ (x : List ℕ). old ++ x) (sym (no_bars rows)); counts_are = counts_none rows }
-
-pub bars_step : (rows : List NodeRow) (list : List Standing) (n : ℕ) (d : Standing) (counts next old now new : List ℕ) → n < length list → BarsTo rows list n counts old now
-    → (new ≡ now ++ bar_of rows (take n list) (get_or list n d)) × CountsFor rows (take n list ++ get_or list n d ∷ []) next → BarsTo rows list (n + 1) next old new
-bars_step rows list n d counts next old now new low b w =
-    let grow : take (n + 1) list ≡ take n list ++ get_or list n d ∷ [] = take_more list n d low in
-    let all : bars rows [] (take (n + 1) list) ≡ bars rows [] (take n list) ++ bar_of rows (take n list) (get_or list n d) = ap (bars rows []) grow ∙ more_bars rows (take n list) (get_or list n d) in
-    record {
-      text_is =
-          w.0 ∙ (ap (λ (x : List ℕ). x ++ bar_of rows (take n list) (get_or list n d)) b.text_is
-          ∙ (append_assoc old (bars rows [] (take n list)) (bar_of rows (take n list) (get_or list n d)) ∙ ap (λ (x : List ℕ). old ++ x) (sym all)));
-      counts_are = subst (λ (l : List Standing). CountsFor rows l next) (sym grow) w.1;
-    }
-
-take_past : (list : List Standing) (n : ℕ) → length list ≤ n → take n list ≡ list
-take_past [] zero l = refl
-take_past [] (suc n) l = refl
-take_past (x ∷ list) zero l = absurd (omega arith)
-take_past (x ∷ list) (suc n) l = ap (λ (xs : List Standing). x ∷ xs) (take_past list n (omega arith))
-
-pub bars_at_last : (rows : List NodeRow) (list : List Standing) (n : ℕ) (counts old new : List ℕ) → length list ≤ n → BarsTo rows list n counts old new → new ≡ old ++ bars rows [] list
-bars_at_last rows list n counts old new past b = b.text_is ∙ ap (λ (l : List Standing). old ++ bars rows [] l) (take_past list n past)

@@ -11,7 +11,7 @@ use Rattle.fw_plug.specs.declared.word.InWord.{InWord}
 use Rattle.fw_plug.specs.Words.{is_connected}
 use Rattle.fw_page_marks.specs.Places.{place_of, number_of}
 use Rattle.fw_page_marks.specs.Shapes.{path, rect, mark}
-use Rattle.fw_page_phrases.specs.declared.standing.Standing.{Standing}
+use Rattle.fw_page_phrases.specs.declared.standing.OutstandingRequest.{OutstandingRequest}
 use Rattle.fw_page_phrases.specs.Asking.{kind_of, bar_class}
 use Rattle.fw_page_scene.specs.declared.lives.Lives.{Lives}
 use Rattle.fw_page_scene.specs.declared.lines.Spot.{Spot}
@@ -96,11 +96,11 @@ nodes_text lives l rows =
 -- ---- requests that wait
 
 -- a request waits, and its source is this node
-abbrev pub waits_at : List NodeRow → ℕ → Standing → Bool
+abbrev pub waits_at : List NodeRow → ℕ → OutstandingRequest → Bool
 waits_at rows source s = s.waits && is_some (number_of rows s.request.asked.source) && (s.request.asked.source == source)
 
 -- how many of the requests wait so
-abbrev pub waiting : List NodeRow → ℕ → List Standing → ℕ
+abbrev pub waiting : List NodeRow → ℕ → List OutstandingRequest → ℕ
 waiting rows source [] = 0
 waiting rows source (s ∷ list) = (if waits_at rows source s then 1 else 0) + waiting rows source list
 
@@ -111,24 +111,24 @@ bar_at class x (suc zero) = mark class (x + 8) (codes " 0v999")
 bar_at class x (suc (suc zero)) = mark class (x - 8) (codes " 0v999")
 bar_at class x (suc (suc (suc n))) = []
 
-abbrev pub bar_by : List NodeRow → ℕ → Standing → Option ℕ → List ℕ
+abbrev pub bar_by : List NodeRow → ℕ → OutstandingRequest → Option ℕ → List ℕ
 bar_by rows before s None = []
 bar_by rows before s (Some node) = if s.waits then bar_at (bar_class (kind_of s.request)) (place_of rows node) before else []
 
 -- the bar of a request after others
-abbrev pub bar_of : List NodeRow → List Standing → Standing → List ℕ
+abbrev pub bar_of : List NodeRow → List OutstandingRequest → OutstandingRequest → List ℕ
 bar_of rows before s = bar_by rows (waiting rows s.request.asked.source before) s (number_of rows s.request.asked.source)
 
 -- how many of the requests wait of each node, as far as the code counts
-abbrev pub CountsFor : List NodeRow → List Standing → List ℕ → Type 0
+abbrev pub CountsFor : List NodeRow → List OutstandingRequest → List ℕ → Type 0
 CountsFor rows before counts = (length counts ≡ 63) × ((node : ℕ) → node < 63 → slice_index counts node ≡ min 255 (waiting rows (first_id + node) before))
 
 -- the bars of requests after others
-unfoldable pub bars : List NodeRow → List Standing → List Standing → List ℕ
+unfoldable pub bars : List NodeRow → List OutstandingRequest → List OutstandingRequest → List ℕ
 bars rows before [] = []
 bars rows before (s ∷ list) =
     bar_of rows before s ++ bars rows (before ++ s ∷ []) list
 
 -- all that is drawn over the columns
-abbrev pub lines : Lives → Option Account → List NodeRow → List Standing → List ℕ
+abbrev pub lines : Lives → Option Account → List NodeRow → List OutstandingRequest → List ℕ
 lines lives l rows standing = nodes_text lives l rows ++ bars rows [] standing

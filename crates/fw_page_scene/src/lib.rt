@@ -2,12 +2,14 @@
 #![tactic(auto)]
 
 mod account;
+mod bars;
 mod laws;
 mod lines;
 mod lives;
 mod plugs;
 
 pub use account::{Account, Effect, is_moving};
+pub use bars::Bars;
 pub use laws::others_move_nothing;
 pub use lines::{Scene, Spot};
 pub use lives::{Devices, Lives};

@@ -1,20 +1,17 @@
-//! What each row draws over the columns: who talks, hears, lingers, is dead or deaf, and which requests wait.
+//! What each row draws over the columns of the nodes: who talks, hears, lingers, is dead or deaf.
 
-ghost use Rattle.std.specs.Prelude.{◌≡◌, ◌<◌, ◌≤◌, ◌++◌, ◌∷◌, [], OnOk, Option, Some, None, codes};
+ghost use Rattle.std.specs.Prelude.{◌≡◌, ◌≤◌, ◌++◌, OnOk, Option, None};
 ghost use Rattle.std.specs.Option.{option_copied};
 ghost use Rattle.fw_model_account.specs.Account.{Account};
 ghost use Rattle.fw_ledger.specs.Stands.{StandsFor};
 ghost use Rattle.fw_page_strip.specs.Drawing.{LedgerFor};
-ghost use Rattle.fw_page_marks.specs.Shapes.{mark};
-ghost use Rattle.fw_page_phrases.specs.Asking.{bar_class};
-ghost use Rattle.fw_page_scene.specs.Lines.{talks, lingers, hears_by, by_account, holds, spot_shape, bar_at};
+ghost use Rattle.fw_page_scene.specs.Lines.{talks, lingers, hears_by, by_account, holds, spot_shape};
 
 use crate::lives::Lives;
 use crate::plugs::{hears, lingers, talks};
 use fw_ledger::Ledger;
 use fw_log_entry::NodeRow;
-use fw_page_marks::{Columns, put_mark, put_path, put_rect};
-use fw_page_phrases::{Kind, Standing};
+use fw_page_marks::{Columns, put_path, put_rect};
 use std::alloc::AllocError;
 
 /// What is drawn of the nodes that something holds for.
@@ -94,77 +91,21 @@ fn put_shape(shapes: &mut Vec<u8>, spot: Spot, x: u64) -> Result<(), AllocError>
     }
 }
 
-// The last two letters of the class of a bar.
-#[inline(always)]
-fn bar_letters(kind: Kind) -> (u8, u8)
-    ensures { codes "v " ++ result.0 ∷ result.1 ∷ [] ≡ bar_class kind }
-{
-    match kind {
-        Kind::Read => (b'r', b'd'),
-        Kind::Lock => (b'l', b'k'),
-        Kind::Bid => (b'c', b'd'),
-        Kind::Write => (b'w', b'r'),
-    }
-}
-
-// Appends a bar at a place of three digits, in one piece: a row may have a hundred bars.
-fn put_bar_row(text: &mut Vec<u8>, kind: Kind, x: u64) -> Result<(), AllocError>
-    requires low { 100 ≤ x }
-    requires high { x < 1000 }
-    ensures { OnOk result (text.new.items ≡ text.old.items ++ mark (bar_class kind) x (codes " 0v999")) }
-{
-    let (first, second) = bar_letters(kind);
-    let mut bar = *br#"<path class="v rd" d="M000 0v999"/>"#;
-    bar[15] = first;
-    bar[16] = second;
-    bar[23] = b'0' + (x / 100) as u8;
-    bar[24] = b'0' + (x / 10 % 10) as u8;
-    bar[25] = b'0' + (x % 10) as u8;
-    text.extend_from_slice(&bar)
-}
-
-// Appends a bar at a place.
-fn put_bar_at(text: &mut Vec<u8>, kind: Kind, x: u64) -> Result<(), AllocError>
-    ensures { OnOk result (text.new.items ≡ text.old.items ++ mark (bar_class kind) x (codes " 0v999")) }
-{
-    if 100 <= x && x < 1000 {
-        put_bar_row(text, kind, x)
-    } else {
-        put_mark(text, kind.bar(), x, " 0v999")
-    }
-}
-
-// Appends the bar of a request after so many of the same node: there is none for the fourth and further ones.
-fn put_bar(text: &mut Vec<u8>, kind: Kind, x: u64, before: u8) -> Result<(), AllocError>
-    requires low { 8 ≤ x }
-    requires high { x ≤ 1100 }
-    ensures { OnOk result (text.new.items ≡ text.old.items ++ bar_at (bar_class kind) x before) }
-{
-    match before {
-        0 => put_bar_at(text, kind, x),
-        1 => put_bar_at(text, kind, x + 8),
-        2 => put_bar_at(text, kind, x - 8),
-        _ => Ok(()),
-    }
-}
-
 /// What the lines are drawn of.
 #[derive(Clone, Copy)]
 pub struct Scene<'a> {
     pub columns: &'a Columns,
     pub lives: &'a Lives,
     pub ledger: Option<&'a Ledger>,
-    pub standing: &'a [Standing],
 }
 
 impl<'a> Scene<'a> {
-    ghost use Rattle.std.specs.Prelude.{◌≡◌, ◌∷◌, ◌++◌, [], List, slice_get, OnOk, Option};
+    ghost use Rattle.std.specs.Prelude.{◌≡◌, ◌++◌, slice_get, OnOk, Option};
     ghost use Rattle.std.specs.Option.{option_copied};
     ghost use Rattle.fw_model_account.specs.Account.{Account};
     ghost use Rattle.fw_page_marks.specs.Places.{place_of};
-    ghost use Rattle.fw_page_phrases.specs.declared.standing.Standing.{Standing as AStanding};
     ghost use Rattle.fw_page_strip.specs.Drawing.{LedgerFor};
-    ghost use Rattle.fw_page_scene.specs.Lines.{spot_of, spots, nodes_text, bar_of, CountsFor, bars};
+    ghost use Rattle.fw_page_scene.specs.Lines.{spot_of, spots, nodes_text};
 
     // Appends the shape of a node, if it is one for which something holds.
     fn put_spot(&self, shapes: &mut Vec<u8>, spot: Spot, node: usize) -> Result<(), AllocError>
@@ -207,36 +148,5 @@ impl<'a> Scene<'a> {
         shapes.clear();
         self.put_spots(shapes, Spot::Lingers)?;
         put_path(text, "u4", shapes)
-    }
-
-    // Appends the bar of a request that waits, after as many of each node as are counted, and counts it.
-    fn put_waiting(
-        &self,
-        text: &mut Vec<u8>,
-        counts: &mut [u8; 63],
-        s: &Standing,
-    ) -> Result<(), AllocError>
-        ensures { (before : List AStanding) → CountsFor self.now.columns.now before counts.old → OnOk result ((text.new.items ≡ text.old.items ++ bar_of self.now.columns.now before s.now) × CountsFor self.now.columns.now (before ++ s.now ∷ []) counts.new) }
-    {
-        let Some(node) = self.columns.number(s.request.asked.source) else {
-            return Ok(());
-        };
-        if !s.waits {
-            return Ok(());
-        }
-        put_bar(text, s.request.kind(), self.columns.x(node), counts[node])?;
-        counts[node] = counts[node].saturating_add(1);
-        Ok(())
-    }
-
-    /// Appends the bars of the requests that wait, the first three of each node.
-    pub fn put_bars(&self, text: &mut Vec<u8>) -> Result<(), AllocError>
-        ensures { OnOk result (text.new.items ≡ text.old.items ++ bars self.now.columns.now [] self.now.standing.now) }
-    {
-        let mut counts = [0u8; 63];
-        for s in self.standing {
-            self.put_waiting(text, &mut counts, s)?;
-        }
-        Ok(())
     }
 }

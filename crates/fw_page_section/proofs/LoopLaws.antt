@@ -10,8 +10,8 @@ use Rattle.fw_page_section.specs.Says.{devices_below, device_at, items_below, it
 use Rattle.fw_page_section.specs.Pictures.{cables_below, cable, stems_below, stem, nodes_below, node_text}
 
 -- one text more
-pub behind : (s t u x y : List ℕ) → t ≡ s ++ x → u ≡ t ++ y → u ≡ s ++ (x ++ y)
-behind s t u x y e f = f ∙ ap (λ z. z ++ y) e ∙ append_assoc s x y
+pub following : (s t u x y : List ℕ) → t ≡ s ++ x → u ≡ t ++ y → u ≡ s ++ (x ++ y)
+following s t u x y e f = f ∙ ap (λ z. z ++ y) e ∙ append_assoc s x y
 
 -- nothing after a text
 pub begun : (s a : List ℕ) → a ≡ [] → s ≡ s ++ a

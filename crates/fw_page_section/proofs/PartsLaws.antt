@@ -10,8 +10,8 @@ use Rattle.fw_page_section.specs.Subject.{Subject}
 use Rattle.fw_page_section.specs.Says.{says, joined, gone, items_text}
 use Rattle.fw_page_section.specs.Signs.{sign_of, shape_text, kind_text, device_text, tags_text, column_of, columns_below, columns_text, axis}
 use Rattle.fw_page_section.specs.Pictures.{height, stem, stems_below, cable_path, cable_speed, cable_by, cables_below, cables, past_by, past_of, called, begun, node_y, node_text, nodes_below, picture}
-use Rattle.fw_page_section.specs.Sections.{section_front, heading, section_over, section_by, section}
-use Rattle.fw_page_section.specs.Parts.{Parts, picture_front, front_over, front_by, front, back, parts}
+use Rattle.fw_page_section.specs.Sections.{section_prefix, heading, section_over, section_by, section}
+use Rattle.fw_page_section.specs.Parts.{Parts, picture_prefix, prefix_over, prefix_by, prefix, back, parts}
 
 -- with another epoch, number and cycle
 abbrev pub other : Subject → ℕ → ℕ → ℕ → Subject
@@ -101,8 +101,8 @@ unfolding nodes_below
 nodes_other s e m c t zero = refl
 nodes_other s e m c t (suc n) = both (nodes_other s e m c t n) (node_other s e m c t n)
 
-picture_other : (s : Subject) (e m c : ℕ) (t : Option Tree) → picture_front (other s e m c) t ≡ picture_front s t
-unfolding picture_front
+picture_other : (s : Subject) (e m c : ℕ) (t : Option Tree) → picture_prefix (other s e m c) t ≡ picture_prefix s t
+unfolding picture_prefix
 picture_other s e m c t =
     join (codes "<div class=\"t\" style=\"height:" ++ decimal (height t)) (codes "px\"><svg class=\"f\" role=\"img\"><title>the tree of the bus</title><path class=\"g\" d=\"") (codes "\"/>")
     (codes "</svg><svg class=\"s\" aria-hidden=\"true\">") (stems_other s e m c t (length s.rows)) (cables_other s e m c t) (nodes_other s e m c t (length s.rows))
@@ -125,23 +125,23 @@ unfolding columns_text
 columns_other s e m c = ap (λ (x : List ℕ). codes "<div class=\"c\"><svg class=\"f\" aria-hidden=\"true\">" ++ x ++ codes "</svg><svg class=\"s\" aria-hidden=\"true\">" ++ axis
     ++ codes "</svg></div>\n<ol class=\"r\">\n") (columns_below_other s e m c (length s.rows))
 
-over_other : (s : Subject) (e m c : ℕ) (t : Option Tree) (fault : Option MapFault) → front_over (other s e m c) t fault ≡ front_over s t fault
+over_other : (s : Subject) (e m c : ℕ) (t : Option Tree) (fault : Option MapFault) → prefix_over (other s e m c) t fault ≡ prefix_over s t fault
 over_other s e m c t fault =
     join (codes "<p>") (codes "</p>\n") (items_text s.rows s.entry.ids) (says_other s e m c fault) (picture_other s e m c t)
   where
     join : (p q i : List ℕ) {a b x y : List ℕ} → a ≡ b → x ≡ y → p ++ a ++ q ++ i ++ x ≡ p ++ b ++ q ++ i ++ y
     join p q i f g = cc
 
-front_by_other : (s : Subject) (e m c : ℕ) (r : Result Tree MapFault) → front_by (other s e m c) r ≡ front_by s r
-front_by_other s e m c (Ok t) = over_other s e m c (Some t) None
-front_by_other s e m c (Err fault) = over_other s e m c None (Some fault)
+prefix_by_other : (s : Subject) (e m c : ℕ) (r : Result Tree MapFault) → prefix_by (other s e m c) r ≡ prefix_by s r
+prefix_by_other s e m c (Ok t) = over_other s e m c (Some t) None
+prefix_by_other s e m c (Err fault) = over_other s e m c None (Some fault)
 
 -- ---- both parts
 
 pub parts_other : (s : Subject) (e m c : ℕ) → parts (other s e m c) ≡ parts s
-unfolding parts front back
+unfolding parts prefix back
 parts_other s e m c = λ i. record {
-  front = (ap (front_by (other s e m c)) (rebuilt_other s.entry e) ∙ front_by_other s e m c (rebuilt s.entry)) i;
+  prefix = (ap (prefix_by (other s e m c)) (rebuilt_other s.entry e) ∙ prefix_by_other s e m c (rebuilt s.entry)) i;
   back = ap (λ (x : List ℕ). codes "</svg></div>\n" ++ x) (columns_other s e m c) i;
 }
 
@@ -168,9 +168,9 @@ pub kept : (s : Subject) (d : ResetEntry) (rows before : List NodeRow) (first : 
 kept s d rows before first p a b c f k = k ∙ sym (same_made s d rows before first a b c f)
 
 -- both parts were made in empty texts
-pub made : (s : Subject) (a b t u : List ℕ) → a ≡ [] → t ≡ a ++ front s → b ≡ [] → u ≡ b ++ back s → ◌≡◌ {A = Parts} (record { front = t; back = u }) (parts s)
+pub made : (s : Subject) (a b t u : List ℕ) → a ≡ [] → t ≡ a ++ prefix s → b ≡ [] → u ≡ b ++ back s → ◌≡◌ {A = Parts} (record { prefix = t; back = u }) (parts s)
 unfolding parts
-made s a b t u x f y g = λ i. record { front = (f ∙ ap (λ (z : List ℕ). z ++ front s) x) i; back = (g ∙ ap (λ (z : List ℕ). z ++ back s) y) i }
+made s a b t u x f y g = λ i. record { prefix = (f ∙ ap (λ (z : List ℕ). z ++ prefix s) x) i; back = (g ∙ ap (λ (z : List ℕ). z ++ back s) y) i }
 
 -- ---- a section
 
@@ -179,17 +179,17 @@ regroup : (a b p y q i h g st u c n r l w z : List ℕ) → (a ++ b) ++ ((p ++ y
 regroup a b p y q i h g st u c n r l w z = simp append_assoc
 
 over_whole : (s : Subject) (t : Option Tree) (fault : Option MapFault) (lanes : List ℕ)
-    → (section_front s ++ heading s) ++ (front_over s t fault ++ lanes ++ back s) ≡ section_over s t fault lanes
-unfolding section_over picture picture_front back
+    → (section_prefix s ++ heading s) ++ (prefix_over s t fault ++ lanes ++ back s) ≡ section_over s t fault lanes
+unfolding section_over picture picture_prefix back
 over_whole s t fault lanes =
-    regroup (section_front s) (heading s) (codes "<p>") (says s fault) (codes "</p>\n") (items_text s.rows s.entry.ids) (codes "<div class=\"t\" style=\"height:" ++ decimal (height t))
+    regroup (section_prefix s) (heading s) (codes "<p>") (says s fault) (codes "</p>\n") (items_text s.rows s.entry.ids) (codes "<div class=\"t\" style=\"height:" ++ decimal (height t))
     (codes "px\"><svg class=\"f\" role=\"img\"><title>the tree of the bus</title><path class=\"g\" d=\"") (stems_below s t (length s.rows)) (codes "\"/>") (cables s t)
     (nodes_below s t (length s.rows)) (codes "</svg><svg class=\"s\" aria-hidden=\"true\">") lanes (codes "</svg></div>\n") (columns_text s)
 
-by_whole : (s : Subject) (r : Result Tree MapFault) (lanes : List ℕ) → (section_front s ++ heading s) ++ (front_by s r ++ lanes ++ back s) ≡ section_by s r lanes
+by_whole : (s : Subject) (r : Result Tree MapFault) (lanes : List ℕ) → (section_prefix s ++ heading s) ++ (prefix_by s r ++ lanes ++ back s) ≡ section_by s r lanes
 by_whole s (Ok t) lanes = over_whole s (Some t) None lanes
 by_whole s (Err fault) lanes = over_whole s None (Some fault) lanes
 
-pub whole : (s : Subject) (kept : Parts) (lanes : List ℕ) → kept ≡ parts s → (section_front s ++ heading s) ++ (kept.front ++ lanes ++ kept.back) ≡ section s lanes
-unfolding parts front
-whole s kept lanes e = ap (λ (k : Parts). (section_front s ++ heading s) ++ (k.front ++ lanes ++ k.back)) e ∙ by_whole s (rebuilt s.entry) lanes
+pub whole : (s : Subject) (kept : Parts) (lanes : List ℕ) → kept ≡ parts s → (section_prefix s ++ heading s) ++ (kept.prefix ++ lanes ++ kept.back) ≡ section s lanes
+unfolding parts prefix
+whole s kept lanes e = ap (λ (k : Parts). (section_prefix s ++ heading s) ++ (k.prefix ++ lanes ++ k.back)) e ∙ by_whole s (rebuilt s.entry) lanes

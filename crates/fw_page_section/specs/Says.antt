@@ -79,12 +79,12 @@ says s fault =
     ++ joined s ++ gone s ++ fault_text fault
 
 -- what stands before a node's own: the begin of an item, and the end of the one before
-abbrev pub item_front : ℕ → List ℕ
-item_front n = if n == 0 then codes "<li>" else codes "</li><li>"
+abbrev pub item_prefix : ℕ → List ℕ
+item_prefix n = if n == 0 then codes "<li>" else codes "</li><li>"
 
 -- a self-ID packet after so many others: the first of a node begins an item
 abbrev pub id_item : List NodeRow → ℕ → PhyPacket → List ℕ
-id_item rows n (FirstPacket s) = item_front n ++ (codes "node " ++ decimal s.phy) ++ codes ": " ++ row_text (slice_get rows s.phy) ++ self_text s
+id_item rows n (FirstPacket s) = item_prefix n ++ (codes "node " ++ decimal s.phy) ++ codes ": " ++ row_text (slice_get rows s.phy) ++ self_text s
 id_item rows n (FurtherPacket s) = ports_text (3 + 8 * s.number) s.ports
 id_item rows n (Config root force_root set_gap gap) = []
 id_item rows n (LinkOn phy) = []

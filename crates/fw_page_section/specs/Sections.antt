@@ -22,8 +22,8 @@ numbers_below rows zero = []
 numbers_below rows (suc n) = numbers_below rows n ++ number_at n (slice_get rows n)
 
 -- the beginning of a section, and its heading
-unfoldable pub section_front : Subject → List ℕ
-section_front s =
+unfoldable pub section_prefix : Subject → List ℕ
+section_prefix s =
     (codes "<section class=\"p" ++ decimal (pitch_of s.rows)) ++ (codes "\" style=\"--n:" ++ decimal (length s.rows)) ++ codes "\" data-d=\"" ++ numbers_below s.rows (length s.rows)
     ++ (codes "\" data-e=\"" ++ decimal s.entry.epoch) ++ codes "\">\n"
 
@@ -35,7 +35,7 @@ heading s =
 -- the section over a tree, or over the fault that there is none
 unfoldable pub section_over : Subject → Option Tree → Option MapFault → List ℕ → List ℕ
 section_over s t fault lanes =
-    section_front s ++ heading s ++ codes "<p>" ++ says s fault ++ codes "</p>\n" ++ items_text s.rows s.entry.ids ++ picture s t lanes ++ columns_text s
+    section_prefix s ++ heading s ++ codes "<p>" ++ says s fault ++ codes "</p>\n" ++ items_text s.rows s.entry.ids ++ picture s t lanes ++ columns_text s
 
 abbrev pub section_by : Subject → Result Tree MapFault → List ℕ → List ℕ
 section_by s (Ok t) lanes = section_over s (Some t) None lanes

@@ -11,12 +11,12 @@ abbrev pub is_wide : List NodeRow → Bool
 is_wide rows = nat_le 44 (pitch_of rows)
 
 -- the begin of a text of a class at a place
-unfoldable pub text_front : List ℕ → ℕ → ℕ → List ℕ
-text_front class x y = codes "<text class=\"" ++ class ++ (codes "\" x=\"" ++ decimal x) ++ (codes "\" y=\"" ++ decimal y) ++ codes "\">"
+unfoldable pub text_prefix : List ℕ → ℕ → ℕ → List ℕ
+text_prefix class x y = codes "<text class=\"" ++ class ++ (codes "\" x=\"" ++ decimal x) ++ (codes "\" y=\"" ++ decimal y) ++ codes "\">"
 
 -- a text of a class at a place
 unfoldable pub text_at : List ℕ → ℕ → ℕ → List ℕ → List ℕ
-text_at class x y text = text_front class x y ++ text ++ codes "</text>"
+text_at class x y text = text_prefix class x y ++ text ++ codes "</text>"
 
 -- a node is the resource manager
 abbrev pub manages : Option ℕ → ℕ → Bool

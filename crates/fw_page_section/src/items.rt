@@ -2,7 +2,7 @@
 
 ghost use Rattle.std.specs.Prelude.{◌≡◌, ◌++◌, OnOk, length, slice_get};
 ghost use Rattle.fw_phy.specs.declared.packet.PhyPacket.TheVariants.{SelfId as FirstPacket};
-ghost use Rattle.fw_page_section.specs.Says.{item_front, id_item, item_at, items_below, items_text};
+ghost use Rattle.fw_page_section.specs.Says.{item_prefix, id_item, item_at, items_below, items_text};
 
 use fw_log_entry::NodeRow;
 use fw_log_explain::{put_further, put_row, put_self};
@@ -12,8 +12,8 @@ use fw_phy::{PhyPacket, SelfId};
 use std::alloc::AllocError;
 
 // What stands before a node's own: the begin of an item, and the end of the one before.
-fn item_front(at: usize) -> &'static str
-    ensures { result.now ≡ item_front at }
+fn item_prefix(at: usize) -> &'static str
+    ensures { result.now ≡ item_prefix at }
 {
     if at == 0 { "<li>" } else { "</li><li>" }
 }
@@ -22,7 +22,7 @@ fn item_front(at: usize) -> &'static str
 fn put_first(text: &mut Vec<u8>, rows: &[NodeRow], at: usize, s: &SelfId) -> Result<(), AllocError>
     ensures { OnOk result (text.new.items ≡ text.old.items ++ id_item rows.now at (FirstPacket s.now)) }
 {
-    put_word(text, item_front(at))?;
+    put_word(text, item_prefix(at))?;
     put_part(text, "node ", u64::from(s.phy))?;
     put_word(text, ": ")?;
     put_row(text, rows, s.phy)?;

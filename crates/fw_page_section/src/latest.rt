@@ -5,7 +5,7 @@ ghost use Rattle.std.specs.Option.{option_copied};
 ghost use Rattle.fw_log_entry.specs.Log.{ResetFits};
 ghost use Rattle.fw_page_section.specs.Subject.{subject_of};
 ghost use Rattle.fw_page_section.specs.Pictures.{IsPictured};
-ghost use Rattle.fw_page_section.specs.Parts.{front_over, front, back};
+ghost use Rattle.fw_page_section.specs.Parts.{prefix_over, prefix, back};
 
 use crate::items::put_items;
 use crate::picture::put_picture;
@@ -41,7 +41,7 @@ fn put_over(
     fault: Option<MapFault>,
 ) -> Result<(), AllocError>
     requires { IsPictured (option_copied tree) }
-    ensures { OnOk result (text.new.items ≡ text.old.items ++ front_over (subject_of section.now) (option_copied tree.entry) fault) }
+    ensures { OnOk result (text.new.items ≡ text.old.items ++ prefix_over (subject_of section.now) (option_copied tree.entry) fault) }
 {
     put_word(text, "<p>")?;
     put_says(text, section, fault)?;
@@ -51,9 +51,9 @@ fn put_over(
 }
 
 // Appends what a section says between its heading and the lanes.
-fn put_front(text: &mut Vec<u8>, section: &Section) -> Result<(), AllocError>
+fn put_prefix(text: &mut Vec<u8>, section: &Section) -> Result<(), AllocError>
     requires { ResetFits section.now.entry.now }
-    ensures { OnOk result (text.new.items ≡ text.old.items ++ front (subject_of section.now)) }
+    ensures { OnOk result (text.new.items ≡ text.old.items ++ prefix (subject_of section.now)) }
 {
     match rebuild(section.entry) {
         Ok(tree) => put_over(text, section, Some(&tree), None),
@@ -80,7 +80,7 @@ pub struct Sections {
     before: Vec<NodeRow>,
     is_first: bool,
     // What it says before the lanes, and after them.
-    front: Vec<u8>,
+    prefix: Vec<u8>,
     back: Vec<u8>,
 }
 
@@ -90,9 +90,9 @@ impl Model for Sections {
 
     ghost Value = { Parts };
 
-    ghost view = { λ s. record { front = s.front.items; back = s.back.items } };
+    ghost view = { λ s. record { prefix = s.prefix.items; back = s.back.items } };
 
-    ghost invariant = { λ s. IsTrue s.is_kept → record { front = s.front.items; back = s.back.items } ≡ parts (record { entry = s.entry.value; rows = s.rows.items; before = s.before.items; is_first = s.is_first; number = 0; cycle = 0 }) };
+    ghost invariant = { λ s. IsTrue s.is_kept → record { prefix = s.prefix.items; back = s.back.items } ≡ parts (record { entry = s.entry.value; rows = s.rows.items; before = s.before.items; is_first = s.is_first; number = 0; cycle = 0 }) };
 }
 
 impl Sections {
@@ -118,7 +118,7 @@ impl Sections {
             rows: Vec::new(alloc),
             before: Vec::new(alloc),
             is_first: false,
-            front: Vec::new(alloc),
+            prefix: Vec::new(alloc),
             back: Vec::new(alloc),
         })
     }
@@ -150,8 +150,8 @@ impl Sections {
         keep_rows(&mut self.rows, reset.columns.nodes())?;
         keep_rows(&mut self.before, reset.before.nodes())?;
         self.is_first = reset.is_first;
-        self.front.clear();
-        put_front(&mut self.front, reset)?;
+        self.prefix.clear();
+        put_prefix(&mut self.prefix, reset)?;
         self.back.clear();
         put_back(&mut self.back, reset)?;
         self.is_kept = true;
@@ -171,9 +171,9 @@ impl Sections {
 
     // Appends what is kept, with these lanes beside the picture.
     fn put_kept(&self, text: &mut Vec<u8>, lanes: &[u8]) -> Result<(), AllocError>
-        ensures { OnOk result (text.new.items ≡ text.old.items ++ (self.now.front ++ lanes.now ++ self.now.back)) }
+        ensures { OnOk result (text.new.items ≡ text.old.items ++ (self.now.prefix ++ lanes.now ++ self.now.back)) }
     {
-        text.extend_from_slice(&self.front)?;
+        text.extend_from_slice(&self.prefix)?;
         text.extend_from_slice(lanes)?;
         text.extend_from_slice(&self.back)
     }
@@ -189,7 +189,7 @@ impl Sections {
         ensures { OnOk result (text.new.items ≡ text.old.items ++ section (subject_of reset.now) lanes.now) }
     {
         self.set(reset)?;
-        reset.put_front(text)?;
+        reset.put_prefix(text)?;
         reset.put_heading(text)?;
         self.put_kept(text, lanes)
     }

@@ -8,7 +8,7 @@ ghost use Rattle.fw_page_marks.specs.Places.{place_of};
 ghost use Rattle.fw_page_section.specs.Signs.{is_wide, text_at};
 ghost use Rattle.fw_page_section.specs.Levels.{IsDepthsOf};
 ghost use Rattle.fw_page_section.specs.Pictures.{stem, stems_below, past_by, past_of, called, begun, node_text, nodes_below, IsPictured};
-ghost use Rattle.fw_page_section.specs.Parts.{picture_front};
+ghost use Rattle.fw_page_section.specs.Parts.{picture_prefix};
 
 use crate::cables::put_cables;
 use crate::depths::Depths;
@@ -168,14 +168,14 @@ fn put_nodes(text: &mut Vec<u8>, section: &Section, depths: &Depths) -> Result<(
 }
 
 /// Appends the picture of a bus up to the lanes beside it.
-#[tactic(auto, unfolding(crate::specs::Parts::picture_front))]
+#[tactic(auto, unfolding(crate::specs::Parts::picture_prefix))]
 pub(crate) fn put_picture(
     text: &mut Vec<u8>,
     section: &Section,
     tree: Option<&Tree>,
 ) -> Result<(), AllocError>
     requires { IsPictured (option_copied tree) }
-    ensures { OnOk result (text.new.items ≡ text.old.items ++ picture_front (subject_of section.now) (option_copied tree.entry)) }
+    ensures { OnOk result (text.new.items ≡ text.old.items ++ picture_prefix (subject_of section.now) (option_copied tree.entry)) }
 {
     let depths = Depths::of(tree);
     put_part(text, r#"<div class="t" style="height:"#, depths.height)?;

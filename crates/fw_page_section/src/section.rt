@@ -45,13 +45,13 @@ fn put_numbers(text: &mut Vec<u8>, rows: &[NodeRow]) -> Result<(), AllocError>
 
 impl<'a> Section<'a> {
     ghost use Rattle.std.specs.Prelude.{◌≡◌, ◌++◌, OnOk};
-    ghost use Rattle.fw_page_section.specs.Sections.{section_front, heading};
+    ghost use Rattle.fw_page_section.specs.Sections.{section_prefix, heading};
     ghost use Rattle.fw_page_section.specs.Subject.{subject_of};
 
     /// Appends the beginning of a section.
-    #[tactic(auto, unfolding(crate::specs::Sections::section_front))]
-    pub(crate) fn put_front(&self, text: &mut Vec<u8>) -> Result<(), AllocError>
-        ensures { OnOk result (text.new.items ≡ text.old.items ++ section_front (subject_of self.now)) }
+    #[tactic(auto, unfolding(crate::specs::Sections::section_prefix))]
+    pub(crate) fn put_prefix(&self, text: &mut Vec<u8>) -> Result<(), AllocError>
+        ensures { OnOk result (text.new.items ≡ text.old.items ++ section_prefix (subject_of self.now)) }
     {
         let rows = self.columns.nodes();
         put_part(text, r#"<section class="p"#, self.columns.pitch())?;

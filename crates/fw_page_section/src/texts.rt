@@ -1,7 +1,7 @@
 //! Small texts at places, and what stands over the strips.
 
 ghost use Rattle.std.specs.Prelude.{◌≡◌, ◌++◌, OnOk};
-ghost use Rattle.fw_page_section.specs.Signs.{text_front, text_at, tick, axis};
+ghost use Rattle.fw_page_section.specs.Signs.{text_prefix, text_at, tick, axis};
 
 use fw_log_names::{put_number, put_word};
 use fw_page_marks::put_part;
@@ -12,14 +12,14 @@ const AXIS: &str =
     "<text class=\"q\" x=\"64\" y=\"36\">bandwidth units taken</text><text class=\"q\" x=\"4\" y=\"58\">0</text><text class=\"q\" x=\"116\" y=\"58\">4915</text><text class=\"q\" x=\"332\" y=\"36\">channels</text>";
 
 /// Begins a small text at a place.
-#[tactic(auto, unfolding(crate::specs::Signs::text_front))]
+#[tactic(auto, unfolding(crate::specs::Signs::text_prefix))]
 pub(crate) fn put_small_at(
     text: &mut Vec<u8>,
     class: &str,
     x: u64,
     y: u64,
 ) -> Result<(), AllocError>
-    ensures { OnOk result (text.new.items ≡ text.old.items ++ text_front class.now x y) }
+    ensures { OnOk result (text.new.items ≡ text.old.items ++ text_prefix class.now x y) }
 {
     put_word(text, r#"<text class=""#)?;
     put_word(text, class)?;

@@ -11,7 +11,7 @@ use Rattle.fw_page_strip.specs.declared.owner.Owner.{Owner}
 use Rattle.fw_page_strip.specs.declared.owner.Owner.TheVariants.{Nobody, Plug, Bus}
 use Rattle.fw_page_strip.specs.Owners.{class_code, owners, same_owner}
 use Rattle.fw_page_strip.specs.Labels.{changed_below, owner_in, labels, taken, change_of, with_change, IsLow, channel_label, units_label}
-use Rattle.fw_page_strip.proofs.LaneLaws.{behind}
+use Rattle.fw_page_strip.proofs.LaneLaws.{following}
 
 pub no_changes : (before now : List Owner) → changed_below before now 0 ≡ []
 unfolding changed_below
@@ -85,7 +85,7 @@ no_labels (Some l) = two (ap (λ (xs : List ℕ). channel_label (change_of xs) (
 pub units_put : (before next n : ℕ) (s t u : List ℕ) → (before ≡ next → ⊥) → n ≡ 4915 - next → t ≡ s ++ (codes "<text class=\"e\" x=\"126\" y=\"16\">" ++ decimal n) → u ≡ t ++ codes "</text>"
     → u ≡ s ++ units_label before next
 units_put before next n s t u differ is e f =
-    let front : List ℕ = codes "<text class=\"e\" x=\"126\" y=\"16\">" in
-    let label : List ℕ = front ++ decimal (4915 - next) ++ codes "</text>" in
-    behind s t u (front ++ decimal (4915 - next)) (codes "</text>") (e ∙ ap (λ (k : ℕ). s ++ (front ++ decimal k)) is) f
+    let prefix : List ℕ = codes "<text class=\"e\" x=\"126\" y=\"16\">" in
+    let label : List ℕ = prefix ++ decimal (4915 - next) ++ codes "</text>" in
+    following s t u (prefix ++ decimal (4915 - next)) (codes "</text>") (e ∙ ap (λ (k : ℕ). s ++ (prefix ++ decimal k)) is) f
     ∙ ap (λ (x : List ℕ). s ++ x) (sym (ap (λ b. if b then [] else label) (ne_eqb before next differ)))

@@ -26,12 +26,12 @@ pub stepped : (s t u a b all : List ℕ) → t ≡ s ++ a → u ≡ t ++ b → a
 stepped s t u a b all e f g = f ∙ ap (λ x. x ++ b) e ∙ append_assoc s a b ∙ ap (λ x. s ++ x) (sym g)
 
 -- one text more
-pub behind : (s t u x y : List ℕ) → t ≡ s ++ x → u ≡ t ++ y → u ≡ s ++ (x ++ y)
-behind s t u x y e f = f ∙ ap (λ z. z ++ y) e ∙ append_assoc s x y
+pub following : (s t u x y : List ℕ) → t ≡ s ++ x → u ≡ t ++ y → u ≡ s ++ (x ++ y)
+following s t u x y e f = f ∙ ap (λ z. z ++ y) e ∙ append_assoc s x y
 
 -- five texts more
 pub five_parts : (s t u v w z a b c d e : List ℕ) → t ≡ s ++ a → u ≡ t ++ b → v ≡ u ++ c → w ≡ v ++ d → z ≡ w ++ e → z ≡ s ++ ((((a ++ b) ++ c) ++ d) ++ e)
-five_parts s t u v w z a b c d e i j k m n = behind s w z (((a ++ b) ++ c) ++ d) e (behind s v w ((a ++ b) ++ c) d (behind s u v (a ++ b) c (behind s t u a b i j) k) m) n
+five_parts s t u v w z a b c d e i j k m n = following s w z (((a ++ b) ++ c) ++ d) e (following s v w ((a ++ b) ++ c) d (following s u v (a ++ b) c (following s t u a b i j) k) m) n
 
 -- two parts in an empty list
 pub two_parts : (s t u a b : List ℕ) → s ≡ [] → t ≡ s ++ a → u ≡ t ++ b → u ≡ a ++ b
@@ -90,26 +90,26 @@ unfolding bar_below
 more_bars l class n = let e : n + 1 ≡ suc n = omega arith in ap (bar_below l class) e
 
 -- as far as a loop over the parts of a bar has come
-pub record BarsTo (l : Account) (class : Class) (n behind : ℕ) (old new : List ℕ) : Type 0 where
-  pub behind_is : behind ≡ units_before l class + sum_to n (amount l class)
+pub record BarsTo (l : Account) (class : Class) (n following : ℕ) (old new : List ℕ) : Type 0 where
+  pub following_is : following ≡ units_before l class + sum_to n (amount l class)
   pub text_is : new ≡ old ++ bar_below l class n
 
 pub bars_none : (l : Account) (class : Class) (before : ℕ) (old : List ℕ) → before ≡ units_before l class → BarsTo l class 0 before old old
 bars_none l class before old e = record {
-  behind_is = let z = sum_none (amount l class) in omega arith;
+  following_is = let z = sum_none (amount l class) in omega arith;
   text_is = begun old (bar_below l class 0) (no_bars l class);
 }
 
-pub bars_more : (l : Account) (class : Class) (n behind units next : ℕ) (old now new : List ℕ) → IsSound l → n < 64 → BarsTo l class n behind old now → units ≡ amount l class n
-    → (behind + units < 2 ^ 32 → new ≡ now ++ bar_part behind units) → (behind + units < 2 ^ 32 → next ≡ behind + units) → BarsTo l class (n + 1) next old new
-bars_more l class n behind units next old now new s low b is text count =
+pub bars_more : (l : Account) (class : Class) (n following units next : ℕ) (old now new : List ℕ) → IsSound l → n < 64 → BarsTo l class n following old now → units ≡ amount l class n
+    → (following + units < 2 ^ 32 → new ≡ now ++ bar_part following units) → (following + units < 2 ^ 32 → next ≡ following + units) → BarsTo l class (n + 1) next old new
+bars_more l class n following units next old now new s low b is text count =
     let m = bar_upto l class n s low in
-    let i = b.behind_is in
+    let i = b.following_is in
     let k = sum_next n (amount l class) in
-    let small : behind + units < 2 ^ 32 = omega arith in
+    let small : following + units < 2 ^ 32 = omega arith in
     record {
-      behind_is = let e = count small in omega arith;
-      text_is = stepped old now new (bar_below l class n) (bar_part behind units) (bar_below l class (n + 1)) b.text_is (text small)
+      following_is = let e = count small in omega arith;
+      text_is = stepped old now new (bar_below l class n) (bar_part following units) (bar_below l class (n + 1)) b.text_is (text small)
           (more_bars l class n ∙ ap (λ x. bar_below l class n ++ x) (parts (sym i) (sym is)));
     }
   where

@@ -28,14 +28,14 @@ owner_text channel (Plug class p) = decimal channel ++ codes " d" ++ decimal p.d
 owner_text channel Bus = codes "31 withheld"
 
 -- where the label of a channel stands: right of it if there is room
-abbrev pub label_front : ℕ → List ℕ
-label_front channel =
+abbrev pub label_prefix : ℕ → List ℕ
+label_prefix channel =
     if nat_lt channel 40 then codes "<text class=\"b\" x=\"" ++ decimal (150 + 6 * channel)
     else codes "<text class=\"e\" x=\"" ++ decimal (135 + 6 * channel)
 
 -- a channel, and who has it, beside its lane
 unfoldable pub label_text : ℕ → Owner → List ℕ
-label_text channel owner = label_front channel ++ codes "\" y=\"16\">" ++ owner_text channel owner ++ codes "</text>"
+label_text channel owner = label_prefix channel ++ codes "\" y=\"16\">" ++ owner_text channel owner ++ codes "</text>"
 
 -- how many channels these are: none, one or more
 abbrev pub change_of : List ℕ → Change

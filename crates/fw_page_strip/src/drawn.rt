@@ -60,7 +60,7 @@ impl Drawn {
     }
 
     // Draws the account of a ledger.
-    fn look(&mut self, shapes: &mut Vec<u8>, ledger: &Ledger) -> Result<(), AllocError>
+    fn draw_ledger(&mut self, shapes: &mut Vec<u8>, ledger: &Ledger) -> Result<(), AllocError>
         ensures { (l : Account) → StandsFor ledger.now l → OnOk result (IsDrawnOf self.new (Some l)) }
     {
         self.owners = owners_of(ledger);
@@ -79,7 +79,7 @@ impl Drawn {
         ensures { (l : Option Account) → LedgerFor (option_copied ledger.entry) l → OnOk result (IsDrawnOf self.new l) }
     {
         match ledger {
-            Some(ledger) => self.look(shapes, ledger),
+            Some(ledger) => self.draw_ledger(shapes, ledger),
             None => {
                 self.blank();
                 Ok(())

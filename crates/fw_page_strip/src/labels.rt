@@ -1,7 +1,7 @@
 //! What has changed of the account since the last row, beside the lanes.
 
 ghost use Rattle.std.specs.Prelude.{◌≡◌, ◌<◌, ◌++◌, OnOk};
-ghost use Rattle.fw_page_strip.specs.Labels.{changed_below, owner_text, label_front, label_text, change_of, with_change, IsLow, channel_label, units_label, changes_by, dot_text};
+ghost use Rattle.fw_page_strip.specs.Labels.{changed_below, owner_text, label_prefix, label_text, change_of, with_change, IsLow, channel_label, units_label, changes_by, dot_text};
 
 use crate::amounts::CHANNELS;
 use crate::drawn::Drawn;
@@ -69,9 +69,9 @@ fn put_owner(text: &mut Vec<u8>, channel: usize, owner: Owner) -> Result<(), All
 }
 
 // Begins the label of a channel, right of it if there is room.
-fn put_front(text: &mut Vec<u8>, channel: usize) -> Result<(), AllocError>
+fn put_prefix(text: &mut Vec<u8>, channel: usize) -> Result<(), AllocError>
     requires { channel < 64 }
-    ensures { OnOk result (text.new.items ≡ text.old.items ++ label_front channel) }
+    ensures { OnOk result (text.new.items ≡ text.old.items ++ label_prefix channel) }
 {
     let at = 6 * channel as u64;
     if channel < 40 {
@@ -87,7 +87,7 @@ fn put_label(text: &mut Vec<u8>, channel: usize, owner: Owner) -> Result<(), All
     requires { channel < 64 }
     ensures { OnOk result (text.new.items ≡ text.old.items ++ label_text channel owner) }
 {
-    put_front(text, channel)?;
+    put_prefix(text, channel)?;
     put_word(text, r#"" y="16">"#)?;
     put_owner(text, channel, owner)?;
     put_word(text, "</text>")

@@ -22,16 +22,16 @@ const BAR: u64 = 128;
 // Appends the part of the bar that so many units have after others, and answers how many there are then.
 fn put_units(shapes: &mut Vec<u8>, before: u32, units: u32) -> Result<u32, AllocError>
     ensures text { before + units < 2 ^ 32 → OnOk result (shapes.new.items ≡ shapes.old.items ++ bar_part before units) }
-    ensures count { before + units < 2 ^ 32 → IfOk result (λ behind. behind ≡ before + units) }
+    ensures count { before + units < 2 ^ 32 → IfOk result (λ following. following ≡ before + units) }
 {
     if units == 0 {
         return Ok(before);
     }
-    let behind = before.saturating_add(units);
+    let following = before.saturating_add(units);
     let from = BAR * u64::from(before) / UNITS;
-    let to = BAR * u64::from(behind) / UNITS;
+    let to = BAR * u64::from(following) / UNITS;
     put_rect(shapes, from, to.saturating_sub(from).max(2) - 1)?;
-    Ok(behind)
+    Ok(following)
 }
 
 // Appends the parts of the bar of a class, one a channel, after so many units.
@@ -43,9 +43,9 @@ fn put_parts(
 ) -> Result<(), AllocError>
     ensures { (l : Account) → StandsFor ledger.now l → before ≡ units_before l class → OnOk result (shapes.new.items ≡ shapes.old.items ++ bar_below l class 64) }
 {
-    let mut behind = before;
+    let mut following = before;
     for channel in 0..CHANNELS {
-        behind = put_units(shapes, behind, amount(ledger, class, channel))?;
+        following = put_units(shapes, following, amount(ledger, class, channel))?;
     }
     Ok(())
 }

@@ -12,11 +12,11 @@ use Rattle.fw_phy.specs.declared.PhyFault.{PhyFault}
 use Rattle.fw_phy.specs.declared.PhyFault.TheVariants.{Reserved}
 use Rattle.fw_phy.specs.declared.packet.PhyPacket.{PhyPacket}
 use Rattle.fw_phy.specs.declared.packet.PhyPacket.TheVariants.{SelfId, SelfIdMore, Config, LinkOn}
-use Rattle.fw_phy.specs.Phy.{reserved_bit, Fits, quadlet_of, bit, front, GoesOn, StopsAt, IsTwice}
+use Rattle.fw_phy.specs.Phy.{reserved_bit, Fits, quadlet_of, bit, prefix, GoesOn, StopsAt, IsTwice}
 use Rattle.fw_phy.proofs.TagLaws.{tag_self, tag_more, zeros_more, tag_config, tag_link_on}
 
 -- if the first bits are the same, so are the fields within them
-same_field : (p q at i j : ℕ) → at ≤ 31 → j ≤ at → front p (at + 1) ≡ front q (at + 1) → field p i j ≡ field q i j
+same_field : (p q at i j : ℕ) → at ≤ 31 → j ≤ at → prefix p (at + 1) ≡ prefix q (at + 1) → field p i j ≡ field q i j
 same_field p q at i j within low e =
     let split : 31 - j ≡ (32 - (at + 1)) + (at - j) = omega arith in
     let h : p / 2 ^ (31 - j) ≡ q / 2 ^ (31 - j) = rw (split, ← shr-shr, ← shr-shr) (ap (λ n. n / 2 ^ (at - j)) e) in
@@ -68,8 +68,8 @@ none_set q at (suc n) b h low high one = elim (cases_eq (field q at at) 1) [
 ]
 
 -- what is cleared from a place on begins as before, up to the first 1 that was cleared
-same_front : (q at b : ℕ) → at ≤ b → b < 32 → q % 2 ^ (32 - at) / 2 ^ (32 - b) ≡ 0 → q / 2 ^ (32 - at) * 2 ^ (32 - at) / 2 ^ (32 - b) ≡ q / 2 ^ (32 - b)
-same_front q at b low high clear =
+same_prefix : (q at b : ℕ) → at ≤ b → b < 32 → q % 2 ^ (32 - at) / 2 ^ (32 - b) ≡ 0 → q / 2 ^ (32 - at) * 2 ^ (32 - at) / 2 ^ (32 - b) ≡ q / 2 ^ (32 - b)
+same_prefix q at b low high clear =
     let k = q / 2 ^ (32 - at) in
     let r = q % 2 ^ (32 - at) in
     let width : 32 - at ≡ (b - at) + (32 - b) = omega arith in
@@ -197,7 +197,7 @@ stop_config q b small kind h =
     let high = w.high in
     record {
       within = high;
-      before = record { packet = config_at q; fits = config_fits q; alike = ap (λ n. front n b) (config_is q small kind) ∙ same_front q 16 b low high w.clear };
+      before = record { packet = config_at q; fits = config_fits q; alike = ap (λ n. prefix n b) (config_is q small kind) ∙ same_prefix q 16 b low high w.clear };
       stops = λ v.
           let alike = v.alike in
           let is_config : field (quadlet_of v.packet) 0 1 ≡ 0 = same_field (quadlet_of v.packet) q b 0 1 (omega arith) (omega arith) alike ∙ kind in
@@ -212,7 +212,7 @@ stop_link_on q b small kind h =
     let high = w.high in
     record {
       within = high;
-      before = record { packet = LinkOn (field q 2 7); fits = link_on_fits q; alike = ap (λ n. front n b) (link_on_is q small kind) ∙ same_front q 8 b low high w.clear };
+      before = record { packet = LinkOn (field q 2 7); fits = link_on_fits q; alike = ap (λ n. prefix n b) (link_on_is q small kind) ∙ same_prefix q 8 b low high w.clear };
       stops = λ v.
           let alike = v.alike in
           let is_link_on : field (quadlet_of v.packet) 0 1 ≡ 1 = same_field (quadlet_of v.packet) q b 0 1 (omega arith) (omega arith) alike ∙ kind in
@@ -369,7 +369,7 @@ reserved_of r bytes q small twice at fault found b = (
     of_bit (Err f) q a b s t e = let h = one_stop q a b s t in cc
 
     no_bit : (r : Result PhyPacket PhyFault) (q b : ℕ) → StopsAt q b → result_err r ≡ None → IfOk r (λ p. Fits p × (quadlet_of p ≡ q)) → r ≡ Err (Reserved b)
-    no_bit (Ok p) q b t e found = absurd (t.stops (record { packet = p; fits = found.0; alike = ap (λ n. front n (b + 1)) found.1 }))
+    no_bit (Ok p) q b t e found = absurd (t.stops (record { packet = p; fits = found.0; alike = ap (λ n. prefix n (b + 1)) found.1 }))
     no_bit (Err f) q b t e found = absurd (let z : ⊥ = cc in z)
 
     go : (r : Result PhyPacket PhyFault) (q b : ℕ) (o : Option ℕ) → q < 2 ^ 32 → reserved_bit q ≡ o → result_err r ≡ option_map Reserved o → IfOk r (λ p. Fits p × (quadlet_of p ≡ q)) → StopsAt q b

@@ -69,14 +69,14 @@ reserved_bit q =
     else None
 
 -- the first n bits of a quadlet
-abbrev pub front : ℕ → ℕ → ℕ
-front q n = q / 2 ^ (32 - n)
+abbrev pub prefix : ℕ → ℕ → ℕ
+prefix q n = q / 2 ^ (32 - n)
 
 -- some packet's quadlet begins with the first n bits of this one
 pub record GoesOn (q n : ℕ) : Type 0 where
   pub packet : PhyPacket
   pub fits : Fits packet
-  pub alike : front (quadlet_of packet) n ≡ front q n
+  pub alike : prefix (quadlet_of packet) n ≡ prefix q n
 
 -- some packet begins with the bits before this one, and none with this one too
 pub record StopsAt (q at : ℕ) : Type 0 where

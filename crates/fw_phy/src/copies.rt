@@ -31,7 +31,7 @@ impl SelfIds {
     pub fn copy_from(&mut self, other: &SelfIds)
         ensures { self.new ≡ other.now }
     {
-        self.packets.clear();
+        self.clear();
         let _ = self.packets.try_extend_from_slice(other.packets.as_slice());
     }
 

@@ -41,6 +41,13 @@ impl SelfIds {
         }
     }
 
+    /// Takes all packets away. The work grows with the packets that were held, and not with the room.
+    pub fn clear(&mut self)
+        ensures { self.new ≡ [] }
+    {
+        self.packets.clear();
+    }
+
     /// Appends a packet.
     pub fn push(&mut self, p: PhyPacket)
         requires { length self.old < 252 }

@@ -7,8 +7,8 @@ use Rattle.fw_csr.specs.declared.offset.TheConstants.{OMPR, OPCR, IMPR, IPCR}
 use Rattle.fw_csr.specs.Requests.{offset_of}
 use Rattle.fw_csr.specs.Replies.{word_after}
 use Rattle.fw_csr.specs.declared.request.Request.{Request}
-use Rattle.fw_csr.specs.declared.register.Register.{Register}
-use Rattle.fw_csr.specs.declared.register.Register.TheVariants.{ReadOnly, ReadSwap}
+use Rattle.fw_csr.specs.declared.register.RegisterAccess.{RegisterAccess}
+use Rattle.fw_csr.specs.declared.register.RegisterAccess.TheVariants.{ReadOnly, ReadSwap}
 use Rattle.fw_plug.specs.declared.plug.Plug.{Plug}
 use Rattle.fw_plug.specs.Words.{is_connected}
 
@@ -20,7 +20,7 @@ pub record PlugWords : Type 0 where
   pub lingering_outputs : List Bool
   pub lingering_inputs : List Bool
 
--- an output plug talks, and an input plug hears, if it is connected, and where it lingers: it goes on since a bus reset
+-- an output plug talks, and an input plug hears, if it is connected, and if it lingers: it goes on since a bus reset
 abbrev pub is_active : ℕ → Bool → Bool
 is_active word lingers = is_connected word || lingers
 
@@ -80,7 +80,7 @@ abbrev pub plug_at : ℕ → ℕ → ℕ → Option ℕ
 plug_at first plugs offset = let n = (offset - first) / 4 in if (offset == first + 4 * n) && nat_lt n plugs then Some n else None
 
 -- a register that can be read and swapped
-abbrev pub plug_register : (ℕ → ℕ) → Option ℕ → Option Register
+abbrev pub plug_register : (ℕ → ℕ) → Option ℕ → Option RegisterAccess
 plug_register word None = None
 plug_register word (Some n) = Some (ReadSwap (word n))
 
@@ -93,7 +93,7 @@ abbrev pub input_at : ℕ → ℕ → Option ℕ
 input_at plugs offset = plug_at IPCR plugs offset
 
 -- the plug control register at an offset: oMPR, iMPR, an oPCR or an iPCR
-abbrev pub register_at : PlugTable → ℕ → Option Register
+abbrev pub register_at : PlugTable → ℕ → Option RegisterAccess
 register_at p offset =
     if offset == OMPR then Some (ReadOnly (output_master p.rate p.outputs))
     else if offset == IMPR then Some (ReadOnly (input_master p.rate p.inputs))

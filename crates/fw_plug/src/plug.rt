@@ -1,6 +1,6 @@
 ghost use Rattle.std.specs.Prelude.{◌≡◌, ◌==◌, ◌&&◌, false};
 ghost use Rattle.fw_csr.specs.Replies.{reply_at, word_after};
-ghost use Rattle.fw_csr.specs.declared.register.Register.TheVariants.{ReadSwap};
+ghost use Rattle.fw_csr.specs.declared.register.RegisterAccess.TheVariants.{ReadSwap};
 ghost use Rattle.fw_plug.specs.Plugs.{is_active, plug_after_reset, plug_after_second};
 
 use crate::connection::disconnected;

@@ -8,7 +8,7 @@ use crate::row::Row;
 use crate::settings::{FIRST_CHANNEL, unconnected_input, unconnected_output};
 use crate::{InWord, OutWord};
 use fw_csr::offset::{IMPR, IPCR, OMPR, OPCR};
-use fw_csr::{Register, RegisterRequest, Reply};
+use fw_csr::{RegisterAccess, RegisterRequest, Reply};
 use fw_words::with_field;
 use std::marker::Model;
 
@@ -68,7 +68,7 @@ impl Plugs {
     }
 
     /// The register at an offset, if there is one.
-    pub fn register(&self, offset: u64) -> Option<Register>
+    pub fn register(&self, offset: u64) -> Option<RegisterAccess>
         ensures { result ≡ register_at (table_of self.now) offset }
     {
         match offset {
@@ -79,16 +79,16 @@ impl Plugs {
         }
     }
 
-    fn output_master(&self) -> Register
-        ensures { result ≡ Register.ReadOnly (output_master self.now.rate (length self.now.outputs)) }
+    fn output_master(&self) -> RegisterAccess
+        ensures { result ≡ RegisterAccess.ReadOnly (output_master self.now.rate (length self.now.outputs)) }
     {
-        Register::ReadOnly(master(self.rate, 0x3F, self.outputs.len()))
+        RegisterAccess::ReadOnly(master(self.rate, 0x3F, self.outputs.len()))
     }
 
-    fn input_master(&self) -> Register
-        ensures { result ≡ Register.ReadOnly (input_master self.now.rate (length self.now.inputs)) }
+    fn input_master(&self) -> RegisterAccess
+        ensures { result ≡ RegisterAccess.ReadOnly (input_master self.now.rate (length self.now.inputs)) }
     {
-        Register::ReadOnly(master(self.rate, 0, self.inputs.len()))
+        RegisterAccess::ReadOnly(master(self.rate, 0, self.inputs.len()))
     }
 
     /// A bus reset: no plug is connected any more, and all other fields stay. An output plug that talked and an input plug

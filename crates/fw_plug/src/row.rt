@@ -7,7 +7,7 @@ ghost use Rattle.fw_plug.specs.Plugs.{active, after_at, disconnected, is_active,
 
 use crate::plug::Plug;
 use arrayvec::ArrayVec;
-use fw_csr::{Register, RegisterRequest, Reply};
+use fw_csr::{RegisterAccess, RegisterRequest, Reply};
 use std::marker::Model;
 
 /// At most 31 plugs.
@@ -44,11 +44,11 @@ impl Row {
     }
 
     /// The register at `offset` if the registers begin at `first`, if there is one.
-    pub fn register(&self, first: u64, offset: u64) -> Option<Register>
+    pub fn register(&self, first: u64, offset: u64) -> Option<RegisterAccess>
         ensures { result ≡ plug_register (slice_index self.now.words) (plug_at first (length self.now.words) offset) }
     {
         let n = plug_at(offset, first, self.plugs.len())?;
-        Some(Register::ReadSwap(self.plugs[n].word.get()))
+        Some(RegisterAccess::ReadSwap(self.plugs[n].word.get()))
     }
 
     /// Carries a request out if the registers begin at `first`.

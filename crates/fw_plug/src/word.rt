@@ -55,7 +55,7 @@ impl OutWord {
         Quadlet(self.0).field(18, 21) as u8
     }
 
-    /// The payload in quadlets a packet, 0 to 1023, where 0 stands for 1024.
+    /// The payload in quadlets a packet, 0 to 1023; 0 stands for 1024.
     pub fn payload(self) -> u16
         ensures { result ≡ field self.0 22 31 }
     {

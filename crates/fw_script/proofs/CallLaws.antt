@@ -5,7 +5,7 @@ use Rattle.std.proofs.lemmas.List.{append-nil, drop-append-le, drop-drop}
 use Rattle.fw_outside.specs.Outside.{Takes, IsAtEnd}
 use Rattle.fw_outside.proofs.Parts.{Takes-Takes, Takes-nothing}
 use Rattle.fw_script_command.specs.Pieces.{IsFree}
-use Rattle.fw_script.specs.Reading.{Reading, Answer, GivesFirst, GivesNext, Advances, IsLine, IsHeld, behind, with_taken, unread}
+use Rattle.fw_script.specs.Reading.{Reading, Answer, GivesFirst, GivesNext, Advances, IsLine, IsHeld, following, with_taken, unread}
 use Rattle.fw_script.specs.Reading.GivesFirst.{skipped, command, end_line, bad_line, long_line, too_long, end_of_input, no_end, read_fault}
 use Rattle.fw_script.specs.Script.{Refusal, Says, IsScript, Tells, begun}
 use Rattle.fw_script.specs.Leading.{Leads, HasRead, LinesSay, IsReadOf}
@@ -15,14 +15,14 @@ use Rattle.fw_script_command.specs.declared.command.Command.{Command}
 use Rattle.fw_script_command.specs.declared.command.Command.TheVariants.{End}
 use Rattle.fw_script.specs.declared.ScriptFault.{ScriptFault}
 use Rattle.fw_script.specs.declared.ScriptFault.TheVariants.{ReadFault}
-use Rattle.fw_script.specs.declared.stage.Stage.{Stage}
-use Rattle.fw_script.specs.declared.stage.Stage.TheVariants.{Commands, AfterEnd, Done, Failed}
+use Rattle.fw_script.specs.declared.stage.ReaderStage.{ReaderStage}
+use Rattle.fw_script.specs.declared.stage.ReaderStage.TheVariants.{Commands, AfterEnd, Done, Failed}
 use Rattle.fw_script.proofs.LineLaws.{line_there}
 use Rattle.fw_script.proofs.StepLaws.{with_with, at_end_still}
 use Rattle.fw_script.proofs.GivesLaws.{gives_with, gives_whole}
-use Rattle.fw_script.proofs.ScriptLaws.{some_something, err_something, says_from, says_behind}
+use Rattle.fw_script.proofs.ScriptLaws.{some_something, err_something, says_from, says_following}
 
-pub next_open : (s : Stage) (p q : Reading) (r : Answer) → (r ≢ Ok None) → GivesNext s p r q → GivesFirst p r q
+pub next_open : (s : ReaderStage) (p q : Reading) (r : Answer) → (r ≢ Ok None) → GivesNext s p r q → GivesFirst p r q
 next_open Commands p q r n g = g
 next_open AfterEnd p q r n g = g
 next_open Done p q r n g = absurd (n g.0)
@@ -70,7 +70,7 @@ module _ (old new : Reading) (mid left' : Option (List ℕ)) (r : Answer) (some 
       by_old false e = a.takes.met e (sym known_whole ∙ w)
 
 -- how far the taken bytes are read
-read_from : (taken : List ℕ) (p : Reading) (t : List ℕ) (n : ℕ) → IsLine p t n → IsReadOf taken p → IsReadOf taken (behind p t n)
+read_from : (taken : List ℕ) (p : Reading) (t : List ℕ) (n : ℕ) → IsLine p t n → IsReadOf taken p → IsReadOf taken (following p t n)
 read_from taken p t n a h = record {
   within = omega (arith, h.within, line_there p t n a, length-drop p.before taken, ap (λ (l : List ℕ). length l) h.held);
   held = sym (drop-drop n p.before taken) ∙ ap (λ (l : List ℕ). drop n l) h.held;
@@ -93,7 +93,7 @@ taken_more taken more whole p h = record {
   held = drop-append-le p.before taken more h.within ∙ ap (λ (l : List ℕ). l ++ more) h.held;
 }
 
-next_read : (s : Stage) (p q : Reading) (r : Answer) (taken : List ℕ) → IsReadOf taken p → GivesNext s p r q → IsReadOf taken q
+next_read : (s : ReaderStage) (p q : Reading) (r : Answer) (taken : List ℕ) → IsReadOf taken p → GivesNext s p r q → IsReadOf taken q
 next_read Commands p q r taken h g = gives_read taken h g
 next_read AfterEnd p q r taken h g = gives_read taken h g
 next_read Done p q r taken h g = subst (λ (z : Reading). IsReadOf taken z) (sym g.1) h
@@ -150,7 +150,7 @@ read_failed left mid left' given old new so a held =
       so.taken ++ a.takes.taken,
       Takes-Takes left mid left' so.taken a.takes.taken so.takes a.takes.takes,
       record {
-        behind = with_taken old (a.takes.taken ++ []) false;
+        following = with_taken old (a.takes.taken ++ []) false;
         last = with_taken new [] false;
         leads = subst (λ (bytes : List ℕ). Leads (begun (so.taken ++ bytes) false) given (with_taken old (a.takes.taken ++ []) false)) (append-nil a.takes.taken) l;
         passed = g;
@@ -169,7 +169,7 @@ read_first so more cs r none h = says_from (so.leads more true (λ w. (none w, r
 pub read_rest : {left left' : Option (List ℕ)} {given : List Command} {now : Reading} → (so : HasRead left left' given now) → (more : List ℕ) (ds : List Command) (r : Option Refusal)
     → (now.whole ≡ true → more ≡ [])
     → IsScript (so.taken ++ more) ds r → (cs : List Command) × (ds ≡ given ++ cs) × Says (with_taken now more true) cs r
-read_rest so more ds r none h = says_behind (so.leads more true (λ w. (none w, refl))) ds r h
+read_rest so more ds r none h = says_following (so.leads more true (λ w. (none w, refl))) ds r h
 
 -- if the end was given, the input was read to its end
 gives_end_whole : {p : Reading} {r : Answer} {q : Reading} → GivesFirst p r q → r ≡ Ok (Some End) → q.whole ≡ true

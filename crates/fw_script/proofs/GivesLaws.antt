@@ -3,30 +3,30 @@ use Rattle.std.proofs.Common.{◌≡◌, ◌≢◌, ◌⊎◌, inl, inr, ℕ, []
 use Rattle.std.proofs.lemmas.List.{take-append-le}
 use Rattle.fw_script.specs.Line.{is_skipped}
 use Rattle.fw_script_command.specs.Form.{HasForm}
-use Rattle.fw_script.specs.Reading.{Reading, Answer, GivesFirst, IsLine, IsAtEndOfInput, IsLongLine, PassesLimit, behind, at_stage, refused, with_taken}
+use Rattle.fw_script.specs.Reading.{Reading, Answer, GivesFirst, IsLine, IsAtEndOfInput, IsLongLine, PassesLimit, following, at_stage, refused, with_taken}
 use Rattle.fw_script.specs.Reading.GivesFirst.{skipped, command, end_line, bad_line, long_line, too_long, end_of_input, no_end, read_fault}
 use Rattle.fw_script_command.specs.declared.command.Command.{Command}
 use Rattle.fw_script_command.specs.declared.command.Command.TheVariants.{End}
 use Rattle.fw_script.specs.declared.ScriptFault.TheVariants.{BadLine, LineTooLong, NoEnd, ReadFault, TooLong}
-use Rattle.fw_script.specs.declared.stage.Stage.{Stage}
-use Rattle.fw_script.specs.declared.stage.Stage.TheVariants.{Commands, AfterEnd, Done, Failed}
+use Rattle.fw_script.specs.declared.stage.ReaderStage.{ReaderStage}
+use Rattle.fw_script.specs.declared.stage.ReaderStage.TheVariants.{Commands, AfterEnd, Done, Failed}
 use Rattle.fw_script.specs.Reader.{IsCut, PassesOver}
 use Rattle.fw_script.specs.Reader.PassesOver.{nowhere, over_skipped, over_end}
 use Rattle.fw_script_command.proofs.FormLaws.{one_form}
 use Rattle.fw_script.proofs.LineLaws.{IsMore, line_once, line_not_long, line_not_limit, line_not_end, long_not_limit, long_not_end, limit_not_end, line_more}
-use Rattle.fw_script.proofs.LineLaws.{long_more, limit_more, end_more, behind_more, cut_not_line, cut_not_long, cut_not_limit, cut_not_end}
+use Rattle.fw_script.proofs.LineLaws.{long_more, limit_more, end_more, following_more, cut_not_line, cut_not_long, cut_not_limit, cut_not_end}
 use Rattle.fw_script.proofs.ReadingLaws.{gives_at}
 
 -- why a line is refused
-abbrev Refuses : Stage → List ℕ → Type 0
+abbrev Refuses : ReaderStage → List ℕ → Type 0
 Refuses stage t = (stage ≡ AfterEnd) ⊎ ((c : Command) → HasForm c t → ⊥)
 
 -- what a line leads to
 data Leads (p : Reading) (t : List ℕ) (n : ℕ) : Answer → Reading → Type 0 where
-  on : {r : Answer} {q : Reading} → is_skipped t ≡ true → GivesFirst (behind p t n) r q → Leads p t n r q
-  said : (c : Command) → is_skipped t ≡ false → p.stage ≡ Commands → HasForm c t → c ≢ End → Leads p t n (Ok (Some c)) (behind p t n)
-  ended : {r : Answer} {q : Reading} → is_skipped t ≡ false → p.stage ≡ Commands → HasForm End t → GivesFirst (at_stage (behind p t n) AfterEnd) r q → Leads p t n r q
-  bad : is_skipped t ≡ false → Refuses p.stage t → Leads p t n (Err BadLine) (at_stage (behind p t n) Failed)
+  on : {r : Answer} {q : Reading} → is_skipped t ≡ true → GivesFirst (following p t n) r q → Leads p t n r q
+  said : (c : Command) → is_skipped t ≡ false → p.stage ≡ Commands → HasForm c t → c ≢ End → Leads p t n (Ok (Some c)) (following p t n)
+  ended : {r : Answer} {q : Reading} → is_skipped t ≡ false → p.stage ≡ Commands → HasForm End t → GivesFirst (at_stage (following p t n) AfterEnd) r q → Leads p t n r q
+  bad : is_skipped t ≡ false → Refuses p.stage t → Leads p t n (Err BadLine) (at_stage (following p t n) Failed)
 
 leads_along : (p : Reading) (t u : List ℕ) (m n : ℕ) (r : Answer) (q : Reading) → IsLine p t m → IsLine p u n → Leads p u n r q → Leads p t m r q
 leads_along p t u m n r q a b h =
@@ -35,9 +35,9 @@ leads_along p t u m n r q a b h =
 
 at_line : (p : Reading) (t : List ℕ) (n : ℕ) → IsLine p t n → {r : Answer} {q : Reading} → r ≢ Err ReadFault → GivesFirst p r q → Leads p t n r q
 at_line p t n a {r = r} {q = q} told (skipped u m b s g) = leads_along p t u n m r q a b (on s g)
-at_line p t n a told (command c u m b s i f k) = leads_along p t u n m (Ok (Some c)) (behind p u m) a b (said c s i f k)
+at_line p t n a told (command c u m b s i f k) = leads_along p t u n m (Ok (Some c)) (following p u m) a b (said c s i f k)
 at_line p t n a {r = r} {q = q} told (end_line u m b s i f g) = leads_along p t u n m r q a b (ended s i f g)
-at_line p t n a told (bad_line u m b s w) = leads_along p t u n m (Err BadLine) (at_stage (behind p u m) Failed) a b (bad s w)
+at_line p t n a told (bad_line u m b s w) = leads_along p t u n m (Err BadLine) (at_stage (following p u m) Failed) a b (bad s w)
 at_line p t n a told (long_line b) = absurd (line_not_long p t n a b)
 at_line p t n a told (too_long b) = absurd (line_not_limit p t n a b)
 at_line p t n a told (end_of_input b s) = absurd (line_not_end p t n a b)
@@ -86,7 +86,7 @@ at_end p a told read_fault = absurd (told refl)
 abbrev pub Same : Answer → Reading → Answer → Reading → Type 0
 Same r q s z = (r ≡ s) × (q ≡ z)
 
-after_skipped : {p : Reading} {t : List ℕ} {n : ℕ} {s : Answer} {z : Reading} (r : Answer) (q : Reading) → is_skipped t ≡ true → (GivesFirst (behind p t n) s z → Same r q s z) → Leads p t n s z
+after_skipped : {p : Reading} {t : List ℕ} {n : ℕ} {s : Answer} {z : Reading} (r : Answer) (q : Reading) → is_skipped t ≡ true → (GivesFirst (following p t n) s z → Same r q s z) → Leads p t n s z
     → Same r q s z
 after_skipped r q k f (on h g) = f g
 after_skipped r q k f (said c h i j l) = absurd cc
@@ -98,20 +98,20 @@ not_refused p t c i f (inl e) = absurd cc
 not_refused p t c i f (inr h) = absurd (h c f)
 
 after_command : {p : Reading} {t : List ℕ} {n : ℕ} {s : Answer} {z : Reading} (c : Command) → is_skipped t ≡ false → p.stage ≡ Commands → HasForm c t → c ≢ End → Leads p t n s z
-    → Same (Ok (Some c)) (behind p t n) s z
+    → Same (Ok (Some c)) (following p t n) s z
 after_command c k i f o (on h g) = absurd cc
 after_command {t = t} c k i f o (said d h j e l) = (ap (λ (a : Command). Ok (Some a)) (one_form c d t f e), refl)
 after_command {t = t} c k i f o (ended h j e g) = absurd (o (one_form c End t f e))
 after_command {p = p} {t = t} c k i f o (bad h w) = not_refused p t c i f w
 
 after_end_line : {p : Reading} {t : List ℕ} {n : ℕ} {s : Answer} {z : Reading} (r : Answer) (q : Reading) → is_skipped t ≡ false → p.stage ≡ Commands → HasForm End t
-    → (GivesFirst (at_stage (behind p t n) AfterEnd) s z → Same r q s z) → Leads p t n s z → Same r q s z
+    → (GivesFirst (at_stage (following p t n) AfterEnd) s z → Same r q s z) → Leads p t n s z → Same r q s z
 after_end_line r q k i f go (on h g) = absurd cc
 after_end_line {t = t} r q k i f go (said d h j e l) = absurd (l (one_form d End t e f))
 after_end_line r q k i f go (ended h j e g) = go g
 after_end_line {p = p} {t = t} r q k i f go (bad h w) = not_refused p t End i f w
 
-after_bad_line : {p : Reading} {t : List ℕ} {n : ℕ} {s : Answer} {z : Reading} → is_skipped t ≡ false → Refuses p.stage t → Leads p t n s z → Same (Err BadLine) (at_stage (behind p t n) Failed) s z
+after_bad_line : {p : Reading} {t : List ℕ} {n : ℕ} {s : Answer} {z : Reading} → is_skipped t ≡ false → Refuses p.stage t → Leads p t n s z → Same (Err BadLine) (at_stage (following p t n) Failed) s z
 after_bad_line k w (on h g) = absurd cc
 after_bad_line {p = p} {t = t} k w (said d h j e l) = not_refused p t d j e w
 after_bad_line {p = p} {t = t} k w (ended h j e g) = not_refused p t End j e w
@@ -139,16 +139,16 @@ gives_once read_fault h m o = absurd (m refl)
 -- more bytes after leave what lines give as it is
 pub gives_with : {p : Reading} {r : Answer} {q : Reading} → (more : List ℕ) (whole : Bool) → IsMore p more whole → GivesFirst p r q → GivesFirst (with_taken p more whole) r (with_taken q more whole)
 gives_with {p = p} {r = r} {q = q} more whole none (skipped t n a k g) =
-    skipped t n (line_more p t more whole n none a) k (subst (λ (z : Reading). GivesFirst z r (with_taken q more whole)) (sym (behind_more p t more whole n a)) (gives_with more whole none g))
+    skipped t n (line_more p t more whole n none a) k (subst (λ (z : Reading). GivesFirst z r (with_taken q more whole)) (sym (following_more p t more whole n a)) (gives_with more whole none g))
 gives_with {p = p} more whole none (command c t n a k i f o) =
-    gives_at (with_taken p more whole) (behind (with_taken p more whole) t n) (with_taken (behind p t n) more whole) (Ok (Some c)) (sym (behind_more p t more whole n a))
+    gives_at (with_taken p more whole) (following (with_taken p more whole) t n) (with_taken (following p t n) more whole) (Ok (Some c)) (sym (following_more p t more whole n a))
     (command c t n (line_more p t more whole n none a) k i f o)
 gives_with {p = p} {r = r} {q = q} more whole none (end_line t n a k i f g) =
-    end_line t n (line_more p t more whole n none a) k i f (subst (λ (z : Reading). GivesFirst (at_stage z AfterEnd) r (with_taken q more whole)) (sym (behind_more p t more whole n a))
+    end_line t n (line_more p t more whole n none a) k i f (subst (λ (z : Reading). GivesFirst (at_stage z AfterEnd) r (with_taken q more whole)) (sym (following_more p t more whole n a))
     (gives_with more whole none g))
 gives_with {p = p} more whole none (bad_line t n a k w) =
-    gives_at (with_taken p more whole) (at_stage (behind (with_taken p more whole) t n) Failed) (at_stage (with_taken (behind p t n) more whole) Failed) (Err BadLine)
-    (ap (λ (z : Reading). at_stage z Failed) (sym (behind_more p t more whole n a))) (bad_line t n (line_more p t more whole n none a) k w)
+    gives_at (with_taken p more whole) (at_stage (following (with_taken p more whole) t n) Failed) (at_stage (with_taken (following p t n) more whole) Failed) (Err BadLine)
+    (ap (λ (z : Reading). at_stage z Failed) (sym (following_more p t more whole n a))) (bad_line t n (line_more p t more whole n none a) k w)
 gives_with {p = p} more whole none (long_line a) =
     gives_at (with_taken p more whole) (refused (with_taken p more whole) (take 257 (p.rest ++ more))) (with_taken (refused p (take 257 p.rest)) more whole) (Err LineTooLong)
     (ap (λ (t : List ℕ). refused (with_taken p more whole) t) (sym (take-append-le 257 p.rest more a.long))) (long_line (long_more p more whole a))
@@ -182,14 +182,14 @@ cut_gives {p = p} c (no_end a i) told = cut_not_end p c a
 cut_gives c read_fault told = told refl
 
 -- what is given from here on is given after the lines that are passed over
-skipped_gives : {p : Reading} {t : List ℕ} {n : ℕ} {r : Answer} {z : Reading} → is_skipped t ≡ true → Leads p t n r z → GivesFirst (behind p t n) r z
+skipped_gives : {p : Reading} {t : List ℕ} {n : ℕ} {r : Answer} {z : Reading} → is_skipped t ≡ true → Leads p t n r z → GivesFirst (following p t n) r z
 skipped_gives k (on h g) = g
 skipped_gives k (said c h i j l) = absurd cc
 skipped_gives k (ended h i j g) = absurd cc
 skipped_gives k (bad h w) = absurd cc
 
 end_gives : {p : Reading} {t : List ℕ} {n : ℕ} {r : Answer} {z : Reading} → is_skipped t ≡ false → p.stage ≡ Commands → HasForm End t → Leads p t n r z
-    → GivesFirst (at_stage (behind p t n) AfterEnd) r z
+    → GivesFirst (at_stage (following p t n) AfterEnd) r z
 end_gives k i f (on h g) = absurd cc
 end_gives {t = t} k i f (said d h j e l) = absurd (l (one_form d End t e f))
 end_gives k i f (ended h j e g) = g
@@ -218,7 +218,7 @@ goes_whole (over_end t n a k i f h) = goes_whole h
 pub goes_with : {p q : Reading} (more : List ℕ) (whole : Bool) → IsMore p more whole → PassesOver p q → PassesOver (with_taken p more whole) (with_taken q more whole)
 goes_with more whole none nowhere = nowhere
 goes_with {p = p} {q = q} more whole none (over_skipped t n a k h) =
-    over_skipped t n (line_more p t more whole n none a) k (subst (λ (z : Reading). PassesOver z (with_taken q more whole)) (sym (behind_more p t more whole n a)) (goes_with more whole none h))
+    over_skipped t n (line_more p t more whole n none a) k (subst (λ (z : Reading). PassesOver z (with_taken q more whole)) (sym (following_more p t more whole n a)) (goes_with more whole none h))
 goes_with {p = p} {q = q} more whole none (over_end t n a k i f h) =
-    over_end t n (line_more p t more whole n none a) k i f (subst (λ (z : Reading). PassesOver (at_stage z AfterEnd) (with_taken q more whole)) (sym (behind_more p t more whole n a))
+    over_end t n (line_more p t more whole n none a) k i f (subst (λ (z : Reading). PassesOver (at_stage z AfterEnd) (with_taken q more whole)) (sym (following_more p t more whole n a))
     (goes_with more whole none h))

@@ -6,10 +6,10 @@ use Rattle.std.proofs.Math.Seq.{get_or-append_seam, take-append_seam, drop-appen
 use Rattle.std.proofs.lemmas.Bool.{cases_lt}
 use Rattle.fw_script_command.specs.Pieces.{IsFree}
 use Rattle.fw_script.specs.Reader.{IsCut, IsNear, StandsNext}
-use Rattle.fw_script.specs.Line.{IsFront, IsEnded}
-use Rattle.fw_script.specs.declared.line.Front.{Front}
-use Rattle.fw_script.specs.declared.line.Front.TheVariants.{Line, LongLine, Limit, Cut, Nothing}
-use Rattle.fw_script.specs.Reading.{Reading, EndsLine, IsLine, IsLongLine, PassesLimit, IsAtEndOfInput, behind, with_taken}
+use Rattle.fw_script.specs.Line.{IsPrefix, IsEnded}
+use Rattle.fw_script.specs.declared.line.Prefix.{Prefix}
+use Rattle.fw_script.specs.declared.line.Prefix.TheVariants.{Line, LongLine, Limit, Cut, Nothing}
+use Rattle.fw_script.specs.Reading.{Reading, EndsLine, IsLine, IsLongLine, PassesLimit, IsAtEndOfInput, following, with_taken}
 
 -- one cut at the first separator
 pub cut_once : (s : ℕ) (u v x y : List ℕ) → IsFree s u → IsFree s x → u ++ s ∷ v ≡ x ++ s ∷ y → u ≡ x
@@ -130,13 +130,13 @@ limit_more p more whole a = record {
 pub end_more : (p : Reading) (more : List ℕ) (whole : Bool) → IsMore p more whole → IsAtEndOfInput p → IsAtEndOfInput (with_taken p more whole)
 end_more p more whole none a = (ap (λ (l : List ℕ). p.rest ++ l) (none a.1).0 ∙ append-nil p.rest ∙ a.0, (none a.1).1)
 
-pub behind_more : (p : Reading) (t more : List ℕ) (whole : Bool) (n : ℕ) → IsLine p t n → behind (with_taken p more whole) t n ≡ with_taken (behind p t n) more whole
-behind_more p t more whole n a =
+pub following_more : (p : Reading) (t more : List ℕ) (whole : Bool) (n : ℕ) → IsLine p t n → following (with_taken p more whole) t n ≡ with_taken (following p t n) more whole
+following_more p t more whole n a =
     ap (λ (l : List ℕ). record { rest = l; whole = whole; before = p.before + n; line = p.line + 1; stage = p.stage; text = t; end = p.end }) (drop-append-le n p.rest more (line_there p t n a))
 
 -- the bytes of the script that are known
-pub behind_total : (p : Reading) (t : List ℕ) (n : ℕ) → IsLine p t n → (p.before + n) + length (drop n p.rest) ≡ p.before + length p.rest
-behind_total p t n a = omega (arith, length-drop n p.rest, line_there p t n a)
+pub after_total : (p : Reading) (t : List ℕ) (n : ℕ) → IsLine p t n → (p.before + n) + length (drop n p.rest) ≡ p.before + length p.rest
+after_total p t n a = omega (arith, length-drop n p.rest, line_there p t n a)
 
 -- if a prefix of a line is held, and not its end, nothing is decided
 pub cut_not_line : (p : Reading) (t : List ℕ) (n : ℕ) → IsCut p → IsLine p t n → ⊥
@@ -182,24 +182,24 @@ near_taken p piece c few =
     record {
       few = omega (arith, long, c.short, few);
       free = subst (λ (l : List ℕ). IsFree 10 l) (sym (take-append-le (length (p.rest ++ piece) - 4096) p.rest piece (omega (arith, long, few))))
-          (free_front (length (p.rest ++ piece) - 4096) p.rest c.free);
+          (free_prefix (length (p.rest ++ piece) - 4096) p.rest c.free);
     }
   where
-    free_front : (n : ℕ) (xs : List ℕ) → IsFree 10 xs → IsFree 10 (take n xs)
-    free_front zero xs free k h = absurd (omega arith)
-    free_front (suc n) [] free k h = absurd (omega arith)
-    free_front (suc n) (x ∷ xs) free zero h = free zero (omega arith)
-    free_front (suc n) (x ∷ xs) free (suc k) h = free_front n xs (λ j i. free (suc j) (omega arith)) k (omega arith)
+    free_prefix : (n : ℕ) (xs : List ℕ) → IsFree 10 xs → IsFree 10 (take n xs)
+    free_prefix zero xs free k h = absurd (omega arith)
+    free_prefix (suc n) [] free k h = absurd (omega arith)
+    free_prefix (suc n) (x ∷ xs) free zero h = free zero (omega arith)
+    free_prefix (suc n) (x ∷ xs) free (suc k) h = free_prefix n xs (λ j i. free (suc j) (omega arith)) k (omega arith)
 
 -- a text stands before a prefix and a piece
-pub kept_text : (text front piece : List ℕ) → take (length text) (text ++ front ++ piece) ≡ text
-kept_text text front piece = ap (λ (l : List ℕ). take (length text) l) (append_assoc text front piece) ∙ take-append_seam text (front ++ piece)
+pub kept_text : (text prefix piece : List ℕ) → take (length text) (text ++ prefix ++ piece) ≡ text
+kept_text text prefix piece = ap (λ (l : List ℕ). take (length text) l) (append_assoc text prefix piece) ∙ take-append_seam text (prefix ++ piece)
 
-pub kept_rest : (text front piece : List ℕ) → drop (length text) (text ++ front ++ piece) ≡ front ++ piece
-kept_rest text front piece = ap (λ (l : List ℕ). drop (length text) l) (append_assoc text front piece) ∙ drop-append_seam text (front ++ piece)
+pub kept_rest : (text prefix piece : List ℕ) → drop (length text) (text ++ prefix ++ piece) ≡ prefix ++ piece
+kept_rest text prefix piece = ap (λ (l : List ℕ). drop (length text) l) (append_assoc text prefix piece) ∙ drop-append_seam text (prefix ++ piece)
 
 -- what stands before the bytes that are held stands next
-pub stands_next : (p : Reading) (f : Front) → p.before ≤ 1048576 → IsFront p.rest (1048576 - p.before) p.whole f → StandsNext p f
+pub stands_next : (p : Reading) (f : Prefix) → p.before ≤ 1048576 → IsPrefix p.rest (1048576 - p.before) p.whole f → StandsNext p f
 stands_next p (Line n size) low h =
     record {
       line = record { ends = by_end h.5; free = h.3; short = omega (arith, h.0, h.4); within = omega (arith, h.1, low) };

@@ -7,13 +7,13 @@ use Rattle.fw_script.specs.Leading.{Leads, HasRead, IsReadOf}
 use Rattle.fw_script.specs.Passing.{Passes}
 use Rattle.fw_script.specs.Reader.{HoldsLine, PassesOver}
 use Rattle.fw_script.specs.Reader.PassesOver.{nowhere, over_skipped, over_end}
-use Rattle.fw_script.specs.Reading.{Reading, Answer, GivesFirst, TakesMore, Advances, behind, at_stage, with_taken}
+use Rattle.fw_script.specs.Reading.{Reading, Answer, GivesFirst, TakesMore, Advances, following, at_stage, with_taken}
 use Rattle.fw_script.specs.Reading.GivesFirst.{command, bad_line}
 use Rattle.fw_script.specs.Script.{begun}
 use Rattle.fw_script_command.specs.declared.command.Command.{Command}
 use Rattle.fw_script.specs.declared.ScriptFault.TheVariants.{BadLine, ReadFault}
 use Rattle.fw_script.specs.declared.reader.passing.Said.TheVariants.{Nothing, Command as ACommand, Refused}
-use Rattle.fw_script.specs.declared.stage.Stage.TheVariants.{Failed}
+use Rattle.fw_script.specs.declared.stage.ReaderStage.TheVariants.{Failed}
 use Rattle.fw_script.proofs.CallLaws.{gave_by, known_whole, taken_more}
 use Rattle.fw_script.proofs.GivesLaws.{gives_once, gives_with}
 use Rattle.fw_script.proofs.StepLaws.{at_end_still, with_with}
@@ -47,10 +47,10 @@ pub pass_over : (p q : Reading) (n size : ℕ) (c : Command) → HoldsLine p n s
 pass_over p q n size c h (inl s) = subst (λ (z : Reading). PassesOver p z) (sym s.now) (over_skipped (take n p.rest) size h.line s.skipped nowhere)
 pass_over p q n size c h (inr e) = subst (λ (z : Reading). PassesOver p z) (sym e.now) (over_end (take n p.rest) size h.line e.said e.stage e.form nowhere)
 
-pub next_gives : (p q : Reading) (n size : ℕ) (c : Command) → HoldsLine p n size → Passes p n size ACommand c q → GivesFirst p (Ok (Some c)) (behind p (take n p.rest) size)
+pub next_gives : (p q : Reading) (n size : ℕ) (c : Command) → HoldsLine p n size → Passes p n size ACommand c q → GivesFirst p (Ok (Some c)) (following p (take n p.rest) size)
 next_gives p q n size c h s = command c (take n p.rest) size h.line s.said s.stage s.form s.other
 
-pub refused_gives : (p q : Reading) (n size : ℕ) (c : Command) → HoldsLine p n size → Passes p n size Refused c q → GivesFirst p (Err BadLine) (at_stage (behind p (take n p.rest) size) Failed)
+pub refused_gives : (p q : Reading) (n size : ℕ) (c : Command) → HoldsLine p n size → Passes p n size Refused c q → GivesFirst p (Err BadLine) (at_stage (following p (take n p.rest) size) Failed)
 refused_gives p q n size c h s = bad_line (take n p.rest) size h.line s.said s.why
 
 -- a call gave what was held

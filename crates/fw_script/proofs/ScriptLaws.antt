@@ -1,6 +1,6 @@
 -- Whole scripts.
 use Rattle.std.proofs.Common.{◌≡◌, ◌≢◌, ℕ, [], ◌∷◌, ◌++◌, ◌+◌, ◌<◌, ◌≤◌, List, length, Option, Some, None, Ok, Err, arith, refl, ap, sym, ◌∙◌, subst, append_assoc, zero-add}
-use Rattle.fw_script.specs.Reading.{Reading, Answer, GivesFirst, behind, at_stage}
+use Rattle.fw_script.specs.Reading.{Reading, Answer, GivesFirst, following, at_stage}
 use Rattle.fw_script.specs.Reading.GivesFirst.{skipped, command, end_line, bad_line, long_line, too_long, end_of_input, no_end, read_fault}
 use Rattle.fw_script.specs.Script.{Refusal, Says, IsScript, FitsLimit}
 use Rattle.fw_script.specs.Leading.{Leads, BeginsWith}
@@ -10,8 +10,8 @@ use Rattle.fw_script_command.specs.declared.command.Command.{Command}
 use Rattle.fw_script_command.specs.declared.command.Command.TheVariants.{End}
 use Rattle.fw_script.specs.declared.ScriptFault.{ScriptFault}
 use Rattle.fw_script.specs.declared.ScriptFault.TheVariants.{NoEnd, ReadFault, TooLong}
-use Rattle.fw_script.specs.declared.stage.Stage.TheVariants.{AfterEnd}
-use Rattle.fw_script.proofs.LineLaws.{behind_total}
+use Rattle.fw_script.specs.declared.stage.ReaderStage.TheVariants.{AfterEnd}
+use Rattle.fw_script.proofs.LineLaws.{after_total}
 use Rattle.fw_script.proofs.GivesLaws.{gives_once, Same}
 
 -- the answer is no fault of the source
@@ -73,15 +73,15 @@ says_from nothing ds r s = s
 says_from {p = p} (and_then {commands = commands} l c o next g) ds r s =
     subst (λ (cs : List Command). Says p cs r) (sym (append_assoc commands (c ∷ []) ds)) (says_from l (c ∷ ds) r (goes_on g o s))
 
-pub says_behind : {p q : Reading} {commands : List Command} → Leads p commands q → (ds : List Command) (r : Option Refusal) → Says p ds r → (cs : List Command) × (ds ≡ commands ++ cs) × Says q cs r
-says_behind nothing ds r s = (ds, refl, s)
-says_behind (and_then {commands = commands} l c o next g) ds r s =
-    let b = says_behind l ds r s in
+pub says_following : {p q : Reading} {commands : List Command} → Leads p commands q → (ds : List Command) (r : Option Refusal) → Says p ds r → (cs : List Command) × (ds ≡ commands ++ cs) × Says q cs r
+says_following nothing ds r s = (ds, refl, s)
+says_following (and_then {commands = commands} l c o next g) ds r s =
+    let b = says_following l ds r s in
     let n = says_after c g o b.2 in
     (n.0, b.1 ∙ ap (λ (l : List Command). commands ++ l) n.1 ∙ sym (append_assoc commands (c ∷ []) n.0), n.2)
 
 pub begins_first : (script : List ℕ) (commands ds : List Command) (r : Option Refusal) → BeginsWith script commands → IsScript script ds r → (cs : List Command) × (ds ≡ commands ++ cs)
-begins_first script commands ds r h s = let b = says_behind h.leads ds r s in (b.0, b.1)
+begins_first script commands ds r h s = let b = says_following h.leads ds r s in (b.0, b.1)
 
 -- the first commands are the script's beginning
 leads_before : {p q z : Reading} {commands : List Command} → (c : Command) → GivesFirst p (Ok (Some c)) q → c ≢ End → Leads q commands z → Leads p (c ∷ commands) z
@@ -103,7 +103,7 @@ says_begins {p = p} (d ∷ commands) ds c e (goes_on {c = b} {cs = bs} g o m) =
     (n.0, subst (λ (x : Command). Leads p (x ∷ commands) n.0) head (leads_before b g o n.1))
 
 pub first_begins : (script : List ℕ) (commands ds : List Command) (c : Command) (r : Option Refusal) → IsScript script (commands ++ c ∷ ds) r → BeginsWith script commands
-first_begins script commands ds c r s = let b = says_begins commands ds c refl s in record { behind = b.0; leads = b.1 }
+first_begins script commands ds c r s = let b = says_begins commands ds c refl s in record { following = b.0; leads = b.1 }
 
 -- the script's length decides whether it is too long
 abbrev Total : Reading → Answer → Reading → Type 0
@@ -117,9 +117,9 @@ total_from p m (Ok (Some c)) q e h = (h.0, h.1 ∙ e, λ o. omega (arith, h.2 o,
 total_from p m (Err f) q e h = ((λ o. omega (arith, h.0 o, e)), (λ o. omega (arith, h.1 o, e)))
 
 gives_total : {p : Reading} {r : Answer} {q : Reading} → p.before ≤ 1048576 → GivesFirst p r q → Total p r q
-gives_total {p = p} {r = r} {q = q} low (skipped t n a k g) = total_from p (behind p t n) r q (behind_total p t n a) (gives_total a.within g)
-gives_total {p = p} low (command c t n a k i f o) = (a.within, behind_total p t n a, λ e. absurd (o e))
-gives_total {p = p} {r = r} {q = q} low (end_line t n a k i f g) = total_from p (at_stage (behind p t n) AfterEnd) r q (behind_total p t n a) (gives_total a.within g)
+gives_total {p = p} {r = r} {q = q} low (skipped t n a k g) = total_from p (following p t n) r q (after_total p t n a) (gives_total a.within g)
+gives_total {p = p} low (command c t n a k i f o) = (a.within, after_total p t n a, λ e. absurd (o e))
+gives_total {p = p} {r = r} {q = q} low (end_line t n a k i f g) = total_from p (at_stage (following p t n) AfterEnd) r q (after_total p t n a) (gives_total a.within g)
 gives_total low (bad_line t n a k w) = ((λ e. absurd cc), (λ e. absurd cc))
 gives_total low (long_line a) = ((λ e. absurd cc), (λ e. absurd cc))
 gives_total low (too_long a) = ((λ e. a.more), (λ e. absurd cc))

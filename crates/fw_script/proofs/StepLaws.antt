@@ -8,8 +8,8 @@ use Rattle.fw_script.specs.Reader.{PassesOver, ReadsOn, Steps, ReadsLine, Fills,
 use Rattle.fw_script.specs.Reader.PassesOver.{nowhere}
 use Rattle.fw_script.specs.Reading.{Reading, Answer, GivesFirst, TakesMore, Advances, with_taken, at_stage, HoldsAnswer}
 use Rattle.fw_script.specs.Reading.GivesFirst.{read_fault}
-use Rattle.fw_script.specs.declared.stage.Stage.{Stage}
-use Rattle.fw_script.specs.declared.stage.Stage.TheVariants.{Failed}
+use Rattle.fw_script.specs.declared.stage.ReaderStage.{ReaderStage}
+use Rattle.fw_script.specs.declared.stage.ReaderStage.TheVariants.{Failed}
 use Rattle.fw_script_command.specs.declared.command.Command.{Command}
 use Rattle.fw_script.specs.declared.ScriptFault.{ScriptFault}
 use Rattle.fw_script.specs.declared.ScriptFault.TheVariants.{ReadFault}
@@ -73,8 +73,8 @@ pub advances_by : (p q new : Reading) (left left' : Option (List ℕ)) (r : Answ
 advances_by p q new left left' r o a g = record { known = a.known; takes = a.takes; gives = gives_open p.stage a.known new r o (goes_gives a.goes g) }
 
 -- an answer that is held is still held after what is passed over
-pub holds_behind : (p q : Reading) → PassesOver p q → HoldsAnswer p → HoldsAnswer q
-holds_behind p q g h = (h.0, h.1, goes_answer g h.2 h.3, h.3)
+pub holds_after : (p q : Reading) → PassesOver p q → HoldsAnswer p → HoldsAnswer q
+holds_after p q g h = (h.0, h.1, goes_answer g h.2 h.3, h.3)
 
 -- a line that was read is a step
 pub step_read : (p new : Reading) (left : Option (List ℕ)) (r : Answer) → ReadsLine p r new → Steps p left left r new
@@ -88,7 +88,7 @@ reads_whole p new (Ok (Some c)) h w = gives_whole h ∙ w
 reads_whole p new (Err f) h w = gives_whole h ∙ w
 
 pub reads_holds : (p new : Reading) (r : Answer) → ReadsLine p r new → HoldsAnswer p → r ≡ Ok None → HoldsAnswer new
-reads_holds p new (Ok None) h held e = holds_behind p new h.0 held
+reads_holds p new (Ok None) h held e = holds_after p new h.0 held
 reads_holds p new (Ok (Some c)) h held e = absurd cc
 reads_holds p new (Err f) h held e = absurd cc
 
@@ -98,7 +98,7 @@ step_gives p new left f g = (p, goes_nowhere p left, g)
 
 -- bytes were taken, or the source failed
 pub step_filled : (p new : Reading) (left left' : Option (List ℕ)) → IsOpen p.stage → Fills p left left' (Ok tt) new → Steps p left left' (Ok None) new
-step_filled p new left left' o h = (goes_taken p new left left' h.0, subst (λ (s : Stage). IsOpen s) (sym h.1) o, h.2)
+step_filled p new left left' o h = (goes_taken p new left left' h.0, subst (λ (s : ReaderStage). IsOpen s) (sym h.1) o, h.2)
 
 pub step_failed : (p new : Reading) (left left' : Option (List ℕ)) (f : ScriptFault) → Fills p left left' (Err f) new → Steps p left left' (Err f) new
 step_failed p new left left' f h =

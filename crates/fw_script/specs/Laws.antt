@@ -1,11 +1,11 @@
 -- What holds of every script.
 use Rattle.std.specs.Prelude.{◌≡◌, ◌≢◌, ℕ, List, [], ◌∷◌, ◌++◌, length, take, Option, Some, None, Ok, Err}
 use Rattle.fw_outside.specs.Outside.{Takes, IsAtEnd}
-use Rattle.fw_script_command.specs.Pieces.{pieces, parted, AreFree}
+use Rattle.fw_script_command.specs.Pieces.{pieces, separated, AreFree}
 use Rattle.fw_script_command.specs.Form.{HasForm}
 use Rattle.fw_script.specs.Passing.{Passes}
 use Rattle.fw_script.specs.Reader.{HoldsLine, PassesOver}
-use Rattle.fw_script.specs.Reading.{Reading, Answer, GivesFirst, Advances, TakesMore, IsHeld, behind, at_stage, with_taken, unread}
+use Rattle.fw_script.specs.Reading.{Reading, Answer, GivesFirst, Advances, TakesMore, IsHeld, following, at_stage, with_taken, unread}
 use Rattle.fw_script.specs.Script.{Refusal, IsScript, Tells, FitsLimit}
 use Rattle.fw_script.specs.Leading.{HasRead, BeginsWith, LinesSay, IsReadOf}
 use Rattle.fw_script_command.specs.declared.command.Command.{Command}
@@ -13,11 +13,11 @@ use Rattle.fw_script_command.specs.declared.command.Command.TheVariants.{End}
 use Rattle.fw_script.specs.declared.ScriptFault.{ScriptFault}
 use Rattle.fw_script.specs.declared.ScriptFault.TheVariants.{BadLine, ReadFault}
 use Rattle.fw_script.specs.declared.reader.passing.Said.TheVariants.{Nothing, Command as ACommand, Refused}
-use Rattle.fw_script.specs.declared.stage.Stage.TheVariants.{Failed}
+use Rattle.fw_script.specs.declared.stage.ReaderStage.TheVariants.{Failed}
 
 -- the pieces of bytes are what stands between their separators
 abbrev pub PiecesPartTheBytes : Type 0
-PiecesPartTheBytes = (separator : ℕ) (bytes : List ℕ) → (parted separator (pieces separator bytes) ≡ bytes) × AreFree separator (pieces separator bytes)
+PiecesPartTheBytes = (separator : ℕ) (bytes : List ℕ) → (separated separator (pieces separator bytes) ≡ bytes) × AreFree separator (pieces separator bytes)
 
 -- a line is one command at most
 abbrev pub LineIsOneCommand : Type 0
@@ -93,12 +93,12 @@ NothingIsPassedOver = (p q : Reading) (n size : ℕ) (c : Command) → HoldsLine
 
 -- a command that is seen is what the lines give first, and they give it on that line
 abbrev pub CommandIsGiven : Type 0
-CommandIsGiven = (p q : Reading) (n size : ℕ) (c : Command) → HoldsLine p n size → Passes p n size ACommand c q → GivesFirst p (Ok (Some c)) (behind p (take n p.rest) size)
+CommandIsGiven = (p q : Reading) (n size : ℕ) (c : Command) → HoldsLine p n size → Passes p n size ACommand c q → GivesFirst p (Ok (Some c)) (following p (take n p.rest) size)
 
 -- a line that is seen to be refused is the first that is
 abbrev pub RefusalIsGiven : Type 0
 RefusalIsGiven = (p q : Reading) (n size : ℕ) (c : Command) → HoldsLine p n size → Passes p n size Refused c q
-    → GivesFirst p (Err BadLine) (at_stage (behind p (take n p.rest) size) Failed)
+    → GivesFirst p (Err BadLine) (at_stage (following p (take n p.rest) size) Failed)
 
 -- what is held is what a call gives, unless the source fails, and it reads no further; more may be taken
 abbrev pub HeldIsGiven : Type 0

@@ -15,8 +15,8 @@ pub data Leads (p : Reading) : List Command → Reading → Type 0 where
 
 -- the script gives these commands first
 pub record BeginsWith (script : List ℕ) (commands : List Command) : Type 0 where
-  pub behind : Reading
-  pub leads : Leads (start_of script) commands behind
+  pub following : Reading
+  pub leads : Leads (start_of script) commands following
 
 -- the command after these is on the line with this number
 pub record IsOnLine (script : List ℕ) (commands : List Command) (c : Command) (line : ℕ) : Type 0 where
@@ -29,18 +29,18 @@ pub record IsOnLine (script : List ℕ) (commands : List Command) (c : Command) 
 -- Bytes of the script were taken, and others may be after them. A source that tells what it has told the whole script.
 pub record TakesFrom (left left' : Option (List ℕ)) (script : List ℕ) : Type 0 where
   pub taken : List ℕ
-  pub behind : List ℕ
-  pub parts : script ≡ taken ++ behind
+  pub following : List ℕ
+  pub parts : script ≡ taken ++ following
   pub takes : Takes left left' taken
   pub told : Tells left script
 
 -- The lines whose line feed is among the bytes give exactly these commands, one after another, and none of them is refused. What is left
 -- after them is not too long for a line, and within the script's limit.
 pub record LinesSay (bytes : List ℕ) (commands : List Command) : Type 0 where
-  pub behind : Reading
+  pub following : Reading
   pub last : Reading
-  pub leads : Leads (begun bytes false) commands behind
-  pub passed : GivesFirst behind (Err ReadFault) last
+  pub leads : Leads (begun bytes false) commands following
+  pub passed : GivesFirst following (Err ReadFault) last
   pub free : IsFree 10 last.rest
   pub few : length last.rest ≤ 256
   pub within : last.before + length last.rest ≤ 1048576

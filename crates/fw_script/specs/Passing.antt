@@ -5,10 +5,10 @@ use Rattle.fw_script_command.specs.declared.command.Command.{Command}
 use Rattle.fw_script_command.specs.declared.command.Command.TheVariants.{End}
 use Rattle.fw_script.specs.Line.{is_skipped}
 use Rattle.fw_script.specs.Reader.{HoldsLine}
-use Rattle.fw_script.specs.Reading.{Reading, IsLongLine, PassesLimit, IsAtEndOfInput, TakesMore, behind, at_stage}
+use Rattle.fw_script.specs.Reading.{Reading, IsLongLine, PassesLimit, IsAtEndOfInput, TakesMore, following, at_stage}
 use Rattle.fw_script.specs.declared.reader.passing.Said.{Said}
 use Rattle.fw_script.specs.declared.reader.passing.Said.TheVariants.{Nothing, Command as ACommand, Refused}
-use Rattle.fw_script.specs.declared.stage.Stage.TheVariants.{Commands, AfterEnd, Done, Failed}
+use Rattle.fw_script.specs.declared.stage.ReaderStage.TheVariants.{Commands, AfterEnd, Done, Failed}
 
 -- no line stands next: the end was given, the next line is too long or passes the script's limit, or no bytes are left
 abbrev pub HasNoLine : Reading → Type 0
@@ -28,14 +28,14 @@ pub record FailsThere (old new : Reading) (left left' : Option (List ℕ)) : Typ
 -- an empty line or a comment was read
 pub record PassesSkipped (p q : Reading) (text : List ℕ) (size : ℕ) : Type 0 where
   pub skipped : is_skipped text ≡ true
-  pub now : q ≡ behind p text size
+  pub now : q ≡ following p text size
 
 -- the line `end` was read
 pub record PassesEnd (p q : Reading) (text : List ℕ) (size : ℕ) : Type 0 where
   pub said : is_skipped text ≡ false
   pub stage : p.stage ≡ Commands
   pub form : HasForm End text
-  pub now : q ≡ at_stage (behind p text size) AfterEnd
+  pub now : q ≡ at_stage (following p text size) AfterEnd
 
 -- a command stands there, which is not read
 pub record IsCommandNext (p q : Reading) (text : List ℕ) (c : Command) : Type 0 where

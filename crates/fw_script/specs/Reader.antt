@@ -3,18 +3,18 @@ use Rattle.std.specs.Prelude.{◌≡◌, ℕ, ◌+◌, ◌*◌, ◌-◌, ◌<◌
 use Rattle.fw_script_command.specs.Pieces.{IsFree}
 use Rattle.fw_script.specs.Line.{is_skipped}
 use Rattle.fw_script_command.specs.Form.{HasForm}
-use Rattle.fw_script.specs.Reading.{Reading, Answer, GivesFirst, IsLine, IsLongLine, PassesLimit, IsAtEndOfInput, TakesMore, at_stage, behind}
+use Rattle.fw_script.specs.Reading.{Reading, Answer, GivesFirst, IsLine, IsLongLine, PassesLimit, IsAtEndOfInput, TakesMore, at_stage, following}
 use Rattle.fw_script_command.specs.declared.command.Command.{Command}
 use Rattle.fw_script_command.specs.declared.command.Command.TheVariants.{End}
 use Rattle.fw_script.specs.declared.ScriptFault.{ScriptFault}
 use Rattle.fw_script.specs.declared.ScriptFault.TheVariants.{ReadFault}
-use Rattle.fw_script.specs.declared.line.Front.{Front}
-use Rattle.fw_script.specs.declared.line.Front.TheVariants.{Line, LongLine, Limit, Cut, Nothing}
-use Rattle.fw_script.specs.declared.stage.Stage.{Stage}
-use Rattle.fw_script.specs.declared.stage.Stage.TheVariants.{Commands, AfterEnd, Done, Failed}
+use Rattle.fw_script.specs.declared.line.Prefix.{Prefix}
+use Rattle.fw_script.specs.declared.line.Prefix.TheVariants.{Line, LongLine, Limit, Cut, Nothing}
+use Rattle.fw_script.specs.declared.stage.ReaderStage.{ReaderStage}
+use Rattle.fw_script.specs.declared.stage.ReaderStage.TheVariants.{Commands, AfterEnd, Done, Failed}
 
 -- lines are read
-abbrev pub IsOpen : Stage → Type 0
+abbrev pub IsOpen : ReaderStage → Type 0
 IsOpen Commands = Unit {0}
 IsOpen AfterEnd = Unit {0}
 IsOpen Done = ⊥
@@ -29,10 +29,10 @@ pub record IsNear (rest : List ℕ) : Type 0 where
 pub data PassesOver : Reading → Reading → Type 0 where
   nowhere : {p : Reading} → PassesOver p p
   over_skipped : {p q : Reading} (text : List ℕ) (size : ℕ)
-      → IsLine p text size → is_skipped text ≡ true → PassesOver (behind p text size) q → PassesOver p q
+      → IsLine p text size → is_skipped text ≡ true → PassesOver (following p text size) q → PassesOver p q
   over_end : {p q : Reading} (text : List ℕ) (size : ℕ)
       → IsLine p text size → is_skipped text ≡ false → p.stage ≡ Commands → HasForm End text
-      → PassesOver (at_stage (behind p text size) AfterEnd) q → PassesOver p q
+      → PassesOver (at_stage (following p text size) AfterEnd) q → PassesOver p q
 
 -- bytes were taken, and lines were passed over that say nothing
 pub record ReadsOn (old new : Reading) (left left' : Option (List ℕ)) : Type 0 where
@@ -82,7 +82,7 @@ pub record IsCut (p : Reading) : Type 0 where
   pub free : IsFree 10 p.rest
 
 -- what stands next
-abbrev pub StandsNext : Reading → Front → Type 0
+abbrev pub StandsNext : Reading → Prefix → Type 0
 StandsNext p (Line n size) = HoldsLine p n size
 StandsNext p LongLine = IsLongLine p
 StandsNext p Limit = PassesLimit p

@@ -8,8 +8,8 @@ use Rattle.fw_script_command.specs.declared.command.Command.{Command}
 use Rattle.fw_script_command.specs.declared.command.Command.TheVariants.{End}
 use Rattle.fw_script.specs.declared.ScriptFault.{ScriptFault}
 use Rattle.fw_script.specs.declared.ScriptFault.TheVariants.{BadLine, LineTooLong, NoEnd, ReadFault, TooLong}
-use Rattle.fw_script.specs.declared.stage.Stage.{Stage}
-use Rattle.fw_script.specs.declared.stage.Stage.TheVariants.{Commands, AfterEnd, Done, Failed}
+use Rattle.fw_script.specs.declared.stage.ReaderStage.{ReaderStage}
+use Rattle.fw_script.specs.declared.stage.ReaderStage.TheVariants.{Commands, AfterEnd, Done, Failed}
 
 -- what a call answers
 abbrev pub Answer : Type 0
@@ -24,7 +24,7 @@ pub record Reading : Type 0 where
   pub whole : Bool
   pub before : ℕ
   pub line : ℕ
-  pub stage : Stage
+  pub stage : ReaderStage
   pub text : List ℕ
   pub end : ℕ
 
@@ -36,15 +36,15 @@ unread = record { rest = []; whole = false; before = 0; line = 0; stage = Comman
 abbrev pub with_taken : Reading → List ℕ → Bool → Reading
 with_taken p taken whole = record { rest = p.rest ++ taken; whole = whole; before = p.before; line = p.line; stage = p.stage; text = p.text; end = p.end }
 
--- the number of the line `end` where another stage begins: that of the line last read where only skipped lines may follow it
-abbrev pub end_at : Reading → Stage → ℕ
+-- the number of the line `end` where another stage begins: that of the line last read if only skipped lines may follow it
+abbrev pub end_at : Reading → ReaderStage → ℕ
 end_at p Commands = p.end
 end_at p AfterEnd = p.line
 end_at p Done = p.end
 end_at p Failed = p.end
 
 -- the same with another stage
-abbrev pub at_stage : Reading → Stage → Reading
+abbrev pub at_stage : Reading → ReaderStage → Reading
 at_stage p stage = record { rest = p.rest; whole = p.whole; before = p.before; line = p.line; stage = stage; text = p.text; end = end_at p stage }
 
 -- the line after the last one is refused, which begins with this text
@@ -52,8 +52,8 @@ abbrev pub refused : Reading → List ℕ → Reading
 refused p text = record { rest = p.rest; whole = p.whole; before = p.before; line = p.line + 1; stage = Failed; text = text; end = p.end }
 
 -- after a line of this text that takes so many bytes
-abbrev pub behind : Reading → List ℕ → ℕ → Reading
-behind p text size = record { rest = drop size p.rest; whole = p.whole; before = p.before + size; line = p.line + 1; stage = p.stage; text = text; end = p.end }
+abbrev pub following : Reading → List ℕ → ℕ → Reading
+following p text size = record { rest = drop size p.rest; whole = p.whole; before = p.before + size; line = p.line + 1; stage = p.stage; text = text; end = p.end }
 
 -- the next line is this text, and takes so many bytes with its line feed; only the last line may lack it
 abbrev pub EndsLine : Reading → List ℕ → ℕ → Type 0
@@ -89,19 +89,19 @@ IsAtEndOfInput p = (p.rest ≡ []) × (p.whole ≡ true)
 pub data GivesFirst : Reading → Answer → Reading → Type 0 where
   -- an empty line or a comment
   skipped : {p q : Reading} {r : Answer} (text : List ℕ) (size : ℕ)
-      → IsLine p text size → is_skipped text ≡ true → GivesFirst (behind p text size) r q → GivesFirst p r q
+      → IsLine p text size → is_skipped text ≡ true → GivesFirst (following p text size) r q → GivesFirst p r q
   -- a command
   command : {p : Reading} (c : Command) (text : List ℕ) (size : ℕ)
       → IsLine p text size → is_skipped text ≡ false → p.stage ≡ Commands → HasForm c text → c ≢ End
-      → GivesFirst p (Ok (Some c)) (behind p text size)
+      → GivesFirst p (Ok (Some c)) (following p text size)
   -- the line `end`: only skipped lines may follow
   end_line : {p q : Reading} {r : Answer} (text : List ℕ) (size : ℕ)
       → IsLine p text size → is_skipped text ≡ false → p.stage ≡ Commands → HasForm End text
-      → GivesFirst (at_stage (behind p text size) AfterEnd) r q → GivesFirst p r q
+      → GivesFirst (at_stage (following p text size) AfterEnd) r q → GivesFirst p r q
   -- a line without a form, or one that follows `end`
   bad_line : {p : Reading} (text : List ℕ) (size : ℕ)
       → IsLine p text size → is_skipped text ≡ false → (p.stage ≡ AfterEnd) ⊎ ((c : Command) → HasForm c text → ⊥)
-      → GivesFirst p (Err BadLine) (at_stage (behind p text size) Failed)
+      → GivesFirst p (Err BadLine) (at_stage (following p text size) Failed)
   -- a line of more than 256 bytes
   long_line : {p : Reading} → IsLongLine p → GivesFirst p (Err LineTooLong) (refused p (take 257 p.rest))
   -- a line that ends after the script's limit
@@ -113,7 +113,7 @@ pub data GivesFirst : Reading → Answer → Reading → Type 0 where
   read_fault : {p : Reading} → GivesFirst p (Err ReadFault) (at_stage p Failed)
 
 -- nothing is given after the end
-abbrev pub GivesNext : Stage → Reading → Answer → Reading → Type 0
+abbrev pub GivesNext : ReaderStage → Reading → Answer → Reading → Type 0
 GivesNext Commands p r q = GivesFirst p r q
 GivesNext AfterEnd p r q = GivesFirst p r q
 GivesNext Done p r q = (r ≡ Ok None) × (q ≡ p)
@@ -134,7 +134,7 @@ pub record Advances (old new : Reading) (left left' : Option (List ℕ)) (r : An
   pub gives : GivesNext old.stage known r new
 
 -- The end is given once and nothing after it, and a fault is the last answer.
-abbrev pub IsStageAfter : Stage → Answer → Stage → Type 0
+abbrev pub IsStageAfter : ReaderStage → Answer → ReaderStage → Type 0
 IsStageAfter old (Ok None) new = (old ≡ Done) × (new ≡ Done)
 IsStageAfter old (Ok (Some c)) new = (old ≢ Done) × (new ≢ Failed) × ((c ≡ End) ↔ (new ≡ Done))
 IsStageAfter old (Err f) new = (old ≢ Done) × (new ≡ Failed)

@@ -5,7 +5,7 @@ use Rattle.fw_script_command.specs.declared.command.Command.{Command}
 use Rattle.fw_script_command.specs.declared.command.Command.TheVariants.{End}
 use Rattle.fw_script.specs.declared.ScriptFault.{ScriptFault}
 use Rattle.fw_script.specs.declared.ScriptFault.TheVariants.{NoEnd, ReadFault, TooLong}
-use Rattle.fw_script.specs.declared.stage.Stage.TheVariants.{Commands}
+use Rattle.fw_script.specs.declared.stage.ReaderStage.TheVariants.{Commands}
 
 -- why a line is refused, and its number
 pub record Refusal : Type 0 where

@@ -1,7 +1,7 @@
 //! The next line of a script, and what it means.
 
 ghost use Rattle.std.specs.Prelude.{◌≡◌, ◌≤◌, IfSome, IfNone};
-ghost use Rattle.fw_script.specs.Line.{IsFront, IsMeaning, is_skipped, unfed_of};
+ghost use Rattle.fw_script.specs.Line.{IsPrefix, IsMeaning, is_skipped, unfed_of};
 ghost use Rattle.fw_script_command.specs.Pieces.{IsFirstAt, IsFree};
 
 use fw_script_command::{Command, command_of};
@@ -15,7 +15,7 @@ pub(crate) const SCRIPT_LIMIT: usize = 1_048_576;
 
 /// What stands next.
 #[derive(Clone, Copy)]
-pub(crate) enum Front {
+pub(crate) enum Prefix {
     /// A line of `length` bytes, which takes `size` bytes with its line feed, if it has one.
     Line { length: usize, size: usize },
     /// A line that is too long.
@@ -38,12 +38,12 @@ fn line_feed(bytes: &[u8]) -> Option<usize>
 
 /// What stands at the beginning of some bytes, of which the first `room` are within the script's limit. If the bytes are
 /// not yet `whole`, others may follow them.
-pub(crate) fn front_of(rest: &[u8], room: usize, whole: bool) -> Front
-    ensures { IsFront rest.now room whole result }
+pub(crate) fn prefix_of(rest: &[u8], room: usize, whole: bool) -> Prefix
+    ensures { IsPrefix rest.now room whole result }
 {
     let count = rest.len().min(room).min(LINE_LIMIT + 1);
     match line_feed(&rest[..count]) {
-        Some(length) => Front::Line {
+        Some(length) => Prefix::Line {
             length,
             size: length + 1,
         },
@@ -52,20 +52,20 @@ pub(crate) fn front_of(rest: &[u8], room: usize, whole: bool) -> Front
 }
 
 /// What stands at the beginning of `total` bytes, if the first `count` have no line feed.
-fn unfed(total: usize, count: usize, whole: bool) -> Front
+fn unfed(total: usize, count: usize, whole: bool) -> Prefix
     requires { count ≤ total }
     ensures { result ≡ unfed_of total count whole }
 {
     if count > LINE_LIMIT {
-        Front::LongLine
+        Prefix::LongLine
     } else if count < total {
-        Front::Limit
+        Prefix::Limit
     } else if !whole {
-        Front::Cut
+        Prefix::Cut
     } else if count == 0 {
-        Front::Nothing
+        Prefix::Nothing
     } else {
-        Front::Line {
+        Prefix::Line {
             length: count,
             size: count,
         }

@@ -6,8 +6,8 @@ ghost use Rattle.fw_script.specs.Reader.{IsOpen, IsNear, HoldsLine, ReadsLine, S
 ghost use Rattle.fw_script.specs.Reading.{unread, Advances, IsStageAfter, IsAtEndOfInput, HoldsAnswer, IsHeld};
 
 use crate::ScriptFault;
-use crate::line::{Front, Meaning, meaning_of};
-use crate::stage::Stage;
+use crate::line::{Meaning, Prefix, meaning_of};
+use crate::stage::ReaderStage;
 use fw_outside::Source;
 use fw_script_command::Command;
 use std::alloc::{AllocError, Global};
@@ -19,7 +19,7 @@ mod standing;
 
 use input::HELD_LIMIT;
 pub use passing::Said;
-use standing::{Place, TEXT_LIMIT};
+use standing::{TEXT_LIMIT, TextSpan};
 
 /// Reads the commands of a script, line by line. It holds what it took from the source and did not yet read: the beginning of a
 /// line, of at most 256 bytes, and up to 4,096 bytes that were asked for since. It asks only if no whole line is held.
@@ -31,9 +31,9 @@ pub struct ScriptReader {
     before: usize,
     whole: bool,
     line: u32,
-    stage: Stage,
+    stage: ReaderStage,
     /// The text of the line last read or refused, as far as its first 257 bytes.
-    text: Place,
+    text: TextSpan,
     /// The number of the line `end`, 0 before it was read.
     end: u32,
 }
@@ -63,8 +63,8 @@ impl ScriptReader {
             before: 0,
             whole: false,
             line: 0,
-            stage: Stage::Commands,
-            text: Place { at: 0, length: 0 },
+            stage: ReaderStage::Commands,
+            text: TextSpan { at: 0, length: 0 },
             end: 0,
         })
     }
@@ -93,6 +93,7 @@ impl ScriptReader {
     }
 
     // Reads a line of so many bytes. Answers whether it is a command, which is put into `out`.
+    #[inline(always)]
     fn read_text(
         &mut self,
         count: usize,
@@ -106,17 +107,17 @@ impl ScriptReader {
         ensures held { IsHeld (answer_of result out.new) self.new }
         ensures told { result ≢ Err ScriptFault.ReadFault }
     {
-        let meaning = meaning_of(self.front_text(count), self.takes_commands(), out);
+        let meaning = meaning_of(self.prefix_text(count), self.takes_commands(), out);
         self.advance(count, size);
         match meaning {
             Meaning::Skipped => Ok(false),
             Meaning::Command => Ok(true),
             Meaning::End => {
-                self.enter(Stage::AfterEnd);
+                self.enter(ReaderStage::AfterEnd);
                 Ok(false)
             }
             Meaning::Refused => {
-                self.enter(Stage::Failed);
+                self.enter(ReaderStage::Failed);
                 Err(ScriptFault::BadLine)
             }
         }
@@ -135,7 +136,7 @@ impl ScriptReader {
             self.refuse(0);
             Err(ScriptFault::NoEnd)
         } else {
-            self.enter(Stage::Done);
+            self.enter(ReaderStage::Done);
             *out = Command::End;
             Ok(true)
         }
@@ -143,7 +144,11 @@ impl ScriptReader {
 
     // Reads the next line, or takes bytes if its end is not held. Answers whether a command was put into `out`: if none was,
     // the reading goes on.
-    fn step<S: Source>(&mut self, source: &mut S, out: &mut Command) -> Result<bool, ScriptFault>
+    fn read_more<S: Source>(
+        &mut self,
+        source: &mut S,
+        out: &mut Command,
+    ) -> Result<bool, ScriptFault>
         requires open { IsOpen self.old.stage }
         ensures steps { Steps self.old (S.left source.old) (S.left source.new) (answer_of result out.new) self.new }
         ensures held { IsHeld (answer_of result out.new) self.new }
@@ -154,18 +159,18 @@ impl ScriptReader {
         ensures cause { result ≡ Err ScriptFault.ReadFault → Rose (S.faults source.old) (S.faults source.new) }
         ensures unfailed { result ≢ Err ScriptFault.ReadFault → S.faults source.new ≡ S.faults source.old }
     {
-        match self.front() {
-            Front::Line { length, size } => self.read_text(length, size, out),
-            Front::LongLine => {
+        match self.prefix() {
+            Prefix::Line { length, size } => self.read_text(length, size, out),
+            Prefix::LongLine => {
                 self.refuse(TEXT_LIMIT);
                 Err(ScriptFault::LineTooLong)
             }
-            Front::Limit => {
-                self.enter(Stage::Failed);
+            Prefix::Limit => {
+                self.enter(ReaderStage::Failed);
                 Err(ScriptFault::TooLong)
             }
-            Front::Nothing => self.read_end(out),
-            Front::Cut => match self.take(source) {
+            Prefix::Nothing => self.read_end(out),
+            Prefix::Cut => match self.take(source) {
                 Ok(()) => Ok(false),
                 Err(fault) => Err(fault),
             },
@@ -185,7 +190,7 @@ impl ScriptReader {
         ensures unfailed { result ≢ Err ScriptFault.ReadFault → S.faults source.new ≡ S.faults source.old }
     {
         loop {
-            match self.step(source, out) {
+            match self.read_more(source, out) {
                 Ok(false) => {}
                 Ok(true) => return Ok(()),
                 Err(fault) => return Err(fault),
@@ -201,7 +206,7 @@ impl ScriptReader {
     // Inlined at its one call, if the command is then put in its place: else it is copied there, twice.
     #[inline(always)]
     pub fn next<S: Source>(&mut self, source: &mut S) -> Result<Option<Command>, ScriptFault>
-        requires { self.old.stage ≢ Stage.Failed }
+        requires { self.old.stage ≢ ReaderStage.Failed }
         ensures gives { Advances self.old self.new (S.left source.old) (S.left source.new) result }
         ensures stage { IsStageAfter self.old.stage result self.new.stage }
         ensures held { IsHeld result self.new }

@@ -2,7 +2,7 @@
 
 /// What is read next, or that nothing is.
 #[derive(Clone, Copy)]
-pub enum Stage {
+pub enum ReaderStage {
     /// Commands, up to `end`.
     Commands,
     /// Skipped lines, since `end` was read.

@@ -71,7 +71,7 @@ same_arguments End ws c d h e = h.1 ∙ sym e.1
 -- a line is one command at most
 pub one_form : (c d : Command) (line : List ℕ) → HasForm c line → HasForm d line → c ≡ d
 one_form c d line h e =
-    let parted = sym h.words ∙ e.words in
+    let separated = sym h.words ∙ e.words in
     let first : h.first ≡ e.first = cc in
     let others : h.others ≡ e.others = cc in
     let keyword : h.keyword ≡ e.keyword = cc in

@@ -4,3 +4,4 @@ pub mod NumberLaws
 pub mod PiecesLaws
 pub mod TableLaws
 pub mod WordLaws
+pub mod NameLaws

@@ -6,7 +6,7 @@ use Rattle.std.proofs.lemmas.Bool.{cases_lt}
 use Rattle.std.proofs.lemmas.List.{take-append-drop, get_or_append_left}
 use Rattle.std.proofs.Math.Seq.{get_or-append_seam}
 use Rattle.memchr.specs.Find.{IsFirstByte, is_byte}
-use Rattle.fw_script_command.specs.Pieces.{IsFree, IsFirstAt, pieces, onto, parted, AreFree}
+use Rattle.fw_script_command.specs.Pieces.{IsFree, IsFirstAt, pieces, onto, separated, AreFree}
 
 pub split : (s : ℕ) (bs : List ℕ) (i : ℕ) → IsFirstAt s bs i → bs ≡ take i bs ++ s ∷ drop (i + 1) bs
 split s bs i f = sym (take-append-drop i bs) ∙ ap (λ t. take i bs ++ t) (drop-cons bs i 0 f.within ∙ ap (λ x. x ∷ drop (suc i) bs) f.here ∙ ap (λ k. s ∷ drop k bs) (sym (add-one i)))
@@ -74,14 +74,14 @@ piece_left s false bs old is t e = cc
 piece_left s true bs old is t e = pieces_some s bs (is ∙ e)
 
 -- the pieces part the bytes
-parted_onto : (s b : ℕ) (ws : List (List ℕ)) → ws ≢ [] → parted s (onto b ws) ≡ b ∷ parted s ws
-parted_onto s b [] some = absurd (some refl)
-parted_onto s b (w ∷ []) some = refl
-parted_onto s b (w ∷ v ∷ ws) some = refl
+separated_onto : (s b : ℕ) (ws : List (List ℕ)) → ws ≢ [] → separated s (onto b ws) ≡ b ∷ separated s ws
+separated_onto s b [] some = absurd (some refl)
+separated_onto s b (w ∷ []) some = refl
+separated_onto s b (w ∷ v ∷ ws) some = refl
 
-parted_next : (s : ℕ) (ws : List (List ℕ)) → ws ≢ [] → parted s ([] ∷ ws) ≡ s ∷ parted s ws
-parted_next s [] some = absurd (some refl)
-parted_next s (w ∷ ws) some = refl
+separated_next : (s : ℕ) (ws : List (List ℕ)) → ws ≢ [] → separated s ([] ∷ ws) ≡ s ∷ separated s ws
+separated_next s [] some = absurd (some refl)
+separated_next s (w ∷ ws) some = refl
 
 free_onto : (s b : ℕ) (ws : List (List ℕ)) → b ≢ s → AreFree s ws → AreFree s (onto b ws)
 free_onto s b [] differ free = (first, tt)
@@ -98,7 +98,7 @@ free_onto s b (w ∷ ws) differ free = (first, free.1)
 free_empty : (s : ℕ) → IsFree s []
 free_empty s k h = absurd (omega arith)
 
-part_more : (s b : ℕ) (bs : List ℕ) → (parted s (pieces s bs) ≡ bs) × AreFree s (pieces s bs) → (parted s (pieces s (b ∷ bs)) ≡ b ∷ bs) × AreFree s (pieces s (b ∷ bs))
+part_more : (s b : ℕ) (bs : List ℕ) → (separated s (pieces s bs) ≡ bs) × AreFree s (pieces s bs) → (separated s (pieces s (b ∷ bs)) ≡ b ∷ bs) × AreFree s (pieces s (b ∷ bs))
 part_more s b bs rest = by_test (b == s) refl
   where
     same_byte : (b == s) ≡ true → b ≡ s
@@ -107,17 +107,17 @@ part_more s b bs rest = by_test (b == s) refl
     other_byte : (b == s) ≡ false → b ≢ s
     other_byte e = grind (arith, nat_tests)
 
-    by_test : (t : Bool) → (b == s) ≡ t → (parted s (cond t ([] ∷ pieces s bs) (onto b (pieces s bs))) ≡ b ∷ bs) × AreFree s (cond t ([] ∷ pieces s bs) (onto b (pieces s bs)))
+    by_test : (t : Bool) → (b == s) ≡ t → (separated s (cond t ([] ∷ pieces s bs) (onto b (pieces s bs))) ≡ b ∷ bs) × AreFree s (cond t ([] ∷ pieces s bs) (onto b (pieces s bs)))
     by_test true e = (
-      parted_next s (pieces s bs) (pieces_some s bs) ∙ ap (λ (l : List ℕ). s ∷ l) rest.0 ∙ ap (λ (x : ℕ). x ∷ bs) (sym (same_byte e)),
+      separated_next s (pieces s bs) (pieces_some s bs) ∙ ap (λ (l : List ℕ). s ∷ l) rest.0 ∙ ap (λ (x : ℕ). x ∷ bs) (sym (same_byte e)),
       (free_empty s, rest.1),
     )
     by_test false e = (
-      parted_onto s b (pieces s bs) (pieces_some s bs) ∙ ap (λ (l : List ℕ). b ∷ l) rest.0,
+      separated_onto s b (pieces s bs) (pieces_some s bs) ∙ ap (λ (l : List ℕ). b ∷ l) rest.0,
       free_onto s b (pieces s bs) (other_byte e) rest.1,
     )
 
-pub pieces_part : (s : ℕ) (bs : List ℕ) → (parted s (pieces s bs) ≡ bs) × AreFree s (pieces s bs)
+pub pieces_part : (s : ℕ) (bs : List ℕ) → (separated s (pieces s bs) ≡ bs) × AreFree s (pieces s bs)
 pieces_part s [] = (refl, (free_empty s, tt))
 pieces_part s (b ∷ bs) = part_more s b bs (pieces_part s bs)
 

@@ -1,7 +1,7 @@
 -- Words fit the table of forms exactly if they are read as a command.
 use Rattle.std.proofs.Common.{◌≡◌, ◌↔◌, ℕ, List, [], ◌∷◌, ◌&&◌, Bool, true, false, Option, Some, None, is_some, inl, inr, refl, sym, ◌∙◌, ap, subst}
 use Rattle.std.proofs.lemmas.Bool.{and_parts}
-use Rattle.fw_script_command.specs.Form.{HasArguments, Word, Words1, Words2, Words3, Words4, Words5, first_by, behind_first}
+use Rattle.fw_script_command.specs.Form.{HasArguments, Word, Words1, Words2, Words3, Words4, Words5, first_by, after_first}
 use Rattle.fw_script_command.specs.Keyword.{keyword_in}
 use Rattle.fw_script_command.specs.Laws.{FormsAreOneTable, KeywordsAreTheirWords}
 use Rattle.fw_script_command.specs.Types.{are_fitting, fits, may_lack, types_of, word_of}
@@ -131,7 +131,7 @@ a_frame = record { same = λ w. refl; there = refl }
 die_told : (ws : List (List ℕ)) → are_fitting (Name ∷ Late ∷ []) ws ≡ true → (c : Command) × HasArguments Keywords.Die ws c
 die_told ws h = let x = one_word Name (Late ∷ []) name_in a_name ws h in by_more x.0 x.1 x.2 x.3 x.4
   where
-    by_more : (a : List ℕ) (others : List (List ℕ)) → first_by name_in ws ≡ Some a → others ≡ behind_first ws → are_fitting (Late ∷ []) others ≡ true → (c : Command) × HasArguments Keywords.Die ws c
+    by_more : (a : List ℕ) (others : List (List ℕ)) → first_by name_in ws ≡ Some a → others ≡ after_first ws → are_fitting (Late ∷ []) others ≡ true → (c : Command) × HasArguments Keywords.Die ws c
     by_more a [] e l k = (Commands.Die a false, inl (a, [], e, l, (refl, refl)))
     by_more a (w ∷ more) e l k =
         let p = and_parts (fits Late w) (are_fitting [] more) k in

@@ -15,13 +15,13 @@ first_by f [] = None
 first_by f (w ∷ ws) = f w
 
 -- the words after the first
-abbrev pub behind_first : List (List ℕ) → List (List ℕ)
-behind_first [] = []
-behind_first (w ∷ ws) = ws
+abbrev pub after_first : List (List ℕ) → List (List ℕ)
+after_first [] = []
+after_first (w ∷ ws) = ws
 
 -- the function reads the first word, and what it reads and the words after have the property
 abbrev pub Word : {A : Type 0} → List (List ℕ) → (List ℕ → Option A) → (A → List (List ℕ) → Type 0) → Type 0
-Word {A = A} ws f P = (a : A) × (others : List (List ℕ)) × (first_by f ws ≡ Some a) × (others ≡ behind_first ws) × P a others
+Word {A = A} ws f P = (a : A) × (others : List (List ℕ)) × (first_by f ws ≡ Some a) × (others ≡ after_first ws) × P a others
 
 -- there is one word, the function reads it, and what it reads has the property
 abbrev pub Words1 : {A : Type 0} → List (List ℕ) → (List ℕ → Option A) → (A → Type 0) → Type 0

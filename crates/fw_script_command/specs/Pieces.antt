@@ -22,10 +22,10 @@ pieces separator [] = [] ∷ []
 pieces separator (b ∷ bs) = if b == separator then [] ∷ pieces separator bs else onto b (pieces separator bs)
 
 -- the pieces with one separator between each and the next
-abbrev pub parted : ℕ → List (List ℕ) → List ℕ
-parted separator [] = []
-parted separator (w ∷ []) = w
-parted separator (w ∷ v ∷ ws) = w ++ separator ∷ parted separator (v ∷ ws)
+abbrev pub separated : ℕ → List (List ℕ) → List ℕ
+separated separator [] = []
+separated separator (w ∷ []) = w
+separated separator (w ∷ v ∷ ws) = w ++ separator ∷ separated separator (v ∷ ws)
 
 -- no piece has a separator
 abbrev pub AreFree : ℕ → List (List ℕ) → Type 0

@@ -1,7 +1,7 @@
 //! Bytes cut at a separator.
 
 ghost use Rattle.std.specs.Prelude.{ℕ, ◌≡◌, ◌++◌, ◌∷◌, [], List, IfSome, IfNone};
-ghost use Rattle.fw_script_command.specs.Form.{behind_first};
+ghost use Rattle.fw_script_command.specs.Form.{after_first};
 ghost use Rattle.fw_script_command.specs.Pieces.{IsFirstAt, IsFree, pieces};
 
 use std::marker::Model;
@@ -63,7 +63,7 @@ impl<'a> Pieces<'a> {
     pub fn next(&mut self) -> Option<&'a [u8]>
         ensures some { IfSome result (λ w. self.old ≡ w.now ∷ self.new) }
         ensures none { IfNone result (self.old ≡ []) }
-        ensures left { self.new ≡ behind_first self.old }
+        ensures left { self.new ≡ after_first self.old }
     {
         if !self.more {
             return None;

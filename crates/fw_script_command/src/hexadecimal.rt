@@ -1,6 +1,6 @@
 //! Hexadecimal words, in upper and lower case.
 
-ghost use Rattle.std.specs.Prelude.{◌≡◌};
+ghost use Rattle.std.specs.Prelude.{◌≡◌, [], Some, None, IfSome, IfNone};
 ghost use Rattle.fw_script_command.specs.Words.{offset_in, word_in, frame_in};
 
 use fw_words::Bytes;
@@ -26,9 +26,11 @@ pub(crate) fn word(word: &[u8]) -> Option<u32>
     Some(u32::from_be_bytes(bytes))
 }
 
-/// Two digits a byte: a frame of 1 to 110 bytes.
-pub(crate) fn frame(word: &[u8]) -> Option<Bytes<110>>
-    ensures { result ≡ frame_in word.now }
+/// Two digits a byte: a frame of 1 to 110 bytes, which is put into `out`.
+pub(crate) fn frame(word: &[u8], out: &mut Bytes<110>) -> Option<()>
+    requires { out.old ≡ [] }
+    ensures some { IfSome result (λ u. frame_in word.now ≡ Some out.new) }
+    ensures none { IfNone result (frame_in word.now ≡ None) }
 {
     if word.is_empty() || word.len() > 220 {
         return None;
@@ -36,7 +38,6 @@ pub(crate) fn frame(word: &[u8]) -> Option<Bytes<110>>
     let mut buffer = [0; 110];
     let bytes = &mut buffer[..word.len() / 2];
     hex::decode_to_slice(word, bytes).ok()?;
-    let mut frame = Bytes::new();
-    frame.append(bytes);
-    Some(frame)
+    out.append(bytes);
+    Some(())
 }

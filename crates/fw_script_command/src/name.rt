@@ -1,12 +1,13 @@
 //! Names of devices.
 
-ghost use Rattle.std.specs.Prelude.{◌≡◌, ◌↔◌, ◌≤◌, ◌++◌, length, take, drop, IsTrue, nat_eq};
+ghost use Rattle.std.specs.Prelude.{◌≡◌, ◌↔◌, ◌≤◌, ◌++◌, length, take, drop, IfSome, IfNone, IsTrue, true, false, nat_eq};
+ghost use Rattle.std.specs.List.{list_all};
 ghost use Rattle.std.specs.Int.{w64, from_le_bytes, to_le_bytes};
 ghost use Rattle.std.specs.Cmp.Lexicographic.{pointwise, nat_list_eq_equiv};
 ghost use Rattle.std.specs.Cmp.{partial_equiv_from_equiv};
-ghost use Rattle.fw_script_command.specs.Words.{name_in};
+ghost use Rattle.fw_script_command.specs.Words.{is_name_byte, name_in};
 
-use crate::words::name;
+use crate::words::{is_name_byte, name};
 use std::marker::Model;
 
 /// A device's name: 1 to 16 of a to z and 0 to 9, the first a letter, and none of `manager`, `any` and `late`.
@@ -34,17 +35,24 @@ impl Model for Name {
 }
 
 impl Name {
-    // The name of these bytes.
-    pub(crate) fn from_bytes(word: &[u8]) -> Name
+    // The name of these bytes, if each is one of a name's.
+    // One loop tests and copies, since names are short: a call that copies takes longer.
+    pub(crate) fn from_bytes(word: &[u8]) -> Option<Name>
         requires { length word.now ≤ 16 }
-        ensures { result ≡ word.now }
+        ensures some { IfSome result (λ n. (list_all is_name_byte word.now ≡ true) × (n ≡ word.now)) }
+        ensures none { IfNone result (list_all is_name_byte word.now ≡ false) }
     {
         let mut bytes = [0; 16];
-        bytes[..word.len()].copy_from_slice(word);
-        Name {
+        for (i, b) in word.iter().enumerate() {
+            if !is_name_byte(*b) {
+                return None;
+            }
+            bytes[i] = *b;
+        }
+        Some(Name {
             bytes,
             count: word.len() as u8,
-        }
+        })
     }
 
     /// The name that a word is. None exactly if it is no name.
@@ -77,9 +85,9 @@ fn numbers(bytes: &[u8; 16]) -> (u64, u64)
 fn are_same(one: &[u8; 16], other: &[u8; 16]) -> bool
     ensures { IsTrue result ↔ (one.now ≡ other.now) }
 {
-    let (one_front, one_back) = numbers(one);
-    let (other_front, other_back) = numbers(other);
-    one_front == other_front && one_back == other_back
+    let (one_prefix, one_back) = numbers(one);
+    let (other_prefix, other_back) = numbers(other);
+    one_prefix == other_prefix && one_back == other_back
 }
 
 impl PartialEq for Name {

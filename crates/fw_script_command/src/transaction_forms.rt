@@ -7,6 +7,7 @@ ghost use Rattle.fw_script_command.specs.declared.command.Command.{Command};
 use crate::Command;
 use crate::cut::Pieces;
 use crate::keyword::Keyword;
+use fw_words::Bytes;
 
 /// `wait CYCLES`
 pub(crate) fn wait(words: &mut Pieces, out: &mut Command) -> Option<()>
@@ -37,10 +38,13 @@ pub(crate) fn command(words: &mut Pieces, out: &mut Command) -> Option<()>
 {
     let sender = words.name()?;
     let target = words.name()?;
-    let frame = words.frame()?;
-    words.end()?;
-    *out = Command::Command(sender, target, frame);
-    Some(())
+    // The frame is read where it is to stand.
+    *out = Command::Command(sender, target, Bytes::new());
+    let Command::Command(_, _, frame) = out else {
+        unreachable!();
+    };
+    words.frame(frame)?;
+    words.end()
 }
 
 /// `read NAME NAME OFF`

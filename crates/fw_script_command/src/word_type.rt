@@ -6,6 +6,7 @@ ghost use Rattle.fw_script_command.specs.Types.{fits, may_lack, range_of};
 use crate::codes::{channel, kind, late, shown, speed, system};
 use crate::hexadecimal;
 use crate::words::{name, number, place};
+use fw_words::Bytes;
 
 /// The highest port of a device.
 pub(crate) const LAST_PORT: u8 = 26;
@@ -102,7 +103,7 @@ impl WordType {
             WordType::Channel => channel(word).is_some(),
             WordType::Offset => hexadecimal::offset(word).is_some(),
             WordType::Quadlet => hexadecimal::word(word).is_some(),
-            WordType::Frame => hexadecimal::frame(word).is_some(),
+            WordType::Frame => hexadecimal::frame(word, &mut Bytes::new()).is_some(),
             WordType::Late => late(word).is_some(),
             WordType::Number(number) => number.fits(word),
         }

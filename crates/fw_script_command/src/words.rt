@@ -4,7 +4,7 @@ ghost use Rattle.std.specs.Prelude.{◌≡◌, ◌≤◌, ◌^◌, IfSome, IfNon
 ghost use Rattle.std.specs.List.{list_all};
 ghost use Rattle.std.specs.Char.{is_ascii_digit};
 ghost use Rattle.std.specs.Str.Parse.{digits_value};
-ghost use Rattle.fw_script_command.specs.Words.{is, is_name, is_name_byte, is_taken, name_in, is_decimal, number_in, place_in};
+ghost use Rattle.fw_script_command.specs.Words.{is, is_name_byte, is_taken, name_in, is_decimal, number_in, place_in};
 
 use crate::Name;
 use crate::cut::Pieces;
@@ -18,32 +18,17 @@ pub(crate) fn is(word: &[u8], text: &[u8]) -> bool
 }
 
 /// The word is reserved: `manager`, `any` or `late`, which name no device.
-// By patterns: it is asked of each name of a script, if `is` costs a call a text.
+// By patterns: it is asked of each name of a script, and `is` costs a call a text.
 pub fn is_taken(word: &[u8]) -> bool
     ensures { result ≡ is_taken word.now }
 {
     matches!(word, b"manager" | b"any" | b"late")
 }
 
-fn is_name_byte(b: u8) -> bool
+pub(crate) fn is_name_byte(b: u8) -> bool
     ensures { result ≡ is_name_byte b }
 {
     b.is_ascii_lowercase() || b.is_ascii_digit()
-}
-
-fn are_name_bytes(word: &[u8]) -> bool
-    ensures { result ≡ list_all is_name_byte word.now }
-{
-    word.iter().all(|b| is_name_byte(*b))
-}
-
-fn is_name(word: &[u8]) -> bool
-    ensures { result ≡ is_name word.now }
-{
-    if word.is_empty() || word.len() > 16 || !word[0].is_ascii_lowercase() {
-        return false;
-    }
-    are_name_bytes(word) && !is_taken(word)
 }
 
 fn are_digits(word: &[u8]) -> bool
@@ -53,15 +38,13 @@ fn are_digits(word: &[u8]) -> bool
 }
 
 /// The name that the word is.
-#[inline(always)]
 pub(crate) fn name(word: &[u8]) -> Option<Name>
     ensures { result ≡ name_in word.now }
 {
-    if is_name(word) {
-        Some(Name::from_bytes(word))
-    } else {
-        None
+    if word.is_empty() || word.len() > 16 || !word[0].is_ascii_lowercase() || is_taken(word) {
+        return None;
     }
+    Name::from_bytes(word)
 }
 
 /// The value of decimal digits without a leading zero.

@@ -38,10 +38,10 @@ size_of_first epoch t log more a b f e high low =
 
 -- ---- one entry more
 
-last_behind : (ws : List ℕ) (w : ℕ) → last_of (ws ++ w ∷ []) ≡ w
-last_behind [] w = refl
-last_behind (v ∷ []) w = refl
-last_behind (v ∷ u ∷ us) w = last_behind (u ∷ us) w
+last_after : (ws : List ℕ) (w : ℕ) → last_of (ws ++ w ∷ []) ≡ w
+last_after [] w = refl
+last_after (v ∷ []) w = refl
+last_after (v ∷ u ∷ us) w = last_after (u ∷ us) w
 
 -- an entry that shows a word is no other that is counted
 record IsShown (e : Entry) (w : ℕ) : Type 0 where
@@ -82,7 +82,7 @@ counts_shown log t w old new e h is =
       restored = h.restored ∙ none_more (λ (x : Timed). is_outcome is_restored x.what) log t (s.outcome is_restored);
       refused = h.refused ∙ none_more (λ (x : Timed). is_outcome is_other x.what) log t (s.outcome is_other);
       remainder = sym (ap last_of (flat_map-append (λ (x : Timed). words_in x.what) log (t ∷ [])
-          ∙ ap (λ (ws : List ℕ). flat_map (λ (x : Timed). words_in x.what) log ++ ws) (append-nil (words_in t.what) ∙ s.words)) ∙ last_behind (flat_map (λ (x : Timed). words_in x.what) log) w);
+          ∙ ap (λ (ws : List ℕ). flat_map (λ (x : Timed). words_in x.what) log ++ ws) (append-nil (words_in t.what) ∙ s.words)) ∙ last_after (flat_map (λ (x : Timed). words_in x.what) log) w);
     })
 
 -- ---- entry after entry
@@ -104,11 +104,11 @@ others_fit : (t : Timed) (ts : List Timed) → All TimedFits (t ∷ ts) → All 
 others_fit t ts fit = λ k d h. fit (suc k) d (omega (arith, h))
 
 -- the next entry was counted
-pub walked_more : {log more : List Timed} {rest : List ℕ} {tally : Tally} (o : Option ℕ) (size : ℕ) (front back : List ℕ) (counted : Counted) (next : Tally) (w : Walked log more rest tally)
+pub walked_more : {log more : List Timed} {rest : List ℕ} {tally : Tally} (o : Option ℕ) (size : ℕ) (prefix back : List ℕ) (counted : Counted) (next : Tally) (w : Walked log more rest tally)
     → o ≡ Some size → ((n : ℕ) (t : Timed) (x : List ℕ) → TimedFits t → rest ≡ entry_bytes Two n t ++ x → o ≡ Some (length (entry_bytes Two n t))) → (rest ≡ [] → o ≡ None)
-    → front ≡ take size rest → back ≡ drop size rest → ((n : ℕ) (t : Timed) → TimedFits t → front ≡ entry_bytes Two n t → counted ≡ counted_in t.what)
+    → prefix ≡ take size rest → back ≡ drop size rest → ((n : ℕ) (t : Timed) → TimedFits t → prefix ≡ entry_bytes Two n t → counted ≡ counted_in t.what)
     → ((so : List Timed) (t : Timed) → counted ≡ counted_in t.what → Counts so tally → Counts (so ++ t ∷ []) next) → Walked log more back next
-walked_more {log} {more} {rest} {tally} o size front back counted next w is first none cut_front cut_back reads counts = by w.left w.parts w.fit w.bytes
+walked_more {log} {more} {rest} {tally} o size prefix back counted next w is first none cut_prefix cut_back reads counts = by w.left w.parts w.fit w.bytes
   where
     by : (left : List Timed) → more ≡ w.done ++ left → All TimedFits left → rest ≡ entries_bytes Two w.epoch left → Walked log more back next
     by [] parts fit bytes = let wrong : Some size ≡ None = sym is ∙ none bytes in cc wrong
@@ -116,9 +116,9 @@ walked_more {log} {more} {rest} {tally} o size front back counted next w is firs
         let n : ℕ = epoch_after w.epoch t.what in
         let same : Some size ≡ Some (length (entry_bytes Two n t)) = sym is ∙ first n t (entries_bytes Two n ts) (first_fits t ts fit) bytes in
         let long : size ≡ length (entry_bytes Two n t) = cc same in
-        let head : front ≡ entry_bytes Two n t = cut_front ∙ ap (λ (k : ℕ). take k rest) long ∙ ap (λ (l : List ℕ). take (length (entry_bytes Two n t)) l) bytes
+        let head : prefix ≡ entry_bytes Two n t = cut_prefix ∙ ap (λ (k : ℕ). take k rest) long ∙ ap (λ (l : List ℕ). take (length (entry_bytes Two n t)) l) bytes
         ∙ take-append_seam (entry_bytes Two n t) (entries_bytes Two n ts) in
-        let behind : back ≡ entries_bytes Two n ts = cut_back ∙ ap (λ (k : ℕ). drop k rest) long ∙ ap (λ (l : List ℕ). drop (length (entry_bytes Two n t)) l) bytes
+        let following : back ≡ entries_bytes Two n ts = cut_back ∙ ap (λ (k : ℕ). drop k rest) long ∙ ap (λ (l : List ℕ). drop (length (entry_bytes Two n t)) l) bytes
         ∙ drop-append_seam (entry_bytes Two n t) (entries_bytes Two n ts) in
         record {
           done = w.done ++ t ∷ [];
@@ -126,7 +126,7 @@ walked_more {log} {more} {rest} {tally} o size front back counted next w is firs
           epoch = n;
           parts = parts ∙ sym (append_assoc w.done (t ∷ []) ts);
           fit = others_fit t ts fit;
-          bytes = behind;
+          bytes = following;
           counts = subst (λ (l : List Timed). Counts l next) (append_assoc log w.done (t ∷ [])) (counts (log ++ w.done) t (reads n t (first_fits t ts fit) head) w.counts);
         }
 
@@ -141,11 +141,11 @@ walked_all {log} {more} {rest} {tally} o w is first = by w.left w.parts w.fit w.
         let wrong : None ≡ Some (length (entry_bytes Two n t)) = sym is ∙ first n t (entries_bytes Two n ts) (first_fits t ts fit) bytes in cc wrong
 
 -- a count is full only after so many entries
-pub walked_full : {log more : List Timed} {rest : List ℕ} {tally : Tally} (o : Option ℕ) (size : ℕ) (front : List ℕ) (counted : Counted) (w : Walked log more rest tally)
+pub walked_full : {log more : List Timed} {rest : List ℕ} {tally : Tally} (o : Option ℕ) (size : ℕ) (prefix : List ℕ) (counted : Counted) (w : Walked log more rest tally)
     → o ≡ Some size → ((n : ℕ) (t : Timed) (x : List ℕ) → TimedFits t → rest ≡ entry_bytes Two n t ++ x → o ≡ Some (length (entry_bytes Two n t))) → (rest ≡ [] → o ≡ None)
-    → front ≡ take size rest → ((n : ℕ) (t : Timed) → TimedFits t → front ≡ entry_bytes Two n t → counted ≡ counted_in t.what)
+    → prefix ≡ take size rest → ((n : ℕ) (t : Timed) → TimedFits t → prefix ≡ entry_bytes Two n t → counted ≡ counted_in t.what)
     → ((so : List Timed) (t : Timed) → counted ≡ counted_in t.what → Counts so tally → 2 ^ 64 ≤ length so + 1) → 2 ^ 64 ≤ length (log ++ more)
-walked_full {log} {more} {rest} {tally} o size front counted w is first none cut_front reads full = by w.left w.parts w.fit w.bytes
+walked_full {log} {more} {rest} {tally} o size prefix counted w is first none cut_prefix reads full = by w.left w.parts w.fit w.bytes
   where
     by : (left : List Timed) → more ≡ w.done ++ left → All TimedFits left → rest ≡ entries_bytes Two w.epoch left → 2 ^ 64 ≤ length (log ++ more)
     by [] parts fit bytes = let wrong : Some size ≡ None = sym is ∙ none bytes in cc wrong
@@ -153,7 +153,7 @@ walked_full {log} {more} {rest} {tally} o size front counted w is first none cut
         let n : ℕ = epoch_after w.epoch t.what in
         let same : Some size ≡ Some (length (entry_bytes Two n t)) = sym is ∙ first n t (entries_bytes Two n ts) (first_fits t ts fit) bytes in
         let long : size ≡ length (entry_bytes Two n t) = cc same in
-        let head : front ≡ entry_bytes Two n t = cut_front ∙ ap (λ (k : ℕ). take k rest) long ∙ ap (λ (l : List ℕ). take (length (entry_bytes Two n t)) l) bytes
+        let head : prefix ≡ entry_bytes Two n t = cut_prefix ∙ ap (λ (k : ℕ). take k rest) long ∙ ap (λ (l : List ℕ). take (length (entry_bytes Two n t)) l) bytes
         ∙ take-append_seam (entry_bytes Two n t) (entries_bytes Two n ts) in
         let many = full (log ++ w.done) t (reads n t (first_fits t ts fit) head) w.counts in
         let size : length more ≡ length (w.done ++ t ∷ ts) = ap (λ (l : List Timed). length l) parts in

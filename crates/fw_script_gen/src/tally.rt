@@ -130,9 +130,9 @@ impl Tally {
     {
         let mut rest = bytes;
         while let Some(size) = entry_size(rest) {
-            let (entry, behind) = rest.split_at(size);
+            let (entry, following) = rest.split_at(size);
             *self = self.with(counted_in(entry))?;
-            rest = behind;
+            rest = following;
         }
         Ok(())
     }

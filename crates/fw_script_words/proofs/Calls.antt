@@ -11,15 +11,15 @@ use Rattle.fw_script.specs.Reading.{GivesNext, with_taken}
 use Rattle.fw_script.specs.Script.{Tells, start_of}
 use Rattle.fw_script.specs.Leading.{Leads, BeginsWith, TakesFrom, HasRead}
 use Rattle.fw_script.specs.Leading.Leads.{nothing}
-use Rattle.fw_script.specs.declared.stage.Stage.{Stage}
-use Rattle.fw_script.specs.declared.stage.Stage.TheVariants.{Commands, AfterEnd, Done, Failed}
+use Rattle.fw_script.specs.declared.stage.ReaderStage.{ReaderStage}
+use Rattle.fw_script.specs.declared.stage.ReaderStage.TheVariants.{Commands, AfterEnd, Done, Failed}
 use Rattle.fw_script.proofs.CallLaws.{next_open, gave_all, before_none, met_end, read_command, read_end}
 use Rattle.fw_script.proofs.GivesLaws.{goes_whole}
 use Rattle.fw_script.proofs.StepLaws.{advances_by, goes_in_turn, goes_passed, goes_taken}
 use Rattle.fw_model_run.specs.Logs.{HasNoEnd}
 use Rattle.fw_script_words.specs.Going.{HasEnded, HasReadTo, IsReading}
-use Rattle.fw_script_words.proofs.Givings.{is_end, given_some, behind_command, over_end, no_end_led}
-use Rattle.fw_script_words.proofs.Takings.{left_behind, all_held}
+use Rattle.fw_script_words.proofs.Givings.{is_end, given_some, following_command, over_end, no_end_led}
+use Rattle.fw_script_words.proofs.Takings.{left_following, all_held}
 
 -- the answer is a command or a fault
 abbrev pub IsSomething : Answer → Type 0
@@ -51,7 +51,7 @@ passed_failed (over_end_line t n a k i f h) e = let wrong : AfterEnd ≡ Failed 
 pub may_read : {left now : Option (List ℕ)} {given : List Command} {reader : Reading} → IsReading left now given reader → reader.stage ≢ Failed
 may_read {left} {now} {given} {reader} h e = by_stage h.known.stage (passed_failed h.passed e) h.read
   where
-    by_stage : (s : Stage) → s ≡ Failed → HasReadTo s left now given h.known → ⊥
+    by_stage : (s : ReaderStage) → s ≡ Failed → HasReadTo s left now given h.known → ⊥
     by_stage Commands f so = cc
     by_stage AfterEnd f so = so
     by_stage Done f so = cc
@@ -62,15 +62,15 @@ pub given_before : {left mid : Option (List ℕ)} {given : List Command} {reader
     → Advances reader new mid left' r → IsGiven left mid left' given new r
 given_before {left} {mid} {given} {reader} left' new r some h a = by_stage h.known.stage refl h.read
   where
-    by_stage : (s : Stage) → h.known.stage ≡ s → HasReadTo s left mid given h.known → IsGiven left mid left' given new r
+    by_stage : (s : ReaderStage) → h.known.stage ≡ s → HasReadTo s left mid given h.known → IsGiven left mid left' given new r
     by_stage Commands e so =
         let gave : GivesFirst a.known r new = next_open reader.stage a.known new r some a.gives in
-        let opened : IsOpen h.known.stage = subst (λ (x : Stage). IsOpen x) (sym e) tt in
+        let opened : IsOpen h.known.stage = subst (λ (x : ReaderStage). IsOpen x) (sym e) tt in
         let on : ReadsOn h.known a.known mid left' = goes_in_turn h.known reader a.known mid mid left' (goes_passed h.known reader mid h.passed) (goes_taken reader a.known mid left' a.takes) in
         let call = advances_by h.known a.known new mid left' r opened on gave in
         record { old = h.known; so = so; call = call; gives = next_open h.known.stage call.known new r some call.gives }
     by_stage AfterEnd e so = absurd so
-    by_stage Done e so = let g = subst (λ (x : Stage). GivesNext x a.known r new) (passed_done h.passed e) a.gives in absurd (some g.0)
+    by_stage Done e so = let g = subst (λ (x : ReaderStage). GivesNext x a.known r new) (passed_done h.passed e) a.gives in absurd (some g.0)
     by_stage Failed e so = absurd so
 
 -- nothing is given only after the end
@@ -78,15 +78,15 @@ pub ended_before : {left now : Option (List ℕ)} {given : List Command} {reader
     → GivesNext reader.stage known (Ok None) new → HasEnded left now given reader
 ended_before {left} {now} {given} {reader} known new h g = by_stage h.known.stage refl h.read
   where
-    open_gives : (s : Stage) → IsOpen s → GivesNext s known (Ok None) new → GivesFirst known (Ok None) new
+    open_gives : (s : ReaderStage) → IsOpen s → GivesNext s known (Ok None) new → GivesFirst known (Ok None) new
     open_gives Commands o x = x
     open_gives AfterEnd o x = x
     open_gives Done o x = absurd o
     open_gives Failed o x = absurd o
 
-    by_stage : (s : Stage) → h.known.stage ≡ s → HasReadTo s left now given h.known → HasEnded left now given reader
+    by_stage : (s : ReaderStage) → h.known.stage ≡ s → HasReadTo s left now given h.known → HasEnded left now given reader
     by_stage Commands e so =
-        let opened : IsOpen reader.stage = passed_open h.passed (subst (λ (x : Stage). IsOpen x) (sym e) tt) in
+        let opened : IsOpen reader.stage = passed_open h.passed (subst (λ (x : ReaderStage). IsOpen x) (sym e) tt) in
         absurd (given_some (open_gives reader.stage opened g) refl)
     by_stage AfterEnd e so = absurd so
     by_stage Done e so = record {
@@ -102,21 +102,21 @@ ended_before {left} {now} {given} {reader} known new h g = by_stage h.known.stag
     by_stage Failed e so = absurd so
 
 -- what the source still tells
-pub told_behind : (left now : Option (List ℕ)) (xs : List ℕ) (whole : Bool) → Takes left now xs → (whole ≡ true → IsAtEnd now)
+pub told_following : (left now : Option (List ℕ)) (xs : List ℕ) (whole : Bool) → Takes left now xs → (whole ≡ true → IsAtEnd now)
     → (more : List ℕ) × Tells left (xs ++ more) × (whole ≡ true → more ≡ [])
-told_behind None None xs whole t met = ([], tt, λ w. refl)
-told_behind None (Some ys) xs whole t met = absurd t
-told_behind (Some old) None xs whole t met = absurd t
-told_behind (Some old) (Some ys) xs whole t met = (ys, t, met)
+told_following None None xs whole t met = ([], tt, λ w. refl)
+told_following None (Some ys) xs whole t met = absurd t
+told_following (Some old) None xs whole t met = absurd t
+told_following (Some old) (Some ys) xs whole t met = (ys, t, met)
 
 -- nothing was taken of what the source tells
 pub takes_nothing : (left : Option (List ℕ)) → (script : List ℕ) × TakesFrom left left script
 takes_nothing left =
-    let m = told_behind left left [] false (Takes-nothing left) (λ w. absurd cc) in
-    (m.0, record { taken = []; behind = m.0; parts = refl; takes = Takes-nothing left; told = m.1 })
+    let m = told_following left left [] false (Takes-nothing left) (λ w. absurd cc) in
+    (m.0, record { taken = []; following = m.0; parts = refl; takes = Takes-nothing left; told = m.1 })
 
 pub begins_nothing : (script : List ℕ) → BeginsWith script []
-begins_nothing script = record { behind = start_of script; leads = nothing }
+begins_nothing script = record { following = start_of script; leads = nothing }
 
 -- one call that gave a command or a fault, over all bytes that are left
 module _ (left mid left' : Option (List ℕ)) (given : List Command) (old new : Reading) (r : Answer) (some : IsSomething r) (so : HasRead left mid given old) (a : Advances old new mid left' r) where
@@ -126,15 +126,15 @@ module _ (left mid left' : Option (List ℕ)) (given : List Command) (old new : 
   pub all_taken : Takes left left' all
   all_taken = Takes-Takes left mid left' so.taken a.takes.taken so.takes a.takes.takes
 
-  abbrev pub behind : (more : List ℕ) × Tells left (all ++ more) × (new.whole ≡ true → more ≡ [])
-  behind = told_behind left left' all new.whole all_taken (met_end old new mid left' r some a so.met)
+  abbrev pub following : (more : List ℕ) × Tells left (all ++ more) × (new.whole ≡ true → more ≡ [])
+  following = told_following left left' all new.whole all_taken (met_end old new mid left' r some a so.met)
 
   -- the script
   abbrev pub whole_script : List ℕ
-  whole_script = all ++ behind.0
+  whole_script = all ++ following.0
 
   abbrev pub whole_takes : TakesFrom left left' whole_script
-  whole_takes = record { taken = all; behind = behind.0; parts = refl; takes = all_taken; told = behind.1 }
+  whole_takes = record { taken = all; following = following.0; parts = refl; takes = all_taken; told = following.1 }
 
   -- what was given before, and what the call gave
   lines : (more : List ℕ) → (new.whole ≡ true → more ≡ []) → (q : Reading) × Leads (start_of (all ++ more)) given q × GivesFirst q r (with_taken new more true)
@@ -145,14 +145,14 @@ module _ (left mid left' : Option (List ℕ)) (given : List Command) (old new : 
     gave_all old new mid left' r some a more none,
   )
 
-  pub the_lines : (q : Reading) × Leads (start_of whole_script) given q × GivesFirst q r (with_taken new behind.0 true)
-  the_lines = lines behind.0 behind.2
+  pub the_lines : (q : Reading) × Leads (start_of whole_script) given q × GivesFirst q r (with_taken new following.0 true)
+  the_lines = lines following.0 following.2
 
   -- what was taken beyond the lines is held
   pub taken_held : length all ≤ new.before + length new.rest
   taken_held =
       let l = lines [] (λ w. refl) in
-      let rest : new.rest ++ [] ≡ drop new.before (all ++ []) = left_behind refl l.1 l.2 in
+      let rest : new.rest ++ [] ≡ drop new.before (all ++ []) = left_following refl l.1 l.2 in
       all_held all new.rest new.before (sym (append-nil new.rest) ∙ (rest ∙ ap (λ (bytes : List ℕ). drop new.before bytes) (append-nil all)))
 
 pub some_command : (c : Command) → IsSomething (Ok (Some c))
@@ -178,15 +178,15 @@ pub reads_on : (left mid left' : Option (List ℕ)) (given : List Command) (old 
     → (a : Advances old new mid left' (Ok (Some c))) → GivesFirst a.known (Ok (Some c)) new → HasReadTo new.stage left left' (given ++ c ∷ []) new
 reads_on left mid left' given old new c so a g = by_end (is_end c)
   where
-    at_stage : (s : Stage) → new.stage ≡ s → HasReadTo s left left' (given ++ c ∷ []) new → HasReadTo new.stage left left' (given ++ c ∷ []) new
-    at_stage s e h = subst (λ (x : Stage). HasReadTo x left left' (given ++ c ∷ []) new) (sym e) h
+    at_stage : (s : ReaderStage) → new.stage ≡ s → HasReadTo s left left' (given ++ c ∷ []) new → HasReadTo new.stage left left' (given ++ c ∷ []) new
+    at_stage s e h = subst (λ (x : ReaderStage). HasReadTo x left left' (given ++ c ∷ []) new) (sym e) h
 
     by_end : (c ≡ End) ⊎ (c ≢ End) → HasReadTo new.stage left left' (given ++ c ∷ []) new
     by_end (inl e) =
         let over = subst (λ (x : Command). (b : Advances old new mid left' (Ok (Some x))) × GivesFirst b.known (Ok (Some x)) new) e (a, g) in
         let h = given_end left mid left' given old new so over.0 over.1 in
         at_stage Done h.1 (subst (λ (x : Command). HasEnded left left' (given ++ x ∷ []) new) (sym e) h.0)
-    by_end (inr o) = at_stage Commands (behind_command g c refl o).stage (read_command left mid left' given old new c so a o)
+    by_end (inr o) = at_stage Commands (following_command g c refl o).stage (read_command left mid left' given old new c so a o)
 
 -- after the end nothing more was taken
 pub still_ended : (left mid left' : Option (List ℕ)) (given : List Command) (old new : Reading) (h : HasEnded left mid given old)

@@ -1,5 +1,5 @@
 -- What most files of proofs import.
-pub use Rattle.fw_bus.specs.Buses.{Standing, StandsFor}
+pub use Rattle.fw_bus.specs.Buses.{BusView, StandsFor}
 pub use Rattle.fw_script_command.specs.declared.command.Command.{Command}
 pub use Rattle.fw_script_command.specs.declared.command.Command.TheVariants.{End}
 pub use Rattle.fw_log_entry.specs.Log.{header_bytes, latest_epoch}

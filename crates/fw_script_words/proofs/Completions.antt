@@ -5,7 +5,7 @@ use Rattle.fw_script_words.proofs.Common.{RunEnding, Done, Refused, Stopped, Rul
 use Rattle.std.proofs.Common.{false}
 use Rattle.fw_script.specs.Script.{IsScript}
 use Rattle.fw_script.specs.declared.ScriptFault.TheVariants as Fault
-use Rattle.fw_script.proofs.ScriptLaws.{says_once, says_after, says_behind}
+use Rattle.fw_script.proofs.ScriptLaws.{says_once, says_after, says_following}
 use Rattle.fw_order.specs.declared.rule.RuleFault.{RuleFault}
 use Rattle.fw_order.specs.declared.rule.RuleFault.TheVariants.{UnknownName, NameTaken, TooMany, NoPort, PortUsed, Loop, NotController, Guarded, NoRegister, Limit}
 use Rattle.fw_order.specs.declared.rule.RuleFault.TheVariants.{TableFull, Busy, NoSuchConnection, NotOwnPlug, OffBus, NoDeck, NothingStands, TooLate, NotCapable, NotCandidate}
@@ -53,7 +53,7 @@ other_than_end s c f d e = end_allowed s f (subst (λ (x : Command). Decides s x
 no_command : {D : DeskRelations} (script : List ℕ) (left' held held' : Option (List ℕ)) (rule : RuleFault) (line : ℕ) → RefusesCommand D (Some script) left' held held' rule line → IsValid script → ⊥
 no_command script left' held held' rule line r v =
     let says = subst (λ (bytes : List ℕ). IsScript bytes v.commands None) r.takes.told v.says in
-    let first = says_behind r.on_line.leads v.commands None says in
+    let first = says_following r.on_line.leads v.commands None says in
     let next = says_after r.command r.on_line.gives (other_than_end r.logged.state r.command rule r.decided) first.2 in
     v.allowed r.commands next.0 r.command r.logged.actions r.logged.log r.logged.state rule (first.1 ∙ ap (λ (cs : List Command). r.commands ++ cs) next.1) r.logged.run r.decided
 

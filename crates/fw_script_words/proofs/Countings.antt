@@ -1,7 +1,7 @@
 -- A run in memory, whose entries are counted command after command.
 use Rattle.fw_script_words.proofs.Common.{◌≡◌, ◌≢◌, ℕ, ◌≤◌, List, [], ◌++◌, length, Option, Some, refl, ap, sym, subst, ◌∙◌, arith, IsFalse, ReadFault, WriteFault, TooLong, NoMemory, header_bytes}
 use Rattle.fw_script_words.proofs.Common.{latest_epoch, Two, Reading, unread, log_bytes, DeskRelations, first_state, StandsFor}
-use Rattle.fw_script_words.proofs.Common.{Standing, ReadCount, Course, Going, Ended, course_of, IsValid, IsNoRefusal}
+use Rattle.fw_script_words.proofs.Common.{BusView, ReadCount, Course, Going, Ended, course_of, IsValid, IsNoRefusal}
 use Rattle.fw_script_words.proofs.Common.{RunEnding, Done, Refused, Stopped}
 use Rattle.fw_outside.specs.Outside.{Rose}
 use Rattle.fw_log_entry.specs.declared.entry.Timed.{Timed}
@@ -18,13 +18,13 @@ use Rattle.fw_script_words.proofs.Completions.{never_refused}
 
 -- The commands so far were carried out, as over a sink that keeps all their log, and the entries of that log were counted. The
 -- sink that is there was emptied.
-pub record IsCounting (D : DeskRelations) (script now held : List ℕ) (reader : Reading) (bus : Standing) (tally : Tally) : Type 0 where
+pub record IsCounting (D : DeskRelations) (script now held : List ℕ) (reader : Reading) (bus : BusView) (tally : Tally) : Type 0 where
   pub written : List ℕ
   pub going : Going D (Some script) (Some now) (Some []) (Some written) reader bus
   pub counts : Counts going.log tally
   pub empty : held ≡ []
 
-pub counting_first : {D : DeskRelations} (script now held : List ℕ) (reader : Reading) (bus : Standing) (tally : Tally) → reader ≡ unread → StandsFor bus.machine first_state → IsFalse bus.spent
+pub counting_first : {D : DeskRelations} (script now held : List ℕ) (reader : Reading) (bus : BusView) (tally : Tally) → reader ≡ unread → StandsFor bus.machine first_state → IsFalse bus.spent
     → now ≡ script → held ≡ [] → Counts [] tally → IsCounting D script now held reader bus tally
 unfolding going_first
 counting_first {D} script now held reader bus tally new stands fresh same empty counts = record {
@@ -40,15 +40,15 @@ pub kept_elsewhere : (written held held' : List ℕ) → held ≡ [] → Mirrors
 kept_elsewhere written held held' empty bytes h = ap (λ (l : List ℕ). written ++ l) (h ∙ ap (λ (l : List ℕ). l ++ bytes) empty)
 
 -- what the sink holds are the entries of one command
-pub given_alone : {D : DeskRelations} {script now held : List ℕ} {reader : Reading} {bus : Standing} {tally : Tally} (i : IsCounting D script now held reader bus tally) (now' held' : List ℕ)
-    (reader' : Reading) (bus' : Standing)
+pub given_alone : {D : DeskRelations} {script now held : List ℕ} {reader : Reading} {bus : BusView} {tally : Tally} (i : IsCounting D script now held reader bus tally) (now' held' : List ℕ)
+    (reader' : Reading) (bus' : BusView)
     → (d : Carried D (Some script) (Some now) (Some now') (Some []) (Some (i.written ++ held')) (Some held) (Some held') (course_of i.going) reader reader' bus')
     → held' ≡ log_bytes (latest_epoch 0 i.going.log) d.out
 given_alone i now' held' reader' bus' d = d.wrote ∙ ap (λ (l : List ℕ). l ++ log_bytes (latest_epoch 0 i.going.log) d.out) i.empty
 
 -- and were counted
-pub counting_more : {D : DeskRelations} {script now held : List ℕ} {reader : Reading} {bus : Standing} {tally : Tally} (i : IsCounting D script now held reader bus tally) (now' held' empty : List ℕ)
-    (reader' : Reading) (bus' : Standing) (tally' : Tally)
+pub counting_more : {D : DeskRelations} {script now held : List ℕ} {reader : Reading} {bus : BusView} {tally : Tally} (i : IsCounting D script now held reader bus tally) (now' held' empty : List ℕ)
+    (reader' : Reading) (bus' : BusView) (tally' : Tally)
     → (d : Carried D (Some script) (Some now) (Some now') (Some []) (Some (i.written ++ held')) (Some held) (Some held') (course_of i.going) reader reader' bus')
     → Counts (i.going.log ++ d.out) tally' → empty ≡ [] → IsCounting D script now' empty reader' bus' tally'
 counting_more i now' held' empty reader' bus' tally' d counts none = record {
@@ -63,7 +63,7 @@ within : {D : DeskRelations} (script : List ℕ) (left' held held' : Option (Lis
 within script left' held held' short d = let same : length script ≡ length d.refused.script = ap (λ (l : List ℕ). length l) d.refused.takes.told in omega (arith, short, d.long, same)
 
 -- how the counted run ends
-pub counted_ends : (D : DeskRelations) (script now now' written : List ℕ) (course : Course) (reader reader' : Reading) (bus : Standing) (tally : Tally) (e : RunEnding) → length script ≤ 1048576
+pub counted_ends : (D : DeskRelations) (script now now' written : List ℕ) (course : Course) (reader reader' : Reading) (bus : BusView) (tally : Tally) (e : RunEnding) → length script ≤ 1048576
     → Counts course.log tally → ReadCount 0 0 e
     → Ended D (Some script) (Some now) (Some now') (Some []) (Some written) course reader reader' bus e → Counted D script tally (in_memory e)
 counted_ends D script now now' written course reader reader' bus tally Done short counts read d = record {

@@ -1,6 +1,6 @@
 -- A run in memory whose log is kept nowhere, and its reel.
 use Rattle.fw_script_words.proofs.Common.{◌≡◌, ◌≢◌, ℕ, List, [], Option, Some, refl, subst, IsFalse, ReadFault, WriteFault, TooLong, NoMemory, header_bytes, Two, Reading, unread, DeskRelations}
-use Rattle.fw_script_words.proofs.Common.{first_state, StandsFor, Standing, ReadCount, Course, Going, Ended, IsValid, IsNoRefusal, RunEnding, Done, Refused, Stopped}
+use Rattle.fw_script_words.proofs.Common.{first_state, StandsFor, BusView, ReadCount, Course, Going, Ended, IsValid, IsNoRefusal, RunEnding, Done, Refused, Stopped}
 use Rattle.fw_model_run.proofs.Reels.{run_recorded}
 use Rattle.fw_script_words.specs.Counts.{WriteCount}
 use Rattle.fw_script_words.specs.Dubs.{Dubs, HasRecorded, Recorded, WritesReel}
@@ -10,11 +10,11 @@ use Rattle.fw_script_words.proofs.Faults.{ended_stands}
 use Rattle.fw_script_words.proofs.Goings.{going_first}
 
 -- The commands so far were carried out, as over a sink that keeps all their log.
-pub record IsRecording (D : DeskRelations) (left now : Option (List ℕ)) (reader : Reading) (bus : Standing) : Type 0 where
+pub record IsRecording (D : DeskRelations) (left now : Option (List ℕ)) (reader : Reading) (bus : BusView) : Type 0 where
   pub written : List ℕ
   pub going : Going D left now (Some []) (Some written) reader bus
 
-pub recording_first : {D : DeskRelations} (left : Option (List ℕ)) (reader : Reading) (bus : Standing) → reader ≡ unread → StandsFor bus.machine first_state → IsFalse bus.spent
+pub recording_first : {D : DeskRelations} (left : Option (List ℕ)) (reader : Reading) (bus : BusView) → reader ≡ unread → StandsFor bus.machine first_state → IsFalse bus.spent
     → IsRecording D left left reader bus
 unfolding going_first
 recording_first left reader bus new stands fresh = record {
@@ -23,7 +23,7 @@ recording_first left reader bus new stands fresh = record {
 }
 
 -- how it ends
-pub recorded_ends : (D : DeskRelations) (left now now' : Option (List ℕ)) (written : List ℕ) (course : Course) (reader reader' : Reading) (bus : Standing) (e : RunEnding)
+pub recorded_ends : (D : DeskRelations) (left now now' : Option (List ℕ)) (written : List ℕ) (course : Course) (reader reader' : Reading) (bus : BusView) (e : RunEnding)
     → Ended D left now now' (Some []) (Some written) course reader reader' bus e → Recorded D left now' bus (in_memory e)
 recorded_ends D left now now' written course reader reader' bus Done d =
     let s = ended_stands Done d in
@@ -45,7 +45,7 @@ reads_in_memory old new (Stopped NoMemory) r = r
 -- ---- the word
 
 -- the reel of the run was written, or a prefix of it
-pub reel_written : (D : DeskRelations) (left left' held held' : Option (List ℕ)) (bus : Standing) (reel : List (List ℕ)) (e : RunEnding) → (h : HasRecorded D left left' bus)
+pub reel_written : (D : DeskRelations) (left left' held held' : Option (List ℕ)) (bus : BusView) (reel : List (List ℕ)) (e : RunEnding) → (h : HasRecorded D left left' bus)
     → reel ≡ h.was.ran.logged.state.dub.reel → WritesReel reel held held' e → Dubs D left left' held held' e
 reel_written D left left' held held' bus reel e h same w = by e (subst (λ (r : List (List ℕ)). WritesReel r held held' e) same w)
   where
@@ -58,7 +58,7 @@ reel_written D left left' held held' bus reel e h same w = by e (subst (λ (r : 
     by (Stopped NoMemory) w = absurd w
 
 -- nothing was written if the run did not come to its end
-pub nothing_dubbed : (D : DeskRelations) (left left' held : Option (List ℕ)) (bus : Standing) (e : RunEnding) → e ≢ Done → Recorded D left left' bus e → Dubs D left left' held held e
+pub nothing_dubbed : (D : DeskRelations) (left left' held : Option (List ℕ)) (bus : BusView) (e : RunEnding) → e ≢ Done → Recorded D left left' bus e → Dubs D left left' held held e
 nothing_dubbed D left left' held bus Done other d = absurd (other refl)
 nothing_dubbed D left left' held bus (Refused r) other d = (d, refl)
 nothing_dubbed D left left' held bus (Stopped ReadFault) other d = (d, refl)
@@ -66,7 +66,7 @@ nothing_dubbed D left left' held bus (Stopped WriteFault) other d = absurd d
 nothing_dubbed D left left' held bus (Stopped TooLong) other d = (d, refl)
 nothing_dubbed D left left' held bus (Stopped NoMemory) other d = refl
 
-pub no_write_counted : (D : DeskRelations) (left left' : Option (List ℕ)) (bus : Standing) (count : ℕ) (e : RunEnding) → Recorded D left left' bus e → WriteCount count count e
+pub no_write_counted : (D : DeskRelations) (left left' : Option (List ℕ)) (bus : BusView) (count : ℕ) (e : RunEnding) → Recorded D left left' bus e → WriteCount count count e
 no_write_counted D left left' bus count Done d = refl
 no_write_counted D left left' bus count (Refused r) d = refl
 no_write_counted D left left' bus count (Stopped ReadFault) d = refl

@@ -1,6 +1,6 @@
 -- What was logged, by the ending.
 use Rattle.fw_script_words.proofs.Common.{◌≢◌, ℕ, ◌+◌, ◌≤◌, List, [], ◌++◌, length, true, Option, Some, None, Ok, Err, refl, ap, subst, append-nil, arith, header_bytes, Two, Reading, Advances}
-use Rattle.fw_script_words.proofs.Common.{ScriptFault, Command, log_bytes, Standing, DeskRelations, Going, Ended, course_of, Rule}
+use Rattle.fw_script_words.proofs.Common.{ScriptFault, Command, log_bytes, BusView, DeskRelations, Going, Ended, course_of, Rule}
 use Rattle.fw_log_entry.specs.Log.{LogOpens}
 use Rattle.fw_script.specs.Reading.{IsHeld, with_taken}
 use Rattle.fw_script.specs.Script.{IsScript}
@@ -23,10 +23,10 @@ use Rattle.fw_model_run.proofs.Logs.{run_opens, run_spells}
 use Rattle.fw_script_words.specs.declared.ending.RunEnding.TheVariants as Endings
 use Rattle.fw_script_words.specs.Scripts.{beyond}
 use Rattle.fw_script_words.specs.Ending.{LogsRun, Logged, RefusesLine, RefusesCommand}
-use Rattle.fw_script_words.proofs.Calls.{given_before, given_no_end, ended_before, still_ended, some_command, some_fault, all, whole_script, whole_takes, the_lines, taken_held, behind}
+use Rattle.fw_script_words.proofs.Calls.{given_before, given_no_end, ended_before, still_ended, some_command, some_fault, all, whole_script, whole_takes, the_lines, taken_held, following}
 
 -- what was carried out so far
-abbrev logs_run : {D : DeskRelations} {left now held after : Option (List ℕ)} {reader : Reading} {bus : Standing} (g : Going D left now held after reader bus)
+abbrev logs_run : {D : DeskRelations} {left now held after : Option (List ℕ)} {reader : Reading} {bus : BusView} (g : Going D left now held after reader bus)
     → LogOpens g.log Two (header_bytes Two ++ log_bytes 0 g.log) → LogsRun D held after g.commands
 logs_run g opens = record {
   actions = g.actions;
@@ -46,13 +46,13 @@ logs_run g opens = record {
 }
 
 -- before the end
-abbrev pub logs_open : {D : DeskRelations} {left now held after : Option (List ℕ)} {reader known : Reading} {bus : Standing} (g : Going D left now held after reader bus)
+abbrev pub logs_open : {D : DeskRelations} {left now held after : Option (List ℕ)} {reader known : Reading} {bus : BusView} (g : Going D left now held after reader bus)
     → HasRead left now g.commands known → LogsRun D held after g.commands
 logs_open g so = logs_run g (run_opens g.commands g.actions g.log g.state g.run (given_no_end so))
 
 -- ---- the input was read to its end
 
-pub logged_all : {D : DeskRelations} {left mid held held1 : Option (List ℕ)} {old : Reading} {bus : Standing} (left' : Option (List ℕ)) (new : Reading) (g : Going D left mid held held1 old bus)
+pub logged_all : {D : DeskRelations} {left mid held held1 : Option (List ℕ)} {old : Reading} {bus : BusView} (left' : Option (List ℕ)) (new : Reading) (g : Going D left mid held held1 old bus)
     → Advances old new mid left' (Ok None) → Logged D left left' held held1
 logged_all {D} {left} {mid} {held} {held1} {old} left' new g a =
     let h = ended_before a.known new g.read a.gives in
@@ -69,7 +69,7 @@ logged_all {D} {left} {mid} {held} {held1} {old} left' new g a =
     }
 
 -- and the bus stands for the state of its run
-pub logged_with : {D : DeskRelations} {left mid held held1 : Option (List ℕ)} {old : Reading} {bus : Standing} (left' : Option (List ℕ)) (new : Reading) (g : Going D left mid held held1 old bus)
+pub logged_with : {D : DeskRelations} {left mid held held1 : Option (List ℕ)} {old : Reading} {bus : BusView} (left' : Option (List ℕ)) (new : Reading) (g : Going D left mid held held1 old bus)
     → Advances old new mid left' (Ok None) → Ended D left mid left' held held1 (course_of g) old new bus Endings.Done
 unfolding logged_all
 logged_with left' new g a = record { runs = logged_all left' new g a; same = refl; reads = a; stands = (g.stands, g.fresh); shown = tt; stops = tt }
@@ -77,24 +77,24 @@ logged_with left' new g a = record { runs = logged_all left' new g a; same = ref
 -- ---- a line is refused
 
 -- what is held after a fault
-pub held_behind : (f : ScriptFault) (q : Reading) → IsHeld (Err f) q → length q.rest ≤ beyond f
-held_behind Fault.BadLine q h = h
-held_behind Fault.LineTooLong q h = h
-held_behind Fault.NoEnd q h = omega (arith, ap (λ (l : List ℕ). length l) h)
-held_behind Fault.ReadFault q h = h.1
-held_behind Fault.TooLong q h = h
+pub held_following : (f : ScriptFault) (q : Reading) → IsHeld (Err f) q → length q.rest ≤ beyond f
+held_following Fault.BadLine q h = h
+held_following Fault.LineTooLong q h = h
+held_following Fault.NoEnd q h = omega (arith, ap (λ (l : List ℕ). length l) h)
+held_following Fault.ReadFault q h = h.1
+held_following Fault.TooLong q h = h
 
-unfoldable pub line_refused : {D : DeskRelations} {left mid held held1 : Option (List ℕ)} {old : Reading} {bus : Standing} (left' : Option (List ℕ)) (new : Reading) (f : ScriptFault)
+unfoldable pub line_refused : {D : DeskRelations} {left mid held held1 : Option (List ℕ)} {old : Reading} {bus : BusView} (left' : Option (List ℕ)) (new : Reading) (f : ScriptFault)
     (g : Going D left mid held held1 old bus)
     → Advances old new mid left' (Err f) → IsHeld (Err f) new → f ≢ Fault.ReadFault → RefusesLine D left left' held held1 f new.line
 line_refused {D} {left} {mid} {held} {held1} {old} left' new f g a few told =
     let b = given_before left' new (Err f) (some_fault f) g.read a in
     let l = the_lines left mid left' g.commands b.old new (Err f) (some_fault f) b.so b.call in
     let script = whole_script left mid left' g.commands b.old new (Err f) (some_fault f) b.so b.call in
-    let after = with_taken new (behind left mid left' g.commands b.old new (Err f) (some_fault f) b.so b.call).0 true in
+    let after = with_taken new (following left mid left' g.commands b.old new (Err f) (some_fault f) b.so b.call).0 true in
     let held : length (all left mid left' g.commands b.old new (Err f) (some_fault f) b.so b.call) ≤ new.before + length new.rest =
     taken_held left mid left' g.commands b.old new (Err f) (some_fault f) b.so b.call in
-    let near : length (all left mid left' g.commands b.old new (Err f) (some_fault f) b.so b.call) ≤ new.before + beyond f = omega (arith, held, held_behind f new few) in
+    let near : length (all left mid left' g.commands b.old new (Err f) (some_fault f) b.so b.call) ≤ new.before + beyond f = omega (arith, held, held_following f new few) in
     record {
       script = script;
       takes = whole_takes left mid left' g.commands b.old new (Err f) (some_fault f) b.so b.call;
@@ -113,7 +113,7 @@ pub record Given (left left' : Option (List ℕ)) (commands : List Command) (c :
   pub on_line : IsOnLine script commands c new.line
   pub held : length takes.taken ≤ on_line.after.before + length new.rest
 
-pub given_on : {D : DeskRelations} {left mid held held1 : Option (List ℕ)} {old : Reading} {bus : Standing} (left' : Option (List ℕ)) (new : Reading) (c : Command)
+pub given_on : {D : DeskRelations} {left mid held held1 : Option (List ℕ)} {old : Reading} {bus : BusView} (left' : Option (List ℕ)) (new : Reading) (c : Command)
     (g : Going D left mid held held1 old bus) (a : Advances old new mid left' (Ok (Some c))) → Given left left' g.commands c new
 given_on {D} {left} {mid} {held} {held1} {old} left' new c g a =
     let b = given_before left' new (Ok (Some c)) (some_command c) g.read a in
@@ -121,12 +121,13 @@ given_on {D} {left} {mid} {held} {held1} {old} left' new c g a =
     record {
       script = whole_script left mid left' g.commands b.old new (Ok (Some c)) (some_command c) b.so b.call;
       takes = whole_takes left mid left' g.commands b.old new (Ok (Some c)) (some_command c) b.so b.call;
-      on_line = record { before = l.0; after = with_taken new (behind left mid left' g.commands b.old new (Ok (Some c)) (some_command c) b.so b.call).0 true; leads = l.1; gives = l.2; number = refl };
+      on_line = record
+          { before = l.0; after = with_taken new (following left mid left' g.commands b.old new (Ok (Some c)) (some_command c) b.so b.call).0 true; leads = l.1; gives = l.2; number = refl };
       held = taken_held left mid left' g.commands b.old new (Ok (Some c)) (some_command c) b.so b.call;
     }
 
 -- a command breaks a rule
-pub command_refused : {D : DeskRelations} {left mid held held1 : Option (List ℕ)} {old : Reading} {bus : Standing} (left' : Option (List ℕ)) (new : Reading) (c : Command) (f : RuleFault)
+pub command_refused : {D : DeskRelations} {left mid held held1 : Option (List ℕ)} {old : Reading} {bus : BusView} (left' : Option (List ℕ)) (new : Reading) (c : Command) (f : RuleFault)
     (g : Going D left mid held held1 old bus)
     → Advances old new mid left' (Ok (Some c)) → IsHeld (Ok (Some c)) new → Decides g.state c (Err f) → RefusesCommand D left left' held held1 f new.line
 command_refused {D} {left} {mid} {held} {held1} {old} left' new c f g a few d =
@@ -135,7 +136,7 @@ command_refused {D} {left} {mid} {held} {held1} {old} left' new c f g a few d =
     record { script = o.script; takes = o.takes; commands = g.commands; command = c; on_line = o.on_line; near = omega (arith, o.held, few); logged = logs_open g b.so; decided = d }
 
 -- the bus stands for the state before it, and the reader has the text of its line
-pub rule_ends : {D : DeskRelations} {left mid held held1 : Option (List ℕ)} {old : Reading} {bus : Standing} (left' : Option (List ℕ)) (new : Reading) (c : Command) (f : RuleFault)
+pub rule_ends : {D : DeskRelations} {left mid held held1 : Option (List ℕ)} {old : Reading} {bus : BusView} (left' : Option (List ℕ)) (new : Reading) (c : Command) (f : RuleFault)
     (g : Going D left mid held held1 old bus)
     → Advances old new mid left' (Ok (Some c)) → IsHeld (Ok (Some c)) new → Decides g.state c (Err f)
     → Ended D left mid left' held held1 (course_of g) old new bus (Endings.Refused (record { line = new.line; why = Rule f }))

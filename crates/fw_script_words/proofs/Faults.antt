@@ -1,8 +1,8 @@
 -- How a run ends that a fault ends.
 use Rattle.fw_script_words.proofs.Common.{◌≡◌, ℕ, List, [], ◌∷◌, ◌++◌, Option, Some, None, Ok, Err, refl}
 use Rattle.fw_script_words.proofs.Common.{ap, sym, ◌∙◌, subst, append_assoc, append-nil, header_bytes, latest_epoch, Two, Reading, Advances}
-use Rattle.fw_script_words.proofs.Common.{ScriptFault, Command, log_bytes, first_state, Standing, DeskRelations, Course, Going, Ended, course_of, RunEnding, WriteFault}
-use Rattle.fw_outside.specs.Outside.{AppendsFront, Grows}
+use Rattle.fw_script_words.proofs.Common.{ScriptFault, Command, log_bytes, first_state, BusView, DeskRelations, Course, Going, Ended, course_of, RunEnding, WriteFault}
+use Rattle.fw_outside.specs.Outside.{AppendsPrefix, Grows}
 use Rattle.fw_outside.proofs.Parts.{Grows-Grows}
 use Rattle.fw_log_entry.specs.Log.{epoch_after, entry_bytes}
 use Rattle.fw_log_entry.proofs.LogLaws.{entries_push}
@@ -33,7 +33,7 @@ use Rattle.fw_script_words.proofs.Endings.{Given, given_on, line_refused, logs_o
 -- ---- the run was cut off
 
 -- not even the header was written
-pub part_header : {D : DeskRelations} (left held held' : Option (List ℕ)) → AppendsFront held held' (header_bytes Two) → PartLogged D left left held held'
+pub part_header : {D : DeskRelations} (left held held' : Option (List ℕ)) → AppendsPrefix held held' (header_bytes Two) → PartLogged D left left held held'
 part_header left held held' wrote =
     let t = takes_nothing left in
     record {
@@ -60,11 +60,11 @@ part_header left held held' wrote =
       withholds = withholds [] [] first_state (run_steps [] [] [] first_state begun);
       rounds = rounds_suffice [] [] [] first_state begun;
       opens = run_opens [] [] [] first_state begun tt;
-      grew = subst (λ (bytes : List ℕ). AppendsFront held held' bytes) (sym (append-nil (header_bytes Two))) wrote;
+      grew = subst (λ (bytes : List ℕ). AppendsPrefix held held' bytes) (sym (append-nil (header_bytes Two))) wrote;
     }
 
 -- the source failed
-pub interrupted : {D : DeskRelations} {left mid held held1 : Option (List ℕ)} {old : Reading} {bus : Standing} (left' : Option (List ℕ)) (new : Reading) (g : Going D left mid held held1 old bus)
+pub interrupted : {D : DeskRelations} {left mid held held1 : Option (List ℕ)} {old : Reading} {bus : BusView} (left' : Option (List ℕ)) (new : Reading) (g : Going D left mid held held1 old bus)
     → Advances old new mid left' (Err Fault.ReadFault) → IsHeld (Err Fault.ReadFault) new → Interrupted D left left' held held1
 interrupted {D} {left} {mid} {held} {held1} {old} left' new g a cut =
     let b = given_before left' new (Err Fault.ReadFault) (some_fault Fault.ReadFault) g.read a in
@@ -72,8 +72,8 @@ interrupted {D} {left} {mid} {held} {held1} {old} left' new g a cut =
     record { taken = f.0; takes = f.1; commands = g.commands; lines = f.2; logged = logs_open g b.so }
 
 -- the sink failed within a command
-pub part_stopped : {D : DeskRelations} {left mid held held1 : Option (List ℕ)} {old : Reading} {bus : Standing}
-    (left' held2 : Option (List ℕ)) (new : Reading) (bus' : Standing) (c : Command) (g : Going D left mid held held1 old bus)
+pub part_stopped : {D : DeskRelations} {left mid held held1 : Option (List ℕ)} {old : Reading} {bus : BusView}
+    (left' held2 : Option (List ℕ)) (new : Reading) (bus' : BusView) (c : Command) (g : Going D left mid held held1 old bus)
     → Advances old new mid left' (Ok (Some c)) → CutsRunOff D g.commands g.actions g.log g.state c bus' held1 held2 → PartLogged D left left' held held2
 part_stopped {D} {left} {mid} {held} {held1} {old} left' held2 new bus' c g a d = record {
   script = o.script;
@@ -100,14 +100,14 @@ part_stopped {D} {left} {mid} {held} {held1} {old} left' held2 new bus' c g a d 
   rounds = rounds_suffice g.commands g.actions g.log g.state g.run;
   opens = d.opens (given_no_end (given_before left' new (Ok (Some c)) (some_command c) g.read a).so);
   grew = record {
-    front = (header_bytes Two ++ log_bytes 0 g.log) ++ (log_bytes n x.given ++ x.front);
+    prefix = (header_bytes Two ++ log_bytes 0 g.log) ++ (log_bytes n x.given ++ x.prefix);
     rest = x.rest;
     parts = ap (λ (z : List ℕ). header_bytes Two ++ z) (log_append 0 g.log (x.given ++ x.next ∷ []) ∙ ap (λ (z : List ℕ). log_bytes 0 g.log ++ z)
         (entries_push Two n x.given x.next ∙ ap (λ (z : List ℕ). log_bytes n x.given ++ z)
         (ap (λ (k : ℕ). entry_bytes Two (epoch_after (latest_epoch k x.given) x.next.what) x.next) (sym (run_epoch g.commands g.actions g.log g.state g.run)) ∙ x.parts)))
-        ∙ regroup (header_bytes Two) (log_bytes 0 g.log) (log_bytes n x.given) x.front x.rest;
-    appended = Grows-Grows held held1 held2 (header_bytes Two ++ log_bytes 0 g.log) (log_bytes n x.given ++ x.front) g.grew
-        (subst (λ (k : ℕ). Grows held1 held2 (log_bytes k x.given ++ x.front)) (run_epoch g.commands g.actions g.log g.state g.run) x.appended);
+        ∙ regroup (header_bytes Two) (log_bytes 0 g.log) (log_bytes n x.given) x.prefix x.rest;
+    appended = Grows-Grows held held1 held2 (header_bytes Two ++ log_bytes 0 g.log) (log_bytes n x.given ++ x.prefix) g.grew
+        (subst (λ (k : ℕ). Grows held1 held2 (log_bytes k x.given ++ x.prefix)) (run_epoch g.commands g.actions g.log g.state g.run) x.appended);
   };
 }
   where
@@ -126,7 +126,7 @@ part_stopped {D} {left} {mid} {held} {held1} {old} left' held2 new bus' c g a d 
 -- ---- any ending
 
 -- the reader answered a fault, and has the text of its line
-pub faulted : {D : DeskRelations} {left mid held held1 : Option (List ℕ)} {old : Reading} {bus : Standing}
+pub faulted : {D : DeskRelations} {left mid held held1 : Option (List ℕ)} {old : Reading} {bus : BusView}
     (left' : Option (List ℕ)) (new : Reading) (f : ScriptFault) (g : Going D left mid held held1 old bus)
     → Advances old new mid left' (Err f) → IsHeld (Err f) new → Ended D left mid left' held held1 (course_of g) old new bus (ending_by f new.line)
 unfolding line_refused interrupted
@@ -141,14 +141,14 @@ faulted left' new Fault.TooLong g a few =
     record { runs = record { line = new.line; refused = r; long = (script_limit r.script r.commands _ r.says).0 refl }; same = refl; reads = a; stands = (g.stands, g.fresh); shown = tt; stops = tt }
 
 -- the sink failed, and the bus is spent
-pub stopped : {D : DeskRelations} {left mid held held1 : Option (List ℕ)} {old : Reading} {bus : Standing}
-    (left' held2 : Option (List ℕ)) (new : Reading) (bus' : Standing) (c : Command) (g : Going D left mid held held1 old bus)
+pub stopped : {D : DeskRelations} {left mid held held1 : Option (List ℕ)} {old : Reading} {bus : BusView}
+    (left' held2 : Option (List ℕ)) (new : Reading) (bus' : BusView) (c : Command) (g : Going D left mid held held1 old bus)
     → Advances old new mid left' (Ok (Some c)) → CutsRunOff D g.commands g.actions g.log g.state c bus' held1 held2
     → Ended D left mid left' held held2 (course_of g) old new bus' (Endings.Stopped WriteFault)
 unfolding part_stopped
 stopped left' held2 new bus' c g a d = record { runs = part_stopped left' held2 new bus' c g a d; same = refl; reads = a; stands = tt; shown = tt; stops = tt }
 
 -- the bus stands for the state of the run
-pub ended_stands : {D : DeskRelations} {left now now' held held' : Option (List ℕ)} {course : Course} {reader reader' : Reading} {bus : Standing} (e : RunEnding)
+pub ended_stands : {D : DeskRelations} {left now now' held held' : Option (List ℕ)} {course : Course} {reader reader' : Reading} {bus : BusView} (e : RunEnding)
     → (d : Ended D left now now' held held' course reader reader' bus e) → StandsAt e bus (course_at D left now' held held' e d.runs).state
 ended_stands {bus = bus} e d = subst (λ (k : Course). StandsAt e bus k.state) (sym d.same) d.stands

@@ -7,7 +7,7 @@ use Rattle.fw_script.specs.Reading.{EndsLine, IsLine}
 use Rattle.fw_script.specs.Reading.GivesFirst.{skipped, command, end_line, bad_line, long_line, too_long, end_of_input, no_end, read_fault}
 use Rattle.fw_script_command.specs.Keyword.{keyword_in}
 use Rattle.fw_script_command.specs.declared.command.Command.TheVariants as Commands
-use Rattle.fw_script.specs.declared.stage.Stage.TheVariants as Stages
+use Rattle.fw_script.specs.declared.stage.ReaderStage.TheVariants as Stages
 use Rattle.fw_bus.specs.Buses.{IsCommand}
 use Rattle.fw_script.specs.Leading.{Leads}
 use Rattle.fw_script.specs.Leading.Leads.{nothing, and_then}
@@ -80,7 +80,7 @@ size_some p t n (inl e) = omega (arith, e.1)
 size_some p t n (inr e) = e.3
 
 -- where a reading stands after a command's line
-pub record IsBehind (p q : Reading) : Type 0 where
+pub record IsFollowing (p q : Reading) : Type 0 where
   pub stage : q.stage ≡ Stages.Commands
   pub further : p.before < q.before
   pub within : q.before ≤ 1048576
@@ -88,16 +88,16 @@ pub record IsBehind (p q : Reading) : Type 0 where
 further_on : (p : Reading) (t : List ℕ) (n : ℕ) (q : Reading) → IsLine p t n → p.before + n < q.before → p.before < q.before
 further_on p t n q a f = omega arith
 
-pub behind_command : {p : Reading} {r : Answer} {q : Reading} → GivesFirst p r q → (c : Command) → r ≡ Ok (Some c) → c ≢ End → IsBehind p q
-behind_command {p = p} {q = q} (skipped t n a k g) c e o = let h = behind_command g c e o in record { stage = h.stage; further = further_on p t n q a h.further; within = h.within }
-behind_command {p = p} (command d t n a k i f x) c e o = let s = size_some p t n a.ends in record { stage = i; further = omega arith; within = a.within }
-behind_command {p = p} {q = q} (end_line t n a k i f g) c e o = let h = behind_command g c e o in record { stage = h.stage; further = further_on p t n q a h.further; within = h.within }
-behind_command (bad_line t n a k w) c e o = absurd cc
-behind_command (long_line a) c e o = absurd cc
-behind_command (too_long a) c e o = absurd cc
-behind_command (end_of_input a i) c e o = absurd (o (let h : c ≡ End = cc in h))
-behind_command (no_end a i) c e o = absurd cc
-behind_command read_fault c e o = absurd cc
+pub following_command : {p : Reading} {r : Answer} {q : Reading} → GivesFirst p r q → (c : Command) → r ≡ Ok (Some c) → c ≢ End → IsFollowing p q
+following_command {p = p} {q = q} (skipped t n a k g) c e o = let h = following_command g c e o in record { stage = h.stage; further = further_on p t n q a h.further; within = h.within }
+following_command {p = p} (command d t n a k i f x) c e o = let s = size_some p t n a.ends in record { stage = i; further = omega arith; within = a.within }
+following_command {p = p} {q = q} (end_line t n a k i f g) c e o = let h = following_command g c e o in record { stage = h.stage; further = further_on p t n q a h.further; within = h.within }
+following_command (bad_line t n a k w) c e o = absurd cc
+following_command (long_line a) c e o = absurd cc
+following_command (too_long a) c e o = absurd cc
+following_command (end_of_input a i) c e o = absurd (o (let h : c ≡ End = cc in h))
+following_command (no_end a i) c e o = absurd cc
+following_command read_fault c e o = absurd cc
 
 -- where a reading stands after the input's end
 pub record IsOver (p q : Reading) : Type 0 where

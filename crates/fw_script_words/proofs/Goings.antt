@@ -1,24 +1,24 @@
 -- Command after command of the bus.
 use Rattle.fw_script_words.proofs.Common.{◌≡◌, ◌≢◌, inl, inr, ℕ, List, [], ◌∷◌, ◌++◌, Option, Some, Ok, refl, ap, sym, ◌∙◌, subst, append_assoc, append-nil, arith, IsFalse, header_bytes, latest_epoch}
-use Rattle.fw_script_words.proofs.Common.{Two, Reading, Answer, GivesFirst, Advances, unread, Command, End, log_bytes, first_state, DeskRelations, StandsFor, Standing, to_read, Going}
+use Rattle.fw_script_words.proofs.Common.{Two, Reading, Answer, GivesFirst, Advances, unread, Command, End, log_bytes, first_state, DeskRelations, StandsFor, BusView, to_read, Going}
 use Rattle.std.proofs.Common.{◌⊎◌, ◌<◌}
 use Rattle.fw_outside.specs.Outside.{Grows}
 use Rattle.fw_outside.proofs.Parts.{Grows-Grows}
 use Rattle.fw_model_run.proofs.Epochs.{run_epoch}
 use Rattle.fw_script.specs.Reader.PassesOver.{nowhere}
 use Rattle.fw_script.specs.Reading.{GivesNext}
-use Rattle.fw_script.specs.declared.stage.Stage.{Stage}
-use Rattle.fw_script.specs.declared.stage.Stage.TheVariants.{Commands, AfterEnd, Done, Failed}
+use Rattle.fw_script.specs.declared.stage.ReaderStage.{ReaderStage}
+use Rattle.fw_script.specs.declared.stage.ReaderStage.TheVariants.{Commands, AfterEnd, Done, Failed}
 use Rattle.fw_script.proofs.CallLaws.{next_open, read_nothing}
 use Rattle.fw_model_run.specs.Runs.{begun}
 use Rattle.fw_model_run.proofs.Given.{given_then}
 use Rattle.fw_model_run.proofs.Runs.{log_append}
 use Rattle.fw_bus.specs.Buses.{ContinuesRun, IsCommand}
 use Rattle.fw_script_words.specs.Going.{HasReadTo, open_of}
-use Rattle.fw_script_words.proofs.Givings.{is_end, given_form, behind_command, over_end}
+use Rattle.fw_script_words.proofs.Givings.{is_end, given_form, following_command, over_end}
 use Rattle.fw_script_words.proofs.Calls.{IsSomething, given_before, some_command, reads_on}
 
-unfoldable pub going_first : {D : DeskRelations} (left held after : Option (List ℕ)) (reader : Reading) (bus : Standing) → reader ≡ unread → StandsFor bus.machine first_state → IsFalse bus.spent
+unfoldable pub going_first : {D : DeskRelations} (left held after : Option (List ℕ)) (reader : Reading) (bus : BusView) → reader ≡ unread → StandsFor bus.machine first_state → IsFalse bus.spent
     → Grows held after (header_bytes Two) → Going D left left held after reader bus
 going_first left held after reader bus new stands fresh header = record {
   commands = [];
@@ -34,7 +34,7 @@ going_first left held after reader bus new stands fresh header = record {
 }
 
 -- a command was given and carried out
-unfoldable pub going_more : {D : DeskRelations} {left mid held held1 : Option (List ℕ)} {old : Reading} {bus : Standing} (left' held2 : Option (List ℕ)) (new : Reading) (bus' : Standing) (c : Command)
+unfoldable pub going_more : {D : DeskRelations} {left mid held held1 : Option (List ℕ)} {old : Reading} {bus : BusView} (left' held2 : Option (List ℕ)) (new : Reading) (bus' : BusView) (c : Command)
     (g : Going D left mid held held1 old bus)
     → Advances old new mid left' (Ok (Some c)) → ContinuesRun D g.commands g.actions g.log g.state c bus' held1 held2 → Going D left left' held held2 new bus'
 going_more {D} {left} {mid} {held} {held1} {old} {bus} left' held2 new bus' c g a d =
@@ -56,13 +56,13 @@ going_more {D} {left} {mid} {held} {held1} {old} {bus} left' held2 new bus' c g 
     }
 
 -- a command that was given is that of a line
-pub going_form : {D : DeskRelations} {left mid held held1 : Option (List ℕ)} {old : Reading} {bus : Standing} (left' : Option (List ℕ)) (new : Reading) (c : Command)
+pub going_form : {D : DeskRelations} {left mid held held1 : Option (List ℕ)} {old : Reading} {bus : BusView} (left' : Option (List ℕ)) (new : Reading) (c : Command)
     (g : Going D left mid held held1 old bus)
     → Advances old new mid left' (Ok (Some c)) → IsCommand c
 going_form left' new c g a = given_form (given_before left' new (Ok (Some c)) (some_command c) g.read a).gives c refl
 
 -- if a call gives something the end was not given before
-open_before : (s : Stage) (p q : Reading) (r : Answer) → IsSomething r → GivesNext s p r q → open_of s ≡ 1
+open_before : (s : ReaderStage) (p q : Reading) (r : Answer) → IsSomething r → GivesNext s p r q → open_of s ≡ 1
 open_before Commands p q r some g = refl
 open_before AfterEnd p q r some g = refl
 open_before Done p q r some g = absurd (some g.0)
@@ -84,9 +84,9 @@ call_shorter mid left' old new c a = by_end (is_end c)
     by_end : (c ≡ End) ⊎ (c ≢ End) → to_read new < to_read old
     by_end (inl e) =
         let o = over_end (subst (λ (x : Command). GivesFirst a.known (Ok (Some x)) new) e gave) refl in
-        let none : open_of new.stage ≡ 0 = ap (λ (s : Stage). open_of s) o.stage in
+        let none : open_of new.stage ≡ 0 = ap (λ (s : ReaderStage). open_of s) o.stage in
         omega (arith, same, one, none, o.further)
     by_end (inr n) =
-        let b = behind_command gave c refl n in
-        let more : open_of new.stage ≡ 1 = ap (λ (s : Stage). open_of s) b.stage in
+        let b = following_command gave c refl n in
+        let more : open_of new.stage ≡ 1 = ap (λ (s : ReaderStage). open_of s) b.stage in
         omega (arith, same, one, more, b.further, b.within)

@@ -1,5 +1,5 @@
 -- A run goes on line by line.
-use Rattle.fw_script_words.proofs.Common.{◌≡◌, inl, inr, ℕ, List, [], true, Option, refl, ap, sym, ◌∙◌, subst, append-nil, arith, Reading, Command, DeskRelations, Standing, Going, course_of, to_read}
+use Rattle.fw_script_words.proofs.Common.{◌≡◌, inl, inr, ℕ, List, [], true, Option, refl, ap, sym, ◌∙◌, subst, append-nil, arith, Reading, Command, DeskRelations, BusView, Going, course_of, to_read}
 use Rattle.std.proofs.Common.{◌<◌}
 use Rattle.fw_outside.specs.Outside.{Takes}
 use Rattle.fw_outside.proofs.Parts.{Takes-Takes}
@@ -7,8 +7,8 @@ use Rattle.fw_script.specs.Passing.{Passes}
 use Rattle.fw_script.specs.Reader.{HoldsLine, PassesOver}
 use Rattle.fw_script.specs.Reading.{TakesMore, with_taken}
 use Rattle.fw_script.specs.declared.reader.passing.Said.TheVariants.{Nothing}
-use Rattle.fw_script.specs.declared.stage.Stage.{Stage}
-use Rattle.fw_script.specs.declared.stage.Stage.TheVariants.{Commands, AfterEnd, Done, Failed}
+use Rattle.fw_script.specs.declared.stage.ReaderStage.{ReaderStage}
+use Rattle.fw_script.specs.declared.stage.ReaderStage.TheVariants.{Commands, AfterEnd, Done, Failed}
 use Rattle.fw_script.proofs.GivesLaws.{goes_goes, goes_whole, goes_with}
 use Rattle.fw_script.proofs.PassLaws.{read_taken}
 use Rattle.fw_script.proofs.StepLaws.{at_end_still}
@@ -32,7 +32,8 @@ ended_taken left mid left' given old new t h =
       last = h.last;
     }
 
-taken_to : (s : Stage) (left mid left' : Option (List ℕ)) (given : List Command) (old new : Reading) → TakesMore old new mid left' → HasReadTo s left mid given old → HasReadTo s left left' given new
+taken_to : (s : ReaderStage) (left mid left' : Option (List ℕ)) (given : List Command) (old new : Reading) → TakesMore old new mid left' → HasReadTo s left mid given old
+    → HasReadTo s left left' given new
 taken_to Commands left mid left' given old new t h = read_taken left mid left' given old new h t
 taken_to AfterEnd left mid left' given old new t h = absurd h
 taken_to Done left mid left' given old new t h = ended_taken left mid left' given old new t h
@@ -49,7 +50,7 @@ reading_taken left mid left' given old new t h =
       passed = subst (λ (q : Reading). PassesOver known q) (sym t.now) (goes_with t.taken new.whole kept h.passed);
     }
 
-going_at : {D : DeskRelations} {left now now' held after : Option (List ℕ)} {old new : Reading} {bus : Standing} (g : Going D left now held after old bus) → IsReading left now' g.commands new
+going_at : {D : DeskRelations} {left now now' held after : Option (List ℕ)} {old new : Reading} {bus : BusView} (g : Going D left now held after old bus) → IsReading left now' g.commands new
     → (h : Going D left now' held after new bus) × (course_of h ≡ course_of g)
 going_at g r = (
   record {
@@ -67,7 +68,7 @@ going_at g r = (
   refl,
 )
 
-pub going_looked : (D : DeskRelations) (left now now' held after : Option (List ℕ)) (old new : Reading) (bus : Standing) (g : Going D left now held after old bus)
+pub going_looked : (D : DeskRelations) (left now now' held after : Option (List ℕ)) (old new : Reading) (bus : BusView) (g : Going D left now held after old bus)
     → TakesMore old new now now' → (h : Going D left now' held after new bus) × (course_of h ≡ course_of g)
 going_looked D left now now' held after old new bus g t = going_at g (reading_taken left now now' g.commands old new t g.read)
 
@@ -76,12 +77,12 @@ look_same old new left left' t = ap (λ (p : Reading). to_read p) t.now
 
 -- ---- a line that is passed over
 
-pub going_passed : (D : DeskRelations) (left now held after : Option (List ℕ)) (old new : Reading) (bus : Standing) (g : Going D left now held after old bus)
+pub going_passed : (D : DeskRelations) (left now held after : Option (List ℕ)) (old new : Reading) (bus : BusView) (g : Going D left now held after old bus)
     → PassesOver old new → (h : Going D left now held after new bus) × (course_of h ≡ course_of g)
 going_passed D left now held after old new bus g o = going_at g (record { known = g.read.known; read = g.read.read; passed = goes_goes g.read.passed o })
 
 pub pass_shorter : (old new : Reading) (n size : ℕ) (c : Command) → HoldsLine old n size → Passes old n size Nothing c new → to_read new < to_read old
 pass_shorter old new n size c h (inl s) = subst (λ (p : Reading). to_read p < to_read old) (sym s.now) (omega (arith, h.some, h.line.within))
 pass_shorter old new n size c h (inr e) =
-    let one : open_of old.stage ≡ 1 = ap (λ (s : Stage). open_of s) e.stage in
+    let one : open_of old.stage ≡ 1 = ap (λ (s : ReaderStage). open_of s) e.stage in
     subst (λ (p : Reading). to_read p < to_read old) (sym e.now) (omega (arith, one, h.some, h.line.within))

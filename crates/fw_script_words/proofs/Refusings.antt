@@ -1,6 +1,6 @@
 -- Why a line is refused, told by what the reader and the bus show of it.
 use Rattle.fw_script_words.proofs.Common.{◌≡◌, ◌≢◌, ℕ, List, [], Option, Some, Ok, refl, ap, sym, ◌∙◌}
-use Rattle.fw_script_words.proofs.Common.{subst, Command, End, Reading, GivesFirst, DeskRelations, StandsFor, Standing, Rule, RunEnding, Done}
+use Rattle.fw_script_words.proofs.Common.{subst, Command, End, Reading, GivesFirst, DeskRelations, StandsFor, BusView, Rule, RunEnding, Done}
 use Rattle.fw_script_words.proofs.Common.{Refused, Stopped}
 use Rattle.fw_outside.specs.declared.stop.Stop.{Stop}
 use Rattle.fw_script_command.specs.Form.{HasForm}
@@ -20,7 +20,7 @@ use Rattle.fw_script_words.proofs.Completions.{other_than_end}
 
 -- ---- the bus is ready
 
-refused_ready : (D : DeskRelations) (left left' held held' : Option (List ℕ)) (bus : Standing) (why : Refusal) (line : ℕ) (x : RefusesBy D left left' held held' why line)
+refused_ready : (D : DeskRelations) (left left' held held' : Option (List ℕ)) (bus : BusView) (why : Refusal) (line : ℕ) (x : RefusesBy D left left' held held' why line)
     → StandsFor bus.machine (refused_course D left left' held held' why line x).state → IsReady bus.machine
 refused_ready D left left' held held' bus BadLine line x s =
     ready_of (record { commands = x.commands; actions = x.logged.actions; log = x.logged.log; state = x.logged.state; run = x.logged.run; stands = s })
@@ -32,7 +32,7 @@ refused_ready D left left' held held' bus (Rule rule) line x s =
     ready_of (record { commands = x.commands; actions = x.logged.actions; log = x.logged.log; state = x.logged.state; run = x.logged.run; stands = s })
 
 -- if a run did not stop early
-pub checked_ready : (D : DeskRelations) (left left' : Option (List ℕ)) (reader : Reading) (bus : Standing) (count : ℕ) (e : RunEnding) → ((stop : Stop) → e ≢ Stopped stop)
+pub checked_ready : (D : DeskRelations) (left left' : Option (List ℕ)) (reader : Reading) (bus : BusView) (count : ℕ) (e : RunEnding) → ((stop : Stop) → e ≢ Stopped stop)
     → IsChecked D left left' reader bus count e → IsReady bus.machine
 checked_ready D left left' reader bus count Done other x =
     let w = x.0.1 in ready_of (record { commands = w.commands; actions = w.logged.actions; log = w.logged.log; state = w.logged.state; run = w.logged.run; stands = x.2 })
@@ -48,7 +48,7 @@ given_text c (command d text size line skip stage form o) e other = let h : d �
 given_text c (end_line text size line skip stage form g) e other = given_text c g e other
 given_text c (end_of_input a i) e other = let h : End ≡ c = cc in absurd (other (sym h))
 
-why_told : (D : DeskRelations) (left left' held held' : Option (List ℕ)) (reader : Reading) (bus : Standing) (why : Refusal) (line : ℕ) (x : RefusesBy D left left' held held' why line)
+why_told : (D : DeskRelations) (left left' held held' : Option (List ℕ)) (reader : Reading) (bus : BusView) (why : Refusal) (line : ℕ) (x : RefusesBy D left left' held held' why line)
     → ShowsLine D left left' held held' why line x reader → StandsFor bus.machine (refused_course D left left' held held' why line x).state
     → IsWhy why line reader bus (refusal_text D left left' held held' why line x)
 why_told D left left' held held' reader bus BadLine line x s stands =
@@ -66,7 +66,7 @@ why_told D left left' held held' reader bus (Rule rule) line x s stands = record
 }
 
 -- what is told of a run is told by what the reader and the bus show
-pub checked_told : (D : DeskRelations) (left left' : Option (List ℕ)) (reader : Reading) (bus : Standing) (count : ℕ) (e : RunEnding) (x : IsChecked D left left' reader bus count e)
+pub checked_told : (D : DeskRelations) (left left' : Option (List ℕ)) (reader : Reading) (bus : BusView) (count : ℕ) (e : RunEnding) (x : IsChecked D left left' reader bus count e)
     → IsTold e count reader bus (checked_text D left left' reader bus count e x)
 checked_told D left left' reader bus count Done x = (x.0.1.logged.state, x.2, ap (λ (n : ℕ). good_text (counts_of n x.0.1.logged.state)) x.1)
 checked_told D left left' reader bus count (Refused r) x = why_told D left left' (Some []) (Some x.written) reader bus r.why r.line x.runs x.shown x.stands

@@ -2,7 +2,7 @@
 use Rattle.fw_script_words.proofs.Common.{◌≡◌, ℕ, ◌+◌, ◌≤◌, List, length, arith, refl, ap, ◌∙◌, Reading, Answer, GivesFirst, Command}
 use Rattle.std.proofs.Common.{◌-◌, drop}
 use Rattle.std.proofs.lemmas.List.{drop-drop, length-drop}
-use Rattle.fw_script.specs.Reading.{behind}
+use Rattle.fw_script.specs.Reading.{following}
 use Rattle.fw_script.specs.Reading.GivesFirst.{skipped, command, end_line, bad_line, long_line, too_long, end_of_input, no_end, read_fault}
 use Rattle.fw_script.specs.Leading.{Leads}
 use Rattle.fw_script.specs.Leading.Leads.{nothing, and_then}
@@ -26,12 +26,12 @@ further_then p q z one two =
       rest = two.rest ∙ ap (λ (l : List ℕ). drop (z.before - q.before) l) one.rest ∙ drop-drop (z.before - q.before) (q.before - p.before) p.rest ∙ ap (λ (k : ℕ). drop k p.rest) size;
     }
 
-over : (p : Reading) (t : List ℕ) (n : ℕ) (z : Reading) → IsFurther (behind p t n) z → IsFurther p z
-over p t n z h = further_then p (behind p t n) z (by_size p (behind p t n) n refl refl) h
+over : (p : Reading) (t : List ℕ) (n : ℕ) (z : Reading) → IsFurther (following p t n) z → IsFurther p z
+over p t n z h = further_then p (following p t n) z (by_size p (following p t n) n refl refl) h
 
 gives_further : {p : Reading} {r : Answer} {q : Reading} → GivesFirst p r q → IsFurther p q
 gives_further {p = p} {q = q} (skipped t n a k g) = over p t n q (gives_further g)
-gives_further {p = p} (command d t n a k i f o) = by_size p (behind p t n) n refl refl
+gives_further {p = p} (command d t n a k i f o) = by_size p (following p t n) n refl refl
 gives_further {p = p} {q = q} (end_line t n a k i f g) = let h = gives_further g in over p t n q (record { before = h.before; rest = h.rest })
 gives_further {p = p} {q = q} (bad_line t n a k w) = by_size p q n refl refl
 gives_further {p = p} {q = q} (long_line a) = by_size p q 0 (omega arith) refl
@@ -45,8 +45,8 @@ leads_further {p = p} nothing = by_size p p 0 (omega arith) refl
 leads_further {p = p} (and_then {q = q} l c o next g) = further_then p q next (leads_further l) (gives_further g)
 
 -- after what lines gave stands what is left of them
-pub left_behind : {p q z : Reading} {cs : List Command} {r : Answer} → p.before ≡ 0 → Leads p cs q → GivesFirst q r z → z.rest ≡ drop z.before p.rest
-left_behind {p = p} {q = q} {z = z} start l g =
+pub left_following : {p q z : Reading} {cs : List Command} {r : Answer} → p.before ≡ 0 → Leads p cs q → GivesFirst q r z → z.rest ≡ drop z.before p.rest
+left_following {p = p} {q = q} {z = z} start l g =
     let h = further_then p q z (leads_further l) (gives_further g) in
     let size : z.before - p.before ≡ z.before = omega (arith, start) in
     h.rest ∙ ap (λ (k : ℕ). drop k p.rest) size

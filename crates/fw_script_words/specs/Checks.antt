@@ -1,7 +1,7 @@
 -- What each ending of `check` says of the input and of what was written: what the script has, or why a line is refused, in place of the log, which is
 -- kept nowhere.
 use Rattle.std.specs.Prelude.{◌≡◌, ◌⊎◌, ℕ, List, [], length, Option, Some, None}
-use Rattle.fw_outside.specs.Outside.{Grows, AppendsFront}
+use Rattle.fw_outside.specs.Outside.{Grows, AppendsPrefix}
 use Rattle.fw_outside.specs.declared.stop.Stop.TheVariants.{ReadFault, WriteFault, TooLong, NoMemory}
 use Rattle.fw_check.specs.Goods.{good_text}
 use Rattle.fw_check.specs.Refusals.{bad_line_text, long_line_text, no_end_text, rule_text}
@@ -57,7 +57,7 @@ Checks D left left' held held' Done = (was : WasChecked D left left') × Grows h
 Checks D left left' held held' (Refused r) = (was : WasRefused D left left' r) × Grows held held' (why_of D left left' r was)
 Checks D left left' held held' (Stopped ReadFault) = InMemory (Interrupted D left left') × (held' ≡ held)
 Checks D left left' held held' (Stopped WriteFault) =
-    ((was : WasChecked D left left') × AppendsFront held held' (good_of was))
-    ⊎ ((r : RefusedLine) × (was : WasRefused D left left' r) × AppendsFront held held' (why_of D left left' r was))
+    ((was : WasChecked D left left') × AppendsPrefix held held' (good_of was))
+    ⊎ ((r : RefusedLine) × (was : WasRefused D left left' r) × AppendsPrefix held held' (why_of D left left' r was))
 Checks D left left' held held' (Stopped TooLong) = InMemory (PassesScriptLimit D left left') × (held' ≡ held)
 Checks D left left' held held' (Stopped NoMemory) = held' ≡ held

@@ -8,7 +8,7 @@ use Rattle.fw_script_command.specs.declared.command.Command.{Command}
 use Rattle.fw_model_run.specs.Actions.{Action}
 use Rattle.fw_model_run.specs.Desks.{DeskRelations}
 use Rattle.fw_model_run.specs.State.{State, first_state}
-use Rattle.fw_bus.specs.Buses.{Standing, StandsFor}
+use Rattle.fw_bus.specs.Buses.{BusView, StandsFor}
 use Rattle.fw_script_words.specs.Ending.{LogsRun, RefusesBy, Runs}
 use Rattle.fw_script_words.specs.declared.ending.RunEnding.{RunEnding}
 use Rattle.fw_script_words.specs.declared.ending.RunEnding.TheVariants.{Done, Refused, Stopped}
@@ -64,7 +64,7 @@ answer_at D left left' held held' (Stopped NoMemory) x = Ok None
 -- ---- what is shown
 
 -- the bus stands for the state that the run came to, unless a command was cut off
-abbrev pub StandsAt : RunEnding → Standing → State → Type 0
+abbrev pub StandsAt : RunEnding → BusView → State → Type 0
 StandsAt Done bus s = StandsFor bus.machine s × IsFalse bus.spent
 StandsAt (Refused r) bus s = StandsFor bus.machine s × IsFalse bus.spent
 StandsAt (Stopped ReadFault) bus s = StandsFor bus.machine s × IsFalse bus.spent

@@ -1,6 +1,6 @@
 -- What each ending of a run says of the input and of the log.
 use Rattle.std.specs.Prelude.{◌≡◌, ℕ, ◌+◌, ◌<◌, ◌≤◌, List, [], ◌++◌, length, Option, Some, None, Ok, Err}
-use Rattle.fw_outside.specs.Outside.{Takes, Grows, IsAtEnd, AppendsFront}
+use Rattle.fw_outside.specs.Outside.{Takes, Grows, IsAtEnd, AppendsPrefix}
 use Rattle.fw_outside.specs.declared.stop.Stop.TheVariants.{ReadFault, WriteFault, TooLong, NoMemory}
 use Rattle.fw_log_entry.specs.Log.{header_bytes, LogOpens, LogSpells}
 use Rattle.fw_log_entry.specs.declared.version.Version.TheVariants.{Two}
@@ -15,7 +15,8 @@ use Rattle.fw_order.specs.declared.rule.RuleFault.{RuleFault}
 use Rattle.fw_model_run.specs.Giving.{log_bytes}
 use Rattle.fw_model_run.specs.State.{State}
 use Rattle.fw_model_run.specs.Rules.{Decides}
-use Rattle.fw_model_run.specs.Actions.{Action, Steps}
+use Rattle.fw_model_run.specs.Actions.{Action}
+use Rattle.fw_model_run.specs.Deeds.{Transitions}
 use Rattle.fw_model_run.specs.Carrying.{Carries}
 use Rattle.fw_model_run.specs.Desks.{DeskRelations}
 use Rattle.fw_model_run.specs.Given.{AreGiven}
@@ -143,7 +144,7 @@ pub record PartLogged (D : DeskRelations) (left left' held held' : Option (List 
   pub given : AreGiven D (actions ++ done)
   pub out : List Timed
   pub after : State
-  pub steps : Steps state done out after
+  pub steps : Transitions state done out after
   pub sound : IsSoundThroughout (actions ++ done) (log ++ out)
   pub audited : IsAudited (entries_of (log ++ out))
   pub restored : ComesBack (actions ++ done) (log ++ out)
@@ -152,7 +153,7 @@ pub record PartLogged (D : DeskRelations) (left left' held held' : Option (List 
   pub withholds : WithholdsThroughout (actions ++ done)
   pub rounds : RoundsSuffice commands actions log
   pub opens : LogOpens (log ++ out) Two (header_bytes Two ++ log_bytes 0 (log ++ out))
-  pub grew : AppendsFront held held' (header_bytes Two ++ log_bytes 0 (log ++ out))
+  pub grew : AppendsPrefix held held' (header_bytes Two ++ log_bytes 0 (log ++ out))
 
 -- what each ending says; memory is wanted before anything is read or written
 abbrev pub Runs : DeskRelations → Option (List ℕ) → Option (List ℕ) → Option (List ℕ) → Option (List ℕ) → RunEnding → Type 0

@@ -11,8 +11,8 @@ use Rattle.fw_script.specs.Script.{IsScript}
 use Rattle.fw_script.specs.Leading.{HasRead}
 use Rattle.fw_script_command.specs.declared.command.Command.{Command}
 use Rattle.fw_script_command.specs.declared.command.Command.TheVariants.{End}
-use Rattle.fw_script.specs.declared.stage.Stage.{Stage}
-use Rattle.fw_script.specs.declared.stage.Stage.TheVariants.{Commands, AfterEnd, Done, Failed}
+use Rattle.fw_script.specs.declared.stage.ReaderStage.{ReaderStage}
+use Rattle.fw_script.specs.declared.stage.ReaderStage.TheVariants.{Commands, AfterEnd, Done, Failed}
 use Rattle.fw_model_run.specs.Giving.{log_bytes}
 use Rattle.fw_model_run.specs.Logs.{HasNoEnd}
 use Rattle.fw_model_run.specs.State.{State}
@@ -23,7 +23,7 @@ use Rattle.fw_order.specs.declared.order.Order.{Order}
 use Rattle.fw_model_run.specs.Desks.{DeskRelations}
 use Rattle.fw_model_run.specs.Given.{AreGiven}
 use Rattle.fw_model_run.specs.Runs.{Run}
-use Rattle.fw_bus.specs.Buses.{StandsFor, Standing}
+use Rattle.fw_bus.specs.Buses.{StandsFor, BusView}
 use Rattle.fw_script_words.specs.Course.{Course, course_at, answer_at, StandsAt, IsShownBy, StopsAt}
 use Rattle.fw_script_words.specs.Ending.{Runs}
 use Rattle.fw_script_words.specs.declared.ending.RunEnding.{RunEnding}
@@ -40,7 +40,7 @@ pub record HasEnded (left now : Option (List ℕ)) (given : List Command) (reade
   pub last : given ≡ earlier ++ End ∷ []
 
 -- after the line of the last command that was carried out
-abbrev pub HasReadTo : Stage → Option (List ℕ) → Option (List ℕ) → List Command → Reading → Type 0
+abbrev pub HasReadTo : ReaderStage → Option (List ℕ) → Option (List ℕ) → List Command → Reading → Type 0
 HasReadTo Commands left now given reader = HasRead left now given reader
 HasReadTo AfterEnd left now given reader = ⊥
 HasReadTo Done left now given reader = HasEnded left now given reader
@@ -53,7 +53,7 @@ pub record IsReading (left now : Option (List ℕ)) (given : List Command) (read
   pub passed : PassesOver known reader
 
 -- how much a reader may still read: each command takes a byte of the script, and the end comes once
-abbrev pub open_of : Stage → ℕ
+abbrev pub open_of : ReaderStage → ℕ
 open_of Commands = 1
 open_of AfterEnd = 1
 open_of Done = 0
@@ -65,7 +65,7 @@ to_read reader = (1048576 - reader.before) + open_of reader.stage
 
 -- Before a call of the reader: the commands so far were carried out, with what the desk gives, and the header and their log stand
 -- where they are kept.
-pub record Going (D : DeskRelations) (left now held after : Option (List ℕ)) (reader : Reading) (bus : Standing) : Type 0 where
+pub record Going (D : DeskRelations) (left now held after : Option (List ℕ)) (reader : Reading) (bus : BusView) : Type 0 where
   pub commands : List Command
   pub actions : List Action
   pub log : List Timed
@@ -78,18 +78,18 @@ pub record Going (D : DeskRelations) (left now held after : Option (List ℕ)) (
   pub read : IsReading left now commands reader
 
 -- some run is under way
-pub record IsUnderWay (D : DeskRelations) (now : Option (List ℕ)) (reader : Reading) (bus : Standing) : Type 0 where
+pub record IsUnderWay (D : DeskRelations) (now : Option (List ℕ)) (reader : Reading) (bus : BusView) : Type 0 where
   pub left : Option (List ℕ)
   pub held : Option (List ℕ)
   pub after : Option (List ℕ)
   pub going : Going D left now held after reader bus
 
 -- what it has come to
-abbrev pub course_of : {D : DeskRelations} {left now held after : Option (List ℕ)} {reader : Reading} {bus : Standing} → Going D left now held after reader bus → Course
+abbrev pub course_of : {D : DeskRelations} {left now held after : Option (List ℕ)} {reader : Reading} {bus : BusView} → Going D left now held after reader bus → Course
 course_of g = record { commands = g.commands; actions = g.actions; log = g.log; state = g.state }
 
 -- One command more was read and carried out: the run goes on with the entries that were written.
-pub record Carried (D : DeskRelations) (left now now' held after' written written' : Option (List ℕ)) (course : Course) (reader reader' : Reading) (bus' : Standing) : Type 0 where
+pub record Carried (D : DeskRelations) (left now now' held after' written written' : Option (List ℕ)) (course : Course) (reader reader' : Reading) (bus' : BusView) : Type 0 where
   pub going : Going D left now' held after' reader' bus'
   pub command : Command
   pub reads : Advances reader reader' now now' (Ok (Some command))
@@ -106,7 +106,7 @@ pub record Carried (D : DeskRelations) (left now now' held after' written writte
   pub shorter : to_read reader' < to_read reader
 
 -- The run has ended with what it had come to, and the reader and the bus show it.
-pub record Ended (D : DeskRelations) (left now now' held held' : Option (List ℕ)) (course : Course) (reader reader' : Reading) (bus' : Standing) (ending : RunEnding) : Type 0 where
+pub record Ended (D : DeskRelations) (left now now' held held' : Option (List ℕ)) (course : Course) (reader reader' : Reading) (bus' : BusView) (ending : RunEnding) : Type 0 where
   pub runs : Runs D left now' held held' ending
   pub same : course_at D left now' held held' ending runs ≡ course
   pub reads : Advances reader reader' now now' (answer_at D left now' held held' ending runs)
@@ -115,15 +115,15 @@ pub record Ended (D : DeskRelations) (left now now' held held' : Option (List �
   pub stops : StopsAt ending reader'
 
 -- what a step did: a command more, or the end of the run
-abbrev pub Continues : {D : DeskRelations} {left now held after : Option (List ℕ)} {reader : Reading} {bus : Standing} → Going D left now held after reader bus
-    → Option (List ℕ) → Option (List ℕ) → Option (List ℕ) → Option (List ℕ) → Reading → Standing → Option RunEnding → Type 0
+abbrev pub Continues : {D : DeskRelations} {left now held after : Option (List ℕ)} {reader : Reading} {bus : BusView} → Going D left now held after reader bus
+    → Option (List ℕ) → Option (List ℕ) → Option (List ℕ) → Option (List ℕ) → Reading → BusView → Option RunEnding → Type 0
 Continues {D} {left} {now} {held} {after} {reader} g now' written written' after' reader' bus' None =
     Carried D left now now' held after' written written' (course_of g) reader reader' bus'
 Continues {D} {left} {now} {held} {after} {reader} g now' written written' after' reader' bus' (Some ending) =
     Ended D left now now' held after' (course_of g) reader reader' bus' ending
 
 -- A step, wherever the log is kept: it wrote these bytes, and with them after what a place held the run goes on or has ended there.
-abbrev pub StepsOn : {D : DeskRelations} {left now held after : Option (List ℕ)} {reader : Reading} {bus : Standing} → Going D left now held after reader bus
-    → Option (List ℕ) → Option (List ℕ) → Option (List ℕ) → Reading → Standing → Option RunEnding → Type 0
+abbrev pub StepsOn : {D : DeskRelations} {left now held after : Option (List ℕ)} {reader : Reading} {bus : BusView} → Going D left now held after reader bus
+    → Option (List ℕ) → Option (List ℕ) → Option (List ℕ) → Reading → BusView → Option RunEnding → Type 0
 StepsOn {after = after} g now' written written' reader' bus' result =
     (bytes : List ℕ) × Grows written written' bytes × ((after' : Option (List ℕ)) → Grows after after' bytes → Continues g now' written written' after' reader' bus' result)

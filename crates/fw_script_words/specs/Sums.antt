@@ -1,6 +1,6 @@
 -- What running a seed's script gives.
 use Rattle.std.specs.Prelude.{◌≡◌, ℕ, List, [], Option, Some}
-use Rattle.fw_outside.specs.Outside.{Grows, AppendsFront}
+use Rattle.fw_outside.specs.Outside.{Grows, AppendsPrefix}
 use Rattle.fw_outside.specs.declared.stop.Stop.TheVariants.{ReadFault, WriteFault, TooLong, NoMemory}
 use Rattle.fw_log_entry.specs.declared.entry.Timed.{Timed}
 use Rattle.fw_script_gen.specs.Gen.{script_of}
@@ -64,7 +64,7 @@ pub record HasSummed (D : DeskRelations) (seed : ℕ) (held held' : Option (List
 -- a prefix of the summary of a seed's run was written
 pub record PartSummed (D : DeskRelations) (seed : ℕ) (held held' : Option (List ℕ)) : Type 0 where
   pub was : WasRun D (script_of seed)
-  pub grew : AppendsFront held held' (summary_of (log_of was))
+  pub grew : AppendsPrefix held held' (summary_of (log_of was))
 
 -- By the ending: the summary of the run's log was written, or a prefix of it if the sink failed; nothing was written if a
 -- line is refused, or memory ran out.
@@ -81,6 +81,6 @@ abbrev pub Summed : List Timed → Option (List ℕ) → Option (List ℕ) → R
 Summed log held held' Done = Grows held held' (summary_of log)
 Summed log held held' (Refused r) = ⊥
 Summed log held held' (Stopped ReadFault) = ⊥
-Summed log held held' (Stopped WriteFault) = AppendsFront held held' (summary_of log)
+Summed log held held' (Stopped WriteFault) = AppendsPrefix held held' (summary_of log)
 Summed log held held' (Stopped TooLong) = ⊥
 Summed log held held' (Stopped NoMemory) = held' ≡ held

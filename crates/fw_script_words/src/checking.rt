@@ -9,7 +9,7 @@ ghost use Rattle.fw_bus_state.specs.Stands.{IsReady, StandsFor};
 ghost use Rattle.fw_script_words.specs.Checks.{Checks, counts_of};
 ghost use Rattle.fw_script_words.specs.Counts.{ReadCount, WriteCount};
 ghost use Rattle.fw_script_words.specs.Scripts.{IsValid, IsNoRefusal};
-ghost use Rattle.fw_script_words.specs.Telling.{IsChecked, IsOfCause, IsTold, IsWhy, Told};
+ghost use Rattle.fw_script_words.specs.Telling.{IsChecked, IsOfCause, IsTold, IsWhy, TellsText};
 
 use crate::ending::{Refusal, Refused, RunEnding};
 use crate::seed::in_memory;
@@ -135,7 +135,7 @@ fn put_told(
 // Writes what is told of a script, of which no line is left or one is refused.
 fn tell<K: Sink>(text: &[u8], ending: RunEnding, sink: &mut K) -> RunEnding
     requires { (stop : Early) → ending ≢ RunEnding.Stopped stop }
-    ensures told { Told text.now (K.held sink.old) (K.held sink.new) ending result }
+    ensures told { TellsText text.now (K.held sink.old) (K.held sink.new) ending result }
     ensures write_count { WriteCount (K.faults sink.old) (K.faults sink.new) result }
 {
     match sink.write(text) {

@@ -75,7 +75,7 @@ fn write_summary<K: Sink>(alloc: Global, tally: &Tally, sink: &mut K) -> RunEndi
     }
 }
 
-/// Runs the script that a seed makes, and writes the summary of its log at the end. It reads nothing, and where a line of the
+/// Runs the script that a seed makes, and writes the summary of its log at the end. It reads nothing, and if a line of the
 /// script is refused it writes nothing.
 pub fn run_seed<K: Sink, F: Fn(u16, u32, u16) -> [u8; 480], H: Fn(u32, u8) -> u8>(
     alloc: Global,

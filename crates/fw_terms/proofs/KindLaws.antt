@@ -1,4 +1,4 @@
--- What is true of each kind of device: one place where proofs go by cases over kinds.
+-- What is true of each kind of device: one place in which proofs go by cases over kinds.
 use Rattle.std.proofs.Common.{◌≡◌, ℕ, ◌<◌, ◌≤◌, ◌==◌, cond, not, Bool, true, false, Some, None, refl, ap, ◌∙◌, arith, IsTrue}
 use Rattle.std.specs.List.{list_all}
 use Rattle.std.specs.Char.{is_ascii_lowercase}

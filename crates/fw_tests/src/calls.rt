@@ -83,6 +83,6 @@ pub(crate) fn read_on(source: &mut MemSource) -> usize {
 }
 
 /// The first bytes, as many as there are up to a count.
-pub(crate) fn front(bytes: &[u8], count: usize) -> &[u8] {
+pub(crate) fn prefix(bytes: &[u8], count: usize) -> &[u8] {
     &bytes[..count.min(bytes.len())]
 }

@@ -1,12 +1,12 @@
 //! Scripts up to their limits, and how far they are read.
 
-use crate::calls::{NONE, call_over, front, read_on};
+use crate::calls::{NONE, call_over, prefix, read_on};
 use fw_outside::MemSource;
 use std::alloc::{AllocError, Global};
 use std::test::Fail;
 
 // The header of a log, and its entry of the bus reset that declares one deck.
-const FRONT: [u8; 52] = [
+const PREFIX: [u8; 52] = [
     0x31, 0x33, 0x39, 0x34, 0, 0, 0, 2, 0, 0, 0, 0, 0, 0, 0, 0, 0x01, 0, 0, 0x05, 0, 0, 0, 1, 0, 0,
     0, 0, 0, 0, 0, 0, 0, 0, 0, 1, 0, 0, 0, 1, 0, 1, 1, 1, 0x80, 0x7F, 0x08, 0x42, 0x7F, 0x80, 0xF7,
     0xBD,
@@ -58,7 +58,7 @@ fn scripts_are_read_line_by_line_up_to_their_limits(rt: HostRuntime) -> Result<(
         let script = script_of(alloc, pieces)?;
         let mut source = MemSource::new(script.as_bytes().to_vec(alloc)?, [*read].to_vec(alloc)?);
         let ended = call_over(alloc, &["run"], &mut source, NONE)?;
-        assert!(rt; ended.is(*status, note, front(&FRONT, *length)), "{note}");
+        assert!(rt; ended.is(*status, note, prefix(&PREFIX, *length)), "{note}");
         assert!(rt; read_on(&mut source) >= *left, "{note}");
     }
     Ok(())

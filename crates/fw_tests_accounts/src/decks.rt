@@ -2,7 +2,7 @@
 
 use crate::entries::{bytes_of, entry_of};
 use fw_ledger::Ledger;
-use fw_log::Room;
+use fw_log::ReadBuffers;
 use fw_terms::PlugAt;
 use std::process::Abort;
 use std::test::Fail;
@@ -60,7 +60,7 @@ pub fn take(
     body: &[u32],
 ) -> Result<bool, Fail> {
     let log = bytes_of(rt, kind, body)?;
-    let mut room = Room::new(rt.alloc())?;
+    let mut room = ReadBuffers::new(rt.alloc())?;
     Ok(ledger.take(&entry_of(rt, &log, &mut room))?)
 }
 

@@ -2,7 +2,7 @@
 
 ghost use Rattle.fw_log_entry.specs.Log.{Fits};
 
-use fw_log::{LogFed, LogReader, Room, Timed};
+use fw_log::{LogFed, LogReader, ReadBuffers, Timed};
 use std::process::Abort;
 use std::test::Fail;
 
@@ -21,7 +21,11 @@ pub fn bytes_of(rt: &impl AllocGlobal, kind: u8, body: &[u32]) -> Result<Vec<u8>
 }
 
 /// The entry that stands after the header of a log.
-pub fn entry_of<'a>(rt: &(impl Abort + AllocGlobal), log: &'a [u8], room: &'a mut Room) -> Timed<'a>
+pub fn entry_of<'a>(
+    rt: &(impl Abort + AllocGlobal),
+    log: &'a [u8],
+    room: &'a mut ReadBuffers,
+) -> Timed<'a>
     ensures { Fits result.what }
 {
     let mut reader = LogReader::new(rt.alloc()).expect(rt, "memory");

@@ -5,7 +5,7 @@ ghost use Rattle.std.specs.Prelude.{◌<◌, ◌^◌, length};
 ghost use Rattle.fw_log_entry.specs.Log.{TimedFits};
 
 use fw_log::{
-    LogFault, LogFed, LogReader, LogWhy, Room, Timed, Version, write_entry, write_header,
+    LogFault, LogFed, LogReader, LogWhy, ReadBuffers, Timed, Version, write_entry, write_header,
 };
 use fw_log_entry::{EntryRoom, epoch_after};
 use fw_outside::MemSink;
@@ -39,7 +39,7 @@ fn is_both_ways(alloc: Global, log: &[u8]) -> Result<bool, AllocError>
     requires { length log.now < 2 ^ 32 }
 {
     let mut reader = LogReader::new(alloc)?;
-    let mut room = Room::new(alloc)?;
+    let mut room = ReadBuffers::new(alloc)?;
     match reader.feed(log, &mut room) {
         Ok(
             LogFed {
@@ -87,7 +87,7 @@ fn a_fault_is_answered_again(rt: HostRuntime) -> Result<(), Fail> {
     let good = hex::decode(rt.alloc(), HEADER)?;
     assert!(rt; good.len() == 16);
     let mut reader = LogReader::new(rt.alloc())?;
-    let mut room = Room::new(rt.alloc())?;
+    let mut room = ReadBuffers::new(rt.alloc())?;
     assert!(rt; reader.feed(&VERSION_3, &mut room).err() == Some(FAULT));
     assert!(rt; reader.feed(&good, &mut room).err() == Some(FAULT));
     assert!(rt; reader.finish() == Err(FAULT));

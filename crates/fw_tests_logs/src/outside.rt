@@ -73,7 +73,7 @@ fn a_buffered_sink_passes_all_on_in_order(rt: HostRuntime) -> Result<(), Fail> {
 
 // The beginning of a row, after so many bytes that are kept back.
 #[test]
-fn the_front_of_a_row_is_passed_on_in_order(rt: HostRuntime) -> Result<(), Fail> {
+fn the_prefix_of_a_row_is_passed_on_in_order(rt: HostRuntime) -> Result<(), Fail> {
     let alloc = rt.alloc();
     let mut row = [9; 48];
     row[19] = 5;
@@ -85,7 +85,7 @@ fn the_front_of_a_row_is_passed_on_in_order(rt: HostRuntime) -> Result<(), Fail>
         assert!(rt; are_in_order(&held, before, &row), "{before}");
     }
     let mut sink = MemSink::new(alloc, 20, Vec::new(alloc))?;
-    assert!(rt; write_front_through(&mut sink, &row).is_ok());
+    assert!(rt; write_prefix_through(&mut sink, &row).is_ok());
     assert!(rt; sink.as_slice() == &row[..20]);
     Ok(())
 }
@@ -101,7 +101,7 @@ fn are_written<W: Write>(sink: &mut BufferedSink<W>, a: &[u8], b: &[u8], c: &[u8
 // Whether a piece, the beginning of a row and a byte 7 are written, one after the other, and passed on.
 fn are_written_around<W: Write>(sink: &mut BufferedSink<W>, piece: &[u8], row: &[u8; 48]) -> bool {
     write_through(sink, piece).is_ok()
-        && write_front_through(sink, row).is_ok()
+        && write_prefix_through(sink, row).is_ok()
         && write_through(sink, &[7]).is_ok()
         && sink.flush().is_ok()
 }
@@ -109,7 +109,7 @@ fn are_written_around<W: Write>(sink: &mut BufferedSink<W>, piece: &[u8], row: &
 // Whether the beginning of the row stands after so many bytes, and a byte 7 after it, which is the last.
 fn are_in_order(held: &[u8], before: usize, row: &[u8; 48]) -> bool {
     match held.get(before..) {
-        Some([front @ .., last]) => *last == 7 && front == &row[..20],
+        Some([prefix @ .., last]) => *last == 7 && prefix == &row[..20],
         _ => false,
     }
 }
@@ -122,6 +122,6 @@ fn write_through<K: Sink>(sink: &mut K, piece: &[u8]) -> Result<(), Failed> {
     sink.write(piece)
 }
 
-fn write_front_through<K: Sink>(sink: &mut K, row: &[u8; 48]) -> Result<(), Failed> {
-    sink.write_front(row, 20)
+fn write_prefix_through<K: Sink>(sink: &mut K, row: &[u8; 48]) -> Result<(), Failed> {
+    sink.write_prefix(row, 20)
 }

@@ -3,12 +3,16 @@
 ghost use Rattle.std.specs.Prelude.{◌≡◌, ◌<◌, ◌+◌, ◌^◌, length};
 ghost use Rattle.fw_log.specs.Reader.{total};
 
-use fw_log::{LogFault, LogReader, Room};
+use fw_log::{LogFault, LogReader, ReadBuffers};
 use std::alloc::{AllocError, Global};
 use std::test::Fail;
 
 // Feeds what cannot be passed over of the bytes, ends the input, and answers in how many calls some bytes were fed.
-fn passed_over(bytes: &[u8], reader: &mut LogReader, room: &mut Room) -> Result<usize, LogFault>
+fn passed_over(
+    bytes: &[u8],
+    reader: &mut LogReader,
+    room: &mut ReadBuffers,
+) -> Result<usize, LogFault>
     requires few { length bytes.now < 2 ^ 32 }
     requires begun { total reader.old ≡ 0 }
 {
@@ -19,7 +23,7 @@ fn passed_over(bytes: &[u8], reader: &mut LogReader, room: &mut Room) -> Result<
             break;
         }
         let rest = &bytes[at..];
-        if let Some(used) = reader.pass(rest, room) {
+        if let Some(used) = reader.take_raw(rest, room) {
             at += used;
         } else {
             at += reader.feed(rest, room)?.used;
@@ -35,7 +39,7 @@ pub(crate) fn passed(alloc: Global, log: &[u8]) -> Result<Result<usize, LogFault
     requires { length log.now < 2 ^ 32 }
 {
     let mut reader = LogReader::new(alloc)?;
-    let mut room = Room::new(alloc)?;
+    let mut room = ReadBuffers::new(alloc)?;
     Ok(passed_over(log, &mut reader, &mut room))
 }
 

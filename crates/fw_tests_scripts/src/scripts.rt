@@ -185,7 +185,7 @@ fn a_source_fails(rt: HostRuntime) -> Result<(), Fail> {
 }
 
 /// How many of the next 4,096 bytes a source still has after the line of its script that is refused, which is the first.
-fn left_behind(rt: &(impl Abort + AllocGlobal), script: &[u8]) -> Result<usize, Fail> {
+fn left_following(rt: &(impl Abort + AllocGlobal), script: &[u8]) -> Result<usize, Fail> {
     let mut source = MemSource::new(script.to_vec(rt.alloc())?, Vec::new(rt.alloc()));
     assert!(rt; run(rt.alloc(), &mut source)? == (0, Some(ScriptFault::BadLine), 1));
     let mut left = [0; 4096];
@@ -196,7 +196,7 @@ fn left_behind(rt: &(impl Abort + AllocGlobal), script: &[u8]) -> Result<usize, 
 #[test]
 fn a_script_is_read_no_further_than_it_is_refused(rt: HostRuntime) -> Result<(), Fail> {
     let script = script_of(rt.alloc(), &("x\n", "#\n", 3000, ""))?;
-    assert!(rt; left_behind(&rt, script.as_bytes())? == 1906);
+    assert!(rt; left_following(&rt, script.as_bytes())? == 1906);
     Ok(())
 }
 

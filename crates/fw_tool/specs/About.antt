@@ -1,6 +1,6 @@
 -- What the program says of itself.
 use Rattle.std.specs.Prelude.{◌≡◌, ◌⊎◌, ℕ, List, [], ◌∷◌, ◌++◌, Option, codes}
-use Rattle.fw_outside.specs.Outside.{Grows, AppendsFront}
+use Rattle.fw_outside.specs.Outside.{Grows, AppendsPrefix}
 use Rattle.fw_outside.specs.declared.stop.Stop.TheVariants.{WriteFault}
 use Rattle.fw_tool.specs.declared.about.About.{About}
 use Rattle.fw_tool.specs.declared.about.About.TheVariants.{Help, Version}
@@ -52,4 +52,4 @@ about_text Help = codes "fire simulates a FireWire (IEEE 1394) audio and video b
 
 -- what a sink held before and after: all is done and the text was written whole, or the sink failed and a prefix of it was
 abbrev pub IsSaid : Option (List ℕ) → Option (List ℕ) → List ℕ → Ending → Type 0
-IsSaid held held' text ending = ((ending ≡ Done) × Grows held held' text) ⊎ ((ending ≡ Stopped WriteFault) × AppendsFront held held' text)
+IsSaid held held' text ending = ((ending ≡ Done) × Grows held held' text) ⊎ ((ending ≡ Stopped WriteFault) × AppendsPrefix held held' text)

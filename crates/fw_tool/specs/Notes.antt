@@ -1,7 +1,7 @@
 -- The status and the note of each ending.
 use Rattle.std.specs.Prelude.{◌≡◌, ℕ, ◌⊎◌, List, [], ◌∷◌, ◌++◌, codes, decimal}
 use Rattle.std.specs.declared.option.Option.{Option}
-use Rattle.fw_outside.specs.Outside.{Grows, AppendsFront, Rose}
+use Rattle.fw_outside.specs.Outside.{Grows, AppendsPrefix, Rose}
 use Rattle.fw_outside.specs.declared.stop.Stop.{Stop}
 use Rattle.fw_outside.specs.declared.stop.Stop.TheVariants.{ReadFault, WriteFault, TooLong, NoMemory}
 use Rattle.fw_log.specs.declared.LogWhy.{LogWhy}
@@ -154,7 +154,7 @@ note_of (Unexplored why) = unexplored_note why
 abbrev pub IsPassedOn : {N : Type 0} → (N → Option (List ℕ)) → (N → ℕ) → N → N → List ℕ → ℕ → ℕ → Type 0
 IsPassedOn held faults old new note given status =
     ((status ≡ given) × Grows (held old) (held new) note × (faults new ≡ faults old))
-    ⊎ ((status ≡ 6) × AppendsFront (held old) (held new) note × Rose (faults old) (faults new))
+    ⊎ ((status ≡ 6) × AppendsPrefix (held old) (held new) note × Rose (faults old) (faults new))
 
 -- How an ending is told: its note by the notes, and its status. One that is done has no note.
 abbrev pub IsTold : {N : Type 0} → (N → Option (List ℕ)) → (N → ℕ) → N → N → Ending → ℕ → Type 0

@@ -40,7 +40,7 @@ use fw_tape::Desk;
 use std::alloc::Global;
 
 /// Does what the words say, and answers how that ended. Nothing is told yet.
-pub(crate) fn carry_out<
+pub(crate) fn dispatch_form<
     S: Source,
     K: Sink,
     F: Fn(u16, u32, u16) -> [u8; 480],

@@ -5,7 +5,7 @@ ghost use Rattle.fw_tape.specs.Desks.{AnyBlock, AnyVendorByte};
 ghost use Rattle.fw_tool.specs.Closing.{closed};
 ghost use Rattle.fw_tool.specs.Serving.{Serves};
 
-use crate::dispatch::carry_out;
+use crate::dispatch::dispatch_form;
 use crate::ending::Ending;
 use crate::notes::tell;
 use fw_outside::{Failed, Flush, Sink, Source, Stop};
@@ -52,7 +52,7 @@ pub fn fire<S: Source, K: Flush, N: Sink, F: Fn(u16, u32, u16) -> [u8; 480], H: 
         (record { held = K.held; kept = K.kept; at_once = K.at_once; faults = K.faults; old = sink.old; new = sink.new })
         (record { held = N.held; faults = N.faults; old = notes.old; new = notes.new }) result }
 {
-    let ending = carry_out(alloc, words, source, sink, desk);
+    let ending = dispatch_form(alloc, words, source, sink, desk);
     let flushed = sink.pass_all();
     tell(closed(ending, flushed), notes)
 }

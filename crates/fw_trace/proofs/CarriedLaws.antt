@@ -1,6 +1,6 @@
 -- What a command caused, as a sink has told it that stands on what it stood on before.
 use Rattle.fw_trace.proofs.Common.{◌≡◌, refl, sym, ap, subst, ◌∙◌, ℕ, List, [], ◌++◌, Option, Some, None, ∥∥₁_elim, header_bytes, LogOpens, Two, Timed, LogState, Reading, DeskRelations, log_bytes}
-use Rattle.fw_trace.proofs.Common.{Standing, course_of, RunEnding, Telling, caused_text, Traced, lines_from, telling_behind, Base, Tells, TellsBy}
+use Rattle.fw_trace.proofs.Common.{BusView, course_of, RunEnding, Telling, caused_text, Traced, lines_from, telling_following, Base, Tells, TellsBy}
 use Rattle.std.proofs.lemmas.List.{append_cancel_left}
 use Rattle.std.specs.Coded.{Coded-set, coded_ℕ, coded_list}
 use Rattle.fw_script_words.specs.Going.{Going, Carried, Continues, StepsOn}
@@ -10,15 +10,15 @@ use Rattle.fw_trace.proofs.Framings.{framed_grown}
 use Rattle.fw_trace.proofs.RunLaws.{only_read, going_opens, going_bytes}
 
 -- what a step did to a sink that tells: it stands on the same, and in memory the log is what it was given
-pub record FramedStep {D : DeskRelations} {left mid : Option (List ℕ)} {after : List ℕ} {reader : Reading} {bus : Standing} (g : Going D left mid (Some []) (Some after) reader bus)
-    (base base' : Base) (bytes bytes' : List ℕ) (left' : Option (List ℕ)) (reader' : Reading) (bus' : Standing) (result : Option RunEnding) : Type 0 where
+pub record FramedStep {D : DeskRelations} {left mid : Option (List ℕ)} {after : List ℕ} {reader : Reading} {bus : BusView} (g : Going D left mid (Some []) (Some after) reader bus)
+    (base base' : Base) (bytes bytes' : List ℕ) (left' : Option (List ℕ)) (reader' : Reading) (bus' : BusView) (result : Option RunEnding) : Type 0 where
   pub same : base' ≡ base
   pub more : List ℕ
   pub grown : bytes' ≡ bytes ++ more
   pub goes : Continues g left' (Some (framed base bytes)) (Some (framed base' bytes')) (Some bytes') reader' bus' result
 
-pub framed_step : {D : DeskRelations} {left mid : Option (List ℕ)} {after : List ℕ} {reader : Reading} {bus : Standing} (g : Going D left mid (Some []) (Some after) reader bus)
-    (base base' : Base) (bytes bytes' : List ℕ) (left' : Option (List ℕ)) (reader' : Reading) (bus' : Standing) (result : Option RunEnding)
+pub framed_step : {D : DeskRelations} {left mid : Option (List ℕ)} {after : List ℕ} {reader : Reading} {bus : BusView} (g : Going D left mid (Some []) (Some after) reader bus)
+    (base base' : Base) (bytes bytes' : List ℕ) (left' : Option (List ℕ)) (reader' : Reading) (bus' : BusView) (result : Option RunEnding)
     → StepsOn g left' (Some (framed base bytes)) (Some (framed base' bytes')) reader' bus' result → bytes ≡ header_bytes Two ++ log_bytes 0 g.log
     → FramedStep g base base' bytes bytes' left' reader' bus' result
 framed_step {after = after} g base base' bytes bytes' left' reader' bus' result steps e =
@@ -33,7 +33,7 @@ framed_step {after = after} g base base' bytes bytes' left' reader' bus' result 
     }
 
 -- the entries that the sink has read since the command began are those that the command wrote
-module _ {D : DeskRelations} {left mid left' written written' : Option (List ℕ)} {after bytes bytes' : List ℕ} {reader reader' : Reading} {bus bus' : Standing}
+module _ {D : DeskRelations} {left mid left' written written' : Option (List ℕ)} {after bytes bytes' : List ℕ} {reader reader' : Reading} {bus bus' : BusView}
     (g : Going D left mid (Some []) (Some after) reader bus) (c : Carried D left mid left' (Some []) (Some bytes') written written' (course_of g) reader reader' bus')
     (origin now : Traced) (r : LogState) (count : ℕ) (given : List ℕ) (e : bytes ≡ header_bytes Two ++ log_bytes 0 g.log) where
   out_is : (x : Tells origin now r count bytes bytes' given) → x.out ≡ c.out
@@ -48,7 +48,7 @@ module _ {D : DeskRelations} {left mid left' written written' : Option (List ℕ
   carried_text t = ∥∥₁_elim t (Coded-set (coded_list coded_ℕ) _ _)
       (λ (x : Tells origin now r count bytes bytes' given). x.text ∙ ap (λ (o : List Timed). origin.text ++ caused_text (lines_from origin.telling o)) (out_is x))
 
-  pub carried_kept : ∥ TellsBy None origin now r count bytes bytes' given ∥₁ → now ≡ record { text = now.text; telling = telling_behind origin.telling c.out }
+  pub carried_kept : ∥ TellsBy None origin now r count bytes bytes' given ∥₁ → now ≡ record { text = now.text; telling = telling_following origin.telling c.out }
   carried_kept t = ∥∥₁_elim t (Coded-set the_row.coded _ _)
       (λ (x : Tells origin now r count bytes bytes' given). ap (λ (k : Telling). record { text = now.text; telling = k })
-      (x.kept ∙ ap (λ (o : List Timed). telling_behind origin.telling o) (out_is x)))
+      (x.kept ∙ ap (λ (o : List Timed). telling_following origin.telling o) (out_is x)))

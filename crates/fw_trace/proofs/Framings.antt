@@ -28,9 +28,9 @@ spelled_once (gnum m) (gcons c d) r s e = absurd (omega (arith, ap first_of e))
 spelled_once (gcons a b) gnil r s e = absurd (omega (arith, ap first_of e))
 spelled_once (gcons a b) (gnum n) r s e = absurd (omega (arith, ap first_of e))
 spelled_once (gcons a b) (gcons c d) r s e =
-    let front = spelled_once a c (spelled b r) (spelled d s) (ap rest_of e) in
-    let behind = spelled_once b d r s front.1 in
-    (λ i. gcons (front.0 i) (behind.0 i), behind.1)
+    let prefix = spelled_once a c (spelled b r) (spelled d s) (ap rest_of e) in
+    let following = spelled_once b d r s prefix.1 in
+    (λ i. gcons (prefix.0 i) (following.0 i), following.1)
 
 -- a piece more
 pub framed_more : (base : Base) (bytes piece : List ℕ) → framed base (bytes ++ piece) ≡ framed base bytes ++ piece
@@ -53,4 +53,4 @@ pub frame_writes : {T E : Type 0} (base base' : Base) (bytes bytes' piece : List
     → Writes (Some (framed base bytes)) (Some (framed base' bytes')) r piece
 frame_writes base base' bytes bytes' piece (Ok t) e w = frame_written base base' bytes bytes' piece e w
 frame_writes base base' bytes bytes' piece (Err f) e w =
-    record { front = w.front; rest = w.rest; parts = w.parts; appended = frame_written base base' bytes bytes' w.front e w.appended }
+    record { prefix = w.prefix; rest = w.rest; parts = w.parts; appended = frame_written base base' bytes bytes' w.prefix e w.appended }

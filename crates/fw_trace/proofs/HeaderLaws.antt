@@ -1,14 +1,14 @@
 -- A trace at its beginning: the log's header was read, and nothing is told for it.
-use Rattle.fw_trace.proofs.Common.{◌≡◌, refl, sym, ap, subst, ◌∙◌, ℕ, Bool, List, [], ◌∷◌, ◌++◌, Option, Some, None, inl, append_assoc, arith, append-nil, ∥∥₁_elim, Grows, AppendsFront, WriteFault}
-use Rattle.fw_trace.proofs.Common.{ReadFault, TooLong, NoMemory, header_bytes, LogOpens, Two, Timed, HasRead, LogState, Reading, Commands, DeskRelations, Standing, RunEnding, Refused, Stopped}
-use Rattle.fw_trace.proofs.Common.{caused_text, untold, Traced, lines_from, telling_behind, Lack, Memory, PartsRun, GrowsFront, WasPassed, Tells, TellsBy, ToldPart, fails_by, Traces, TellsFront}
+use Rattle.fw_trace.proofs.Common.{◌≡◌, refl, sym, ap, subst, ◌∙◌, ℕ, Bool, List, [], ◌∷◌, ◌++◌, Option, Some, None, inl, append_assoc, arith, append-nil, ∥∥₁_elim, Grows, AppendsPrefix, WriteFault}
+use Rattle.fw_trace.proofs.Common.{ReadFault, TooLong, NoMemory, header_bytes, LogOpens, Two, Timed, HasRead, LogState, Reading, Commands, DeskRelations, BusView, RunEnding, Refused, Stopped}
+use Rattle.fw_trace.proofs.Common.{caused_text, untold, Traced, lines_from, telling_following, Lack, Memory, PartsRun, GrowsPrefix, WasPassed, Tells, TellsBy, ToldPart, fails_by, Traces, TellsPrefix}
 use Rattle.fw_trace.proofs.Common.{HasLines, Tracing}
 use Rattle.std.specs.Prelude.{IsFalse}
 use Rattle.std.specs.Coded.{Coded-set, coded_ℕ, coded_list}
 use Rattle.fw_outside.proofs.Parts.{Grows-nothing, Takes-nothing}
 use Rattle.fw_log.proofs.HistoryLaws.{log_begins}
 use Rattle.fw_script.specs.Reading.{unread}
-use Rattle.fw_script.specs.declared.stage.Stage.TheVariants.{Done as AtEnd}
+use Rattle.fw_script.specs.declared.stage.ReaderStage.TheVariants.{Done as AtEnd}
 use Rattle.fw_model_run.specs.Runs.{begun}
 use Rattle.fw_model_run.specs.State.{first_state}
 use Rattle.fw_model_run.proofs.Logs.{run_opens}
@@ -22,7 +22,7 @@ use Rattle.fw_trace.specs.Parts.{first_course}
 use Rattle.fw_trace.specs.Traces.{stopped_by, fault_by}
 use Rattle.fw_trace.specs.Tracing.{IsBeginning}
 use Rattle.fw_trace.proofs.OnLaws.{passed_whole}
-use Rattle.fw_trace.proofs.PassedLaws.{front_of, passed_front}
+use Rattle.fw_trace.proofs.PassedLaws.{prefix_of, passed_prefix}
 use Rattle.fw_trace.proofs.StopLaws.{stopped_tells}
 
 -- ---- what is read of the header
@@ -49,13 +49,13 @@ module _ (origin now : Traced) (r : LogState) (count : ℕ) (bytes rest given : 
   tells_nothing x =
       let out = (both_nothing x.before x.out (none_within (x.before ++ x.out) bytes rest r x.read e)).1 in
       let none = both_nothing given now.text (x.text ∙ read_text x.out out) in
-      let kept : now.telling ≡ untold = x.kept ∙ (λ i. telling_behind (new i).telling (out i)) in
+      let kept : now.telling ≡ untold = x.kept ∙ (λ i. telling_following (new i).telling (out i)) in
       (none.0, λ i. record { text = none.1 i; telling = kept i })
 
   told_nothing : (y : ToldPart origin [] bytes given) → given ≡ []
   told_nothing y =
-      let within : header_bytes Two ≡ y.front ++ (y.more ++ rest) = e ∙ ap (λ (l : List ℕ). l ++ rest) y.parts ∙ append_assoc y.front y.more rest in
-      let out = (both_nothing y.before y.out (none_within (y.before ++ y.out) y.front (y.more ++ rest) y.last y.read within)).1 in
+      let within : header_bytes Two ≡ y.prefix ++ (y.more ++ rest) = e ∙ ap (λ (l : List ℕ). l ++ rest) y.parts ∙ append_assoc y.prefix y.more rest in
+      let out = (both_nothing y.before y.out (none_within (y.before ++ y.out) y.prefix (y.more ++ rest) y.last y.read within)).1 in
       (both_nothing given y.rest (y.text ∙ read_text y.out out)).0
 
   given_nothing : (lack : Option Lack) → ∥ TellsBy lack origin now r count [] bytes given ∥₁ → given ≡ []
@@ -99,14 +99,14 @@ header_stops origin now r count earlier bytes rest given lack failed held held' 
     let tells' = subst (λ (l : List ℕ). ∥ TellsBy lack origin now r count l bytes given ∥₁) old tells in
     let nothing : given ≡ [] = given_nothing origin now r count bytes rest given new e lack tells' in
     let why = why_by lack in (
-      subst (λ (o : Option (List ℕ)). GrowsFront o held' []) same (passed_front failed start held' faults faults' given [] [] passed (append-nil given ∙ nothing)),
+      subst (λ (o : Option (List ℕ)). GrowsPrefix o held' []) same (passed_prefix failed start held' faults faults' given [] [] passed (append-nil given ∙ nothing)),
       why.0,
       end ∙ why.1,
     )
 
 -- ---- a trace begins
 
-pub first_tracing : {D : DeskRelations} (left held held' : Option (List ℕ)) (lack : Option Lack) (reader : Reading) (bus : Standing) (tracer : Traced) (history : List ℕ)
+pub first_tracing : {D : DeskRelations} (left held held' : Option (List ℕ)) (lack : Option Lack) (reader : Reading) (bus : BusView) (tracer : Traced) (history : List ℕ)
     → reader ≡ unread → StandsFor bus.machine first_state → IsFalse bus.spent → IsBeginning held held' lack tracer history None → Tracing D left left held held' reader bus tracer history
 unfolding going_first
 first_tracing left held held' lack reader bus tracer history new stands fresh b = record {
@@ -122,8 +122,8 @@ first_tracing left held held' lack reader bus tracer history new stands fresh b 
 }
 
 -- nothing is told
-front_nothing : {D : DeskRelations} (left held held' : Option (List ℕ)) → AppendsFront held held' [] → TellsFront D left left held held'
-front_nothing left held held' grew = record {
+prefix_nothing : {D : DeskRelations} (left held held' : Option (List ℕ)) → AppendsPrefix held held' [] → TellsPrefix D left left held held'
+prefix_nothing left held held' grew = record {
   parts = [];
   course = first_course;
   run = PartsRun.first;
@@ -137,11 +137,11 @@ front_nothing left held held' grew = record {
 pub first_stops : (D : DeskRelations) (left held held' : Option (List ℕ)) (lack : Option Lack) (tracer : Traced) (history : List ℕ) (ending : RunEnding)
     → IsBeginning held held' lack tracer history (Some ending) → Traces D left left held held' ending
 first_stops D left held held' lack tracer history ending b =
-    subst (λ (e : RunEnding). Traces D left left held held' e) (sym b.2) (stopped_tells b.1 (front_nothing left held held' (front_of held held' [] b.0)))
+    subst (λ (e : RunEnding). Traces D left left held held' e) (sym b.2) (stopped_tells b.1 (prefix_nothing left held held' (prefix_of held held' [] b.0)))
 
 -- there is no room for the first of it
 pub nothing_traced : (D : DeskRelations) (left held : Option (List ℕ)) → Traces D left left held held (Stopped NoMemory)
-nothing_traced D left held = front_nothing left held held (record { front = []; rest = []; parts = refl; appended = Grows-nothing held })
+nothing_traced D left held = prefix_nothing left held held (record { prefix = []; rest = []; parts = refl; appended = Grows-nothing held })
 
 -- no line of a valid script is refused
 pub trace_completes : (D : DeskRelations) (script : List ℕ) (left left' held held' : Option (List ℕ)) (e : RunEnding) → Traces D left left' held held' e → left ≡ Some script → IsValid script

@@ -1,6 +1,6 @@
 -- What the next call of the reader gives if a line is held, or none stands next.
 use Rattle.fw_trace.proofs.Common.{◌≡◌, refl, sym, ap, subst, ◌∙◌, ℕ, ◌+◌, List, [], ◌++◌, true, ◌⊎◌, inl, inr, Option, Some, None, Ok, Err, append-nil, Command, End, Reading, Advances, TakesMore}
-use Rattle.fw_trace.proofs.Common.{behind, Stage, Commands, Done}
+use Rattle.fw_trace.proofs.Common.{following, ReaderStage, Commands, Done}
 use Rattle.std.proofs.Common.{◌≢◌}
 use Rattle.fw_script.specs.Reader.{PassesOver}
 use Rattle.fw_script.specs.Reader.PassesOver.{nowhere, over_skipped, over_end}
@@ -8,7 +8,7 @@ use Rattle.fw_script.specs.Reading.{Answer, GivesFirst, GivesNext, IsHeld, IsAtE
 use Rattle.fw_script.specs.Reading.GivesFirst.{skipped, command, end_line, read_fault}
 use Rattle.fw_script.specs.declared.ScriptFault.{ScriptFault}
 use Rattle.fw_script.specs.declared.ScriptFault.TheVariants.{BadLine, LineTooLong, NoEnd, ReadFault, TooLong}
-use Rattle.fw_script.specs.declared.stage.Stage.TheVariants.{AfterEnd, Failed}
+use Rattle.fw_script.specs.declared.stage.ReaderStage.TheVariants.{AfterEnd, Failed}
 use Rattle.fw_script.proofs.CallLaws.{next_open}
 use Rattle.fw_script.proofs.GivesLaws.{gives_once, gives_with, goes_answer, cut_gives}
 use Rattle.fw_script.proofs.LineLaws.{limit_more}
@@ -48,14 +48,14 @@ held_of p None c g = by g.1
     by (inr h) = inr (held_none p h.answer h.next h.gives h.none)
 held_of p (Some text) c g =
     let (size, l, said, stage, form, other) = g in
-    inr (record { answer = Ok (Some c); next = behind p text size; gives = command c text size l said stage form other; told = λ e. cc; limit = λ e. absurd cc; line = inr (inr refl) })
+    inr (record { answer = Ok (Some c); next = following p text size; gives = command c text size l said stage form other; told = λ e. cc; limit = λ e. absurd cc; line = inr (inr refl) })
 
 -- ---- the end was given
 
 pub done_none : (p q : Reading) (left left' : Option (List ℕ)) (r : Answer) → p.stage ≡ Done → Advances p q left left' r → r ≡ Ok None
-done_none p q left left' r e a = (subst (λ (s : Stage). GivesNext s a.known r q) e a.gives).0
+done_none p q left left' r e a = (subst (λ (s : ReaderStage). GivesNext s a.known r q) e a.gives).0
 
-nothing_at : (s : Stage) (p q : Reading) → GivesNext s p (Ok None) q → s ≡ Done
+nothing_at : (s : ReaderStage) (p q : Reading) → GivesNext s p (Ok None) q → s ≡ Done
 nothing_at Commands p q g = absurd (given_some g refl)
 nothing_at AfterEnd p q g = absurd (given_some g refl)
 nothing_at Done p q g = refl

@@ -7,7 +7,7 @@ pub mod PartLaws
 pub mod RunLaws
 pub mod CarriedLaws
 pub mod EndedLaws
-pub mod FrontLaws
+pub mod PrefixLaws
 pub mod TextLaws
 pub mod HeldLaws
 pub mod TracedLaws

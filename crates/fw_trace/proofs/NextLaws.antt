@@ -1,6 +1,52 @@
 -- A trace before its next line: what the line says, or that none stands next.
-use Rattle.fw_trace.proofs.Common.{◌≡◌, refl, sym, ap, subst, ◌∙◌, ℕ, ◌+◌, ◌<◌, List, [], ◌∷◌, ◌++◌, take, true, ◌⊎◌, inl, inr, Option, Some, None, Ok, Err, append-nil, Grows, AppendsFront, ReadFault}
-use Rattle.fw_trace.proofs.Common.{NoMemory, header_bytes, Two, Command, End, Reading, Advances, TakesMore, behind, Stage, Commands, Done, DeskRelations, log_bytes, Standing, Course, course_of}
+use Rattle.fw_trace.proofs.Common.{
+  ◌≡◌,
+  refl,
+  sym,
+  ap,
+  subst,
+  ◌∙◌,
+  ℕ,
+  ◌+◌,
+  ◌<◌,
+  List,
+  [],
+  ◌∷◌,
+  ◌++◌,
+  take,
+  true,
+  ◌⊎◌,
+  inl,
+  inr,
+  Option,
+  Some,
+  None,
+  Ok,
+  Err,
+  append-nil,
+  Grows,
+  AppendsPrefix,
+  ReadFault,
+}
+use Rattle.fw_trace.proofs.Common.{
+  NoMemory,
+  header_bytes,
+  Two,
+  Command,
+  End,
+  Reading,
+  Advances,
+  TakesMore,
+  following,
+  ReaderStage,
+  Commands,
+  Done,
+  DeskRelations,
+  log_bytes,
+  BusView,
+  Course,
+  course_of,
+}
 use Rattle.fw_trace.proofs.Common.{RunEnding, Stopped, untold, Traced, begun, Part, PartsRun, AreLines, trace_text, Lack, Traces, Begun, HasLines, Tracing}
 use Rattle.std.proofs.Common.{◌≢◌}
 use Rattle.fw_script_command.specs.Form.{HasForm}
@@ -12,7 +58,7 @@ use Rattle.fw_script.specs.Reading.{IsAtEndOfInput, IsHeld, IsLine, at_stage, re
 use Rattle.fw_script.specs.Reading.GivesFirst.{end_of_input, long_line, no_end, too_long}
 use Rattle.fw_script.specs.declared.ScriptFault.TheVariants as Fault
 use Rattle.fw_script.specs.declared.reader.passing.Said.TheVariants.{Nothing, Refused}
-use Rattle.fw_script.specs.declared.stage.Stage.TheVariants.{AfterEnd, Failed}
+use Rattle.fw_script.specs.declared.stage.ReaderStage.TheVariants.{AfterEnd, Failed}
 use Rattle.fw_script.proofs.LineLaws.{line_not_end}
 use Rattle.fw_script.proofs.PassLaws.{pass_over, refused_gives}
 use Rattle.fw_model_run.specs.Rules.{Decides}
@@ -27,10 +73,10 @@ use Rattle.fw_trace.specs.Passed.{PassesBy}
 use Rattle.fw_trace.specs.Tracing.{TracesOn, HoldsNoCommand, IsOver}
 use Rattle.fw_trace.proofs.EndedLaws.{are_lines}
 use Rattle.fw_trace.proofs.HeldLaws.{whole_known}
-use Rattle.fw_trace.proofs.PartLaws.{kept_more, lines_behind, lines_looked}
+use Rattle.fw_trace.proofs.PartLaws.{kept_more, lines_following, lines_looked}
 use Rattle.fw_trace.proofs.TextLaws.{told_more}
 
-pub under_way : {D : DeskRelations} {left left' held held' : Option (List ℕ)} {reader : Reading} {bus : Standing} {tracer : Traced} {history : List ℕ}
+pub under_way : {D : DeskRelations} {left left' held held' : Option (List ℕ)} {reader : Reading} {bus : BusView} {tracer : Traced} {history : List ℕ}
     → Tracing D left left' held held' reader bus tracer history → IsUnderWay D left' reader bus
 under_way {left = left} t = record { left = left; held = Some []; after = Some t.after; going = t.going }
 
@@ -42,29 +88,29 @@ none_next p unfailed (inr (inl l)) = inr (record { answer = Err Fault.LineTooLon
 none_next p unfailed (inr (inr (inl l))) = inr (record { answer = Err Fault.TooLong; next = at_stage p Failed; gives = too_long l; none = l })
 none_next p unfailed (inr (inr (inr e))) = by p.stage refl
   where
-    by : (s : Stage) → p.stage ≡ s → (p.stage ≡ Done) ⊎ HoldsNoCommand p
+    by : (s : ReaderStage) → p.stage ≡ s → (p.stage ≡ Done) ⊎ HoldsNoCommand p
     by Commands s = inr (record { answer = Err Fault.NoEnd; next = refused p []; gives = no_end e s; none = refl })
     by AfterEnd s = inr (record { answer = Ok (Some End); next = at_stage p Done; gives = end_of_input e s; none = (refl, e, refl) })
     by Done s = inl s
     by Failed s = absurd (unfailed s)
 
 pub refused_next : (p q : Reading) (n size : ℕ) (c : Command) → HoldsLine p n size → Passes p n size Refused c q → (p.stage ≡ Done) ⊎ HoldsNoCommand p
-refused_next p q n size c h s = inr (record { answer = Err Fault.BadLine; next = at_stage (behind p (take n p.rest) size) Failed; gives = refused_gives p q n size c h s; none = refl })
+refused_next p q n size c h s = inr (record { answer = Err Fault.BadLine; next = at_stage (following p (take n p.rest) size) Failed; gives = refused_gives p q n size c h s; none = refl })
 
 -- where a line stands next lines are read
 pub line_open : (p : Reading) (text : List ℕ) (size : ℕ) → p.stage ≢ Failed → IsOver p → IsLine p text size → IsOpen p.stage
 line_open p text size unfailed over l = by p.stage refl
   where
-    by : (s : Stage) → p.stage ≡ s → IsOpen p.stage
-    by Commands e = subst (λ (s : Stage). IsOpen s) (sym e) tt
-    by AfterEnd e = subst (λ (s : Stage). IsOpen s) (sym e) tt
+    by : (s : ReaderStage) → p.stage ≡ s → IsOpen p.stage
+    by Commands e = subst (λ (s : ReaderStage). IsOpen s) (sym e) tt
+    by AfterEnd e = subst (λ (s : ReaderStage). IsOpen s) (sym e) tt
     by Done e = absurd (line_not_end p text size l (over e))
     by Failed e = absurd (unfailed e)
 
 -- ---- before it is carried out
 
 -- no command stands next
-pub begun_alone : {D : DeskRelations} {left left' held held' : Option (List ℕ)} {reader : Reading} {bus : Standing} {tracer : Traced} {history : List ℕ}
+pub begun_alone : {D : DeskRelations} {left left' held held' : Option (List ℕ)} {reader : Reading} {bus : BusView} {tracer : Traced} {history : List ℕ}
     (t : Tracing D left left' held held' reader bus tracer history)
     → (reader.stage ≡ Done) ⊎ HoldsNoCommand reader → (start : Option (List ℕ)) (origin : Traced) (earlier : List ℕ) → start ≡ held' → origin ≡ tracer → earlier ≡ history
     → Begun D left left' held start reader bus origin earlier None End None
@@ -84,7 +130,7 @@ begun_alone {held = held} t none start origin earlier s o e = record {
 }
 
 -- a command stands next
-pub begun_line : {D : DeskRelations} {left left' held held' : Option (List ℕ)} {reader : Reading} {bus : Standing} {tracer : Traced} {history : List ℕ}
+pub begun_line : {D : DeskRelations} {left left' held held' : Option (List ℕ)} {reader : Reading} {bus : BusView} {tracer : Traced} {history : List ℕ}
     (t : Tracing D left left' held held' reader bus tracer history)
     (n size : ℕ) (c : Command) → HoldsLine reader n size → IsCommandNext reader reader (take n reader.rest) c
     → (start : Option (List ℕ)) (origin : Traced) (earlier : List ℕ) (number : ℕ) (place : Option (ℕ × ℕ))
@@ -108,28 +154,28 @@ begun_line {held = held} {reader = reader} t n size c h s start origin earlier n
 -- ---- a line that says nothing by itself
 
 -- it was read
-record Behind (left left' : Option (List ℕ)) (parts : List Part) (p q : Reading) (text : List ℕ) : Type 0 where
+record Subsequent (left left' : Option (List ℕ)) (parts : List Part) (p q : Reading) (text : List ℕ) : Type 0 where
   lines : HasLines left left' (parts ++ Part.line text ∷ []) q
   over : IsOver q
   number : q.line ≡ p.line + 1
   shown : q.text ≡ text
   says : (is_skipped text ≡ true) ⊎ HasForm End text
 
-line_behind : (left left' : Option (List ℕ)) (parts : List Part) (p q : Reading) (n size : ℕ) (c : Command) → HasLines left left' parts p → IsOver p → HoldsLine p n size → Passes p n size Nothing c q
-    → Behind left left' parts p q (take n p.rest)
-line_behind left left' parts p q n size c x over h (inl s) =
+line_after : (left left' : Option (List ℕ)) (parts : List Part) (p q : Reading) (n size : ℕ) (c : Command) → HasLines left left' parts p → IsOver p → HoldsLine p n size → Passes p n size Nothing c q
+    → Subsequent left left' parts p q (take n p.rest)
+line_after left left' parts p q n size c x over h (inl s) =
     let text = take n p.rest in
-    subst (λ (z : Reading). Behind left left' parts p z text) (sym s.now) (record {
-      lines = lines_behind left left' parts p (Part.line text) text size refl refl (λ f. (f, tt)) x h.line;
+    subst (λ (z : Reading). Subsequent left left' parts p z text) (sym s.now) (record {
+      lines = lines_following left left' parts p (Part.line text) text size refl refl (λ f. (f, tt)) x h.line;
       over = λ d. absurd (line_not_end p text size h.line (over d));
       number = refl;
       shown = refl;
       says = inl s.skipped;
     })
-line_behind left left' parts p q n size c x over h (inr e) =
+line_after left left' parts p q n size c x over h (inr e) =
     let text = take n p.rest in
-    let b = lines_behind left left' parts p (Part.line text) text size refl refl (λ f. (f, tt)) x h.line in
-    subst (λ (z : Reading). Behind left left' parts p z text) (sym e.now) (record {
+    let b = lines_following left left' parts p (Part.line text) text size refl refl (λ f. (f, tt)) x h.line in
+    subst (λ (z : Reading). Subsequent left left' parts p z text) (sym e.now) (record {
       lines = record { taken = b.taken; takes = b.takes; split = b.split; free = b.free; number = b.number; few = b.few; count = b.count };
       over = λ d. let wrong : AfterEnd ≡ Done = d in absurd cc;
       number = refl;
@@ -138,13 +184,13 @@ line_behind left left' parts p q n size c x over h (inr e) =
     })
 
 -- it was told
-pub line_told : {D : DeskRelations} {left left' held held' : Option (List ℕ)} {p : Reading} {bus : Standing} {tracer : Traced} {history : List ℕ}
+pub line_told : {D : DeskRelations} {left left' held held' : Option (List ℕ)} {p : Reading} {bus : BusView} {tracer : Traced} {history : List ℕ}
     (t : Tracing D left left' held held' p bus tracer history)
     (q : Reading) (n size : ℕ) (c : Command) → HoldsLine p n size → Passes p n size Nothing c q → (held2 : Option (List ℕ)) → Grows held' held2 (tracer.text ++ line_text q.line q.text)
     → Tracing D left left' held held2 q bus (record { text = []; telling = tracer.telling }) history
 line_told {D} {left} {left'} {held} {held'} {p} {bus} {tracer} t q n size c h s held2 grew =
     let text = take n p.rest in
-    let b = line_behind left left' t.parts p q n size c t.lines t.over h s in
+    let b = line_after left left' t.parts p q n size c t.lines t.over h s in
     let g = going_passed D left left' (Some []) (Some t.after) p q bus t.going (pass_over p q n size c h s) in
     let course : course_of t.going ≡ course_of g.0 = sym g.1 in
     record {
@@ -163,7 +209,7 @@ line_told {D} {left} {left'} {held} {held'} {p} {bus} {tracer} t q n size c h s 
 -- ---- a look
 
 -- bytes were taken
-pub tracing_looked : {D : DeskRelations} {left mid held held' : Option (List ℕ)} {p : Reading} {bus : Standing} {tracer : Traced} {history : List ℕ}
+pub tracing_looked : {D : DeskRelations} {left mid held held' : Option (List ℕ)} {p : Reading} {bus : BusView} {tracer : Traced} {history : List ℕ}
     (t : Tracing D left mid held held' p bus tracer history)
     (left' : Option (List ℕ)) (q : Reading) → TakesMore p q mid left' → q.stage ≡ p.stage → Tracing D left left' held held' q bus tracer history
 tracing_looked {D} {left} {mid} {p = p} {bus = bus} t left' q m stage =
@@ -182,7 +228,7 @@ tracing_looked {D} {left} {mid} {p = p} {bus = bus} t left' q m stage =
     }
 
 -- the source failed
-pub fault_traced : {D : DeskRelations} {left mid held held' : Option (List ℕ)} {p : Reading} {bus : Standing} {tracer : Traced} {history : List ℕ}
+pub fault_traced : {D : DeskRelations} {left mid held held' : Option (List ℕ)} {p : Reading} {bus : BusView} {tracer : Traced} {history : List ℕ}
     (t : Tracing D left mid held held' p bus tracer history)
     (left' : Option (List ℕ)) (q : Reading) → Advances p q mid left' (Err Fault.ReadFault) → IsHeld (Err Fault.ReadFault) q → FailsThere p q mid left'
     → Traces D left left' held held' (Stopped ReadFault)
@@ -199,12 +245,12 @@ fault_traced {D} {left} {mid} {p = p} t left' q a cut f =
     }
 
 -- memory ran out before the line was carried out
-pub lack_traced : {D : DeskRelations} {left left' held held' : Option (List ℕ)} {p : Reading} {bus : Standing} {tracer : Traced} {history : List ℕ}
+pub lack_traced : {D : DeskRelations} {left left' held held' : Option (List ℕ)} {p : Reading} {bus : BusView} {tracer : Traced} {history : List ℕ}
     (t : Tracing D left left' held held' p bus tracer history)
     (now : Option (List ℕ)) → now ≡ held' → Traces D left left' held now (Stopped NoMemory)
 lack_traced {D} {left} {left'} {held} {p = p} t now e =
-    let whole : AppendsFront held now (trace_text t.parts) = record {
-      front = trace_text t.parts;
+    let whole : AppendsPrefix held now (trace_text t.parts) = record {
+      prefix = trace_text t.parts;
       rest = [];
       parts = sym (append-nil (trace_text t.parts));
       appended = subst (λ (o : Option (List ℕ)). Grows held o (trace_text t.parts)) (sym e) t.told;
@@ -217,11 +263,11 @@ lack_traced {D} {left} {left'} {held} {p = p} t now e =
       begun = [];
       begins = tt;
       lines = subst (AreLines left left') (sym (append-nil t.parts)) (are_lines left left' t.parts p t.lines);
-      grew = subst (λ (ps : List Part). AppendsFront held now (trace_text ps)) (sym (append-nil t.parts)) whole;
+      grew = subst (λ (ps : List Part). AppendsPrefix held now (trace_text ps)) (sym (append-nil t.parts)) whole;
     }
 
 -- the measure goes on from before a look
-pub measured : (D : DeskRelations) (left left' held held' : Option (List ℕ)) (p q reader : Reading) (bus : Standing) (tracer : Traced) (history : List ℕ) (r : Option RunEnding) → to_read q ≡ to_read p
+pub measured : (D : DeskRelations) (left left' held held' : Option (List ℕ)) (p q reader : Reading) (bus : BusView) (tracer : Traced) (history : List ℕ) (r : Option RunEnding) → to_read q ≡ to_read p
     → TracesOn D left left' held held' q reader bus tracer history r → TracesOn D left left' held held' p reader bus tracer history r
 measured D left left' held held' p q reader bus tracer history None e x = (x.0, subst (λ (n : ℕ). to_read reader < n) e x.1)
 measured D left left' held held' p q reader bus tracer history (Some ending) e x = x

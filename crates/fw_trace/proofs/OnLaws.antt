@@ -1,6 +1,23 @@
 -- A trace goes on if a step has carried out a command.
 use Rattle.fw_trace.proofs.Common.{◌≡◌, refl, sym, ap, subst, ◌∙◌, ℕ, ◌<◌, Bool, List, [], ◌++◌, Option, Some, None, Err, arith, Grows, ReadFault, WriteFault, TooLong, NoMemory, RunEnding, Refused}
-use Rattle.fw_trace.proofs.Common.{Stopped, Command, LogState, Reading, DeskRelations, Standing, course_of, caused_text, Traced, last_lines, lines_from, telling_behind, Lack, Memory, Base, WasPassed}
+use Rattle.fw_trace.proofs.Common.{
+  Stopped,
+  Command,
+  LogState,
+  Reading,
+  DeskRelations,
+  BusView,
+  course_of,
+  caused_text,
+  Traced,
+  last_lines,
+  lines_from,
+  telling_following,
+  Lack,
+  Memory,
+  Base,
+  WasPassed,
+}
 use Rattle.fw_trace.proofs.Common.{TellsBy, fails_by, Begun, Tracing}
 use Rattle.fw_outside.specs.Outside.{Rose}
 use Rattle.fw_script_words.specs.Counts.{WriteCount}
@@ -25,18 +42,18 @@ pub passed_whole : (lack : Option Lack) (failed : Bool) (held held' : Option (Li
 passed_whole lack failed held held' faults faults' given none e w = subst (λ (b : Bool). WasPassed b held held' faults faults' given) (e ∙ ap fails_by none) w
 
 -- a line, or the end
-carried_part : {D : DeskRelations} {left mid left' held start written written' : Option (List ℕ)} {reader reader' : Reading} {bus bus' : Standing} {origin : Traced} {earlier history : List ℕ}
+carried_part : {D : DeskRelations} {left mid left' held start written written' : Option (List ℕ)} {reader reader' : Reading} {bus bus' : BusView} {origin : Traced} {earlier history : List ℕ}
     {c : Command} {place : Option (ℕ × ℕ)} (line : Option (List ℕ)) (b : Begun D left mid held start reader bus origin earlier line c place)
     (k : Carried D left mid left' (Some []) (Some history) written written' (course_of b.going) reader reader' bus')
     (given : List ℕ) (now end : Traced) (held1 held2 : Option (List ℕ))
-    → given ++ now.text ≡ origin.text ++ caused_text (lines_from origin.telling k.out) → now.telling ≡ telling_behind origin.telling k.out
+    → given ++ now.text ≡ origin.text ++ caused_text (lines_from origin.telling k.out) → now.telling ≡ telling_following origin.telling k.out
     → Grows start held1 given → Grows held1 held2 (now.text ++ caused_text (last_lines now.telling))
     → end.text ≡ [] → end.telling ≡ ended c place now.telling
     → Tracing D left left' held held2 reader' bus' end history
 carried_part None b k given now end held1 held2 t1 t2 g1 g2 e1 e2 = end_traced b k given now end held1 held2 t1 t2 g1 g2 e1 e2
 carried_part (Some text) b k given now end held1 held2 t1 t2 g1 g2 e1 e2 = line_traced b k given now end held1 held2 t1 t2 g1 g2 e1 e2
 
-pub carried_on : {D : DeskRelations} {left mid left' held start : Option (List ℕ)} {reader reader' : Reading} {bus bus' : Standing} {origin : Traced} {earlier : List ℕ} {c : Command}
+pub carried_on : {D : DeskRelations} {left mid left' held start : Option (List ℕ)} {reader reader' : Reading} {bus bus' : BusView} {origin : Traced} {earlier : List ℕ} {c : Command}
     {place : Option (ℕ × ℕ)}
     (line : Option (List ℕ)) (b : Begun D left mid held start reader bus origin earlier line c place)
     (name name' faults faults' : ℕ) (start' : Option (List ℕ)) (origin' : Traced) (earlier' bytes history : List ℕ)
@@ -61,7 +78,7 @@ carried_on {D} {left} {mid} {left'} {held} {start} {reader} {reader'} {bus} {bus
     text : given ++ now.text ≡ origin.text ++ caused_text (lines_from origin.telling f.goes.out)
     text = carried_text b.going f.goes origin now r count given b.read tells'
 
-    kept : now.telling ≡ telling_behind origin.telling f.goes.out
+    kept : now.telling ≡ telling_following origin.telling f.goes.out
     kept = ap (λ (t : Traced). t.telling) (carried_kept b.going f.goes origin now r count given b.read tells')
 
 -- ---- which counts of faults rise

@@ -1,10 +1,10 @@
 -- The parts of a trace, one more at a time.
 use Rattle.fw_trace.proofs.Common.{◌≡◌, refl, sym, ap, subst, ◌∙◌, ℕ, ◌+◌, ◌<◌, List, [], ◌∷◌, ◌++◌, length, take, Bool, true, inl, inr, Option, append_assoc, arith, append-nil, length-append}
-use Rattle.fw_trace.proofs.Common.{Reading, TakesMore, behind, Telling, Part, part_text, lines_of, kept_from, HasLines}
+use Rattle.fw_trace.proofs.Common.{Reading, TakesMore, following, Telling, Part, part_text, lines_of, kept_from, HasLines}
 use Rattle.std.proofs.Common.{◌-◌, drop}
 use Rattle.std.proofs.lemmas.List.{drop_all}
 use Rattle.fw_outside.proofs.Parts.{Takes-Takes}
-use Rattle.fw_script.proofs.LineLaws.{behind_total}
+use Rattle.fw_script.proofs.LineLaws.{after_total}
 use Rattle.fw_script.specs.Reading.{EndsLine, IsLine, PassesLimit, with_taken}
 use Rattle.fw_script_command.specs.Pieces.{IsFree}
 use Rattle.fw_trace.specs.Parts.{HaveNoFeed, kept_after, lines_after, text_from, bytes_of}
@@ -54,13 +54,13 @@ some_line : (text left : List ℕ) → [] ≡ text ++ 10 ∷ left → ⊥
 some_line text left e = omega (arith, ap length e, length-append text (10 ∷ left))
 
 pub split_line : (taken : List ℕ) (parts : List Part) (p : Reading) (part : Part) (text : List ℕ) (size : ℕ) → HasText part text → IsSplit taken parts p → IsLine p text size
-    → IsSplit taken (parts ++ part ∷ []) (behind p text size)
+    → IsSplit taken (parts ++ part ∷ []) (following p text size)
 split_line taken parts p part text size t s l = by_cases s l.ends
   where
     all : bytes_of (parts ++ part ∷ []) ≡ bytes_of parts ++ (text ++ 10 ∷ [])
     all = bytes_more parts (part ∷ []) ∙ ap (λ (l : List ℕ). bytes_of parts ++ l) t
 
-    by_cases : IsSplit taken parts p → EndsLine p text size → IsSplit taken (parts ++ part ∷ []) (behind p text size)
+    by_cases : IsSplit taken parts p → EndsLine p text size → IsSplit taken (parts ++ part ∷ []) (following p text size)
     by_cases (inl e) (inl (f, n)) = inl (fed taken (bytes_of parts) p.rest text (drop size p.rest) e f ∙ ap (λ (l : List ℕ). l ++ drop size p.rest) (sym all))
     by_cases (inl e) (inr (f, whole, n, some)) =
         inr (unfed taken (bytes_of parts) p.rest text e f ∙ sym all, drop_all size p.rest (omega (arith, n, ap length f)), whole)
@@ -95,18 +95,18 @@ line_some p text size l = by_end l.ends
     by_end (inr e) = e.3
 
 -- a line is read
-pub lines_behind : (left left' : Option (List ℕ)) (parts : List Part) (p : Reading) (part : Part) (text : List ℕ) (size : ℕ) → HasText part text
+pub lines_following : (left left' : Option (List ℕ)) (parts : List Part) (p : Reading) (part : Part) (text : List ℕ) (size : ℕ) → HasText part text
     → lines_after (lines_of 0 parts) part ≡ lines_of 0 parts + 1
     → (IsFree 10 text → HaveNoFeed (part ∷ []))
-    → HasLines left left' parts p → IsLine p text size → HasLines left left' (parts ++ part ∷ []) (behind p text size)
-lines_behind left left' parts p part text size t n free x l = record {
+    → HasLines left left' parts p → IsLine p text size → HasLines left left' (parts ++ part ∷ []) (following p text size)
+lines_following left left' parts p part text size t n free x l = record {
   taken = x.taken;
   takes = x.takes;
   split = split_line x.taken parts p part text size t x.split l;
   free = free_more parts part x.free (free l.free);
   number = ap (λ (k : ℕ). k + 1) x.number ∙ sym n ∙ sym (lines_more 0 parts part);
   few = omega (arith, x.few, line_some p text size l);
-  count = behind_total p text size l ∙ x.count;
+  count = after_total p text size l ∙ x.count;
 }
 
 -- if the next line passes the script's limit, all lines within it were read

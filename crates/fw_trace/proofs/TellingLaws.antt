@@ -1,6 +1,6 @@
 -- What a sink that tells has read and told, piece by piece.
 use Rattle.fw_trace.proofs.Common.{◌≡◌, refl, sym, ap, subst, ◌∙◌, ℕ, ◌+◌, ◌<◌, false, List, [], ◌∷◌, ◌++◌, length, take, Option, Some, None, Ok, Err, append_assoc, arith, append-nil, length-append}
-use Rattle.fw_trace.proofs.Common.{Timed, HasRead, Telling, caused_text, Traced, lines_from, telling_behind, PutsEntry, Tells, ToldPart, TellsBy, Lack}
+use Rattle.fw_trace.proofs.Common.{Timed, HasRead, Telling, caused_text, Traced, lines_from, telling_following, PutsEntry, Tells, ToldPart, TellsBy, Lack}
 use Rattle.std.proofs.Common.{zero, suc, Result}
 use Rattle.std.proofs.Math.Logic.{∥∥₁_map}
 use Rattle.std.proofs.lemmas.Bool.{eqb-false}
@@ -19,18 +19,18 @@ use Rattle.fw_trace.specs.declared.lack.Untold.{Untold}
 
 -- ---- the text of entries
 
-lines_append : (t : Telling) (a b : List Timed) → lines_from t (a ++ b) ≡ lines_from t a ++ lines_from (telling_behind t a) b
+lines_append : (t : Telling) (a b : List Timed) → lines_from t (a ++ b) ≡ lines_from t a ++ lines_from (telling_following t a) b
 lines_append t [] b = refl
 lines_append t (e ∷ es) b =
     ap (λ (ls : List Caused). entry_lines t e ++ ls) (lines_append (telling_after t e) es b)
-    ∙ sym (append_assoc (entry_lines t e) (lines_from (telling_after t e) es) (lines_from (telling_behind (telling_after t e) es) b))
+    ∙ sym (append_assoc (entry_lines t e) (lines_from (telling_after t e) es) (lines_from (telling_following (telling_after t e) es) b))
 
-pub behind_append : (t : Telling) (a b : List Timed) → telling_behind t (a ++ b) ≡ telling_behind (telling_behind t a) b
-behind_append t [] b = refl
-behind_append t (e ∷ es) b = behind_append (telling_after t e) es b
+pub after_append : (t : Telling) (a b : List Timed) → telling_following t (a ++ b) ≡ telling_following (telling_following t a) b
+after_append t [] b = refl
+after_append t (e ∷ es) b = after_append (telling_after t e) es b
 
-pub text_append : (t : Telling) (a b : List Timed) → caused_text (lines_from t (a ++ b)) ≡ caused_text (lines_from t a) ++ caused_text (lines_from (telling_behind t a) b)
-text_append t a b = ap caused_text (lines_append t a b) ∙ caused_append (lines_from t a) (lines_from (telling_behind t a) b)
+pub text_append : (t : Telling) (a b : List Timed) → caused_text (lines_from t (a ++ b)) ≡ caused_text (lines_from t a) ++ caused_text (lines_from (telling_following t a) b)
+text_append t a b = ap caused_text (lines_append t a b) ∙ caused_append (lines_from t a) (lines_from (telling_following t a) b)
 
 one_text : (t : Telling) (e : Timed) → caused_text (lines_from t (e ∷ [])) ≡ caused_text (entry_lines t e)
 one_text t e = ap caused_text (append-nil (entry_lines t e))
@@ -60,10 +60,10 @@ pub part_then : (entries : List Timed) (bytes part more : List ℕ) (t t' t'' : 
 part_then entries bytes part more t t' t'' r r' first second = record {
   out = first.out ++ second.out;
   read = rw (sym (append_assoc entries first.out second.out), sym (append_assoc bytes part more)) second.read;
-  text = stepped t.text t'.text t''.text (caused_text (lines_from t.telling first.out)) (caused_text (lines_from (telling_behind t.telling first.out) second.out))
+  text = stepped t.text t'.text t''.text (caused_text (lines_from t.telling first.out)) (caused_text (lines_from (telling_following t.telling first.out) second.out))
       (caused_text (lines_from t.telling (first.out ++ second.out))) first.text
       (second.text ∙ ap (λ (k : Telling). t'.text ++ caused_text (lines_from k second.out)) first.kept) (text_append t.telling first.out second.out);
-  kept = second.kept ∙ ap (λ (k : Telling). telling_behind k second.out) first.kept ∙ sym (behind_append t.telling first.out second.out);
+  kept = second.kept ∙ ap (λ (k : Telling). telling_following k second.out) first.kept ∙ sym (after_append t.telling first.out second.out);
 }
 
 -- the lines of an entry were added, unless memory ran out
@@ -99,7 +99,7 @@ told_part origin now r count earlier bytes passed piece x = record {
   out = x.out;
   begun = x.begun;
   began = x.began;
-  front = bytes;
+  prefix = bytes;
   more = piece;
   last = r;
   parts = refl;
@@ -115,9 +115,9 @@ more_text passed text new whole more e f = ap (λ (l : List ℕ). passed ++ l) f
 text_on : (origin now now' : Traced) (r r' : State) (count : ℕ) (earlier bytes passed piece : List ℕ) (x : Tells origin now r count earlier bytes passed)
     → (p : TakesPart (x.before ++ x.out) bytes piece now now' r') → passed ++ now'.text ≡ origin.text ++ caused_text (lines_from origin.telling (x.out ++ p.out))
 text_on origin now now' r r' count earlier bytes passed piece x p =
-    more_text passed now.text now'.text (origin.text ++ caused_text (lines_from origin.telling x.out)) (caused_text (lines_from (telling_behind origin.telling x.out) p.out)) x.text
+    more_text passed now.text now'.text (origin.text ++ caused_text (lines_from origin.telling x.out)) (caused_text (lines_from (telling_following origin.telling x.out) p.out)) x.text
     (p.text ∙ ap (λ (k : Telling). now.text ++ caused_text (lines_from k p.out)) x.kept)
-    ∙ append_assoc origin.text (caused_text (lines_from origin.telling x.out)) (caused_text (lines_from (telling_behind origin.telling x.out) p.out))
+    ∙ append_assoc origin.text (caused_text (lines_from origin.telling x.out)) (caused_text (lines_from (telling_following origin.telling x.out) p.out))
     ∙ ap (λ (l : List ℕ). origin.text ++ l) (sym (text_append origin.telling x.out p.out))
 
 -- some of it was passed on, or all, or nothing
@@ -132,20 +132,20 @@ told_on origin now now' now'' r r' count count' earlier bytes passed passed' pie
   read = rw (sym (append_assoc x.before x.out p.out)) p.read;
   counted = counted ∙ ap (λ (n : ℕ). n + length piece) x.counted ∙ sym (length-append bytes piece);
   text = given ∙ text_on origin now now' r r' count earlier bytes passed piece x p;
-  kept = same ∙ p.kept ∙ ap (λ (k : Telling). telling_behind k p.out) x.kept ∙ sym (behind_append origin.telling x.out p.out);
+  kept = same ∙ p.kept ∙ ap (λ (k : Telling). telling_following k p.out) x.kept ∙ sym (after_append origin.telling x.out p.out);
   later = omega (arith, x.later, length-append bytes piece);
   waits = λ e. absurd (omega (arith, some, x.later, length-append bytes piece, ap length e));
 }
 
 -- the sink failed: a prefix of it was passed on
-pub told_front : (origin now now' now'' : Traced) (r r' : State) (count : ℕ) (earlier bytes passed passed' piece : List ℕ) (x : Tells origin now r count earlier bytes passed)
+pub told_prefix : (origin now now' now'' : Traced) (r r' : State) (count : ℕ) (earlier bytes passed passed' piece : List ℕ) (x : Tells origin now r count earlier bytes passed)
     → TakesPart (x.before ++ x.out) bytes piece now now' r' → passed' ++ now''.text ≡ passed ++ now'.text → ToldPart origin earlier (bytes ++ piece) passed'
-told_front origin now now' now'' r r' count earlier bytes passed passed' piece x p given = record {
+told_prefix origin now now' now'' r r' count earlier bytes passed passed' piece x p given = record {
   before = x.before;
   out = x.out ++ p.out;
   begun = x.begun;
   began = x.began;
-  front = bytes ++ piece;
+  prefix = bytes ++ piece;
   more = [];
   last = r';
   parts = sym (append-nil (bytes ++ piece));
@@ -185,7 +185,7 @@ told_marked None origin now origin' now' r count earlier bytes passed earlier' b
       out = [];
       begun = r;
       began = rw a y.read;
-      front = bytes;
+      prefix = bytes;
       more = [];
       last = r;
       parts = sym (append-nil bytes);

@@ -1,7 +1,7 @@
 -- A trace goes on after a command that was carried out.
 use Rattle.fw_trace.proofs.Common.{◌≡◌, refl, sym, ap, subst, ◌∙◌, ℕ, List, [], ◌∷◌, ◌++◌, false, inl, inr, Option, Some, None, Ok, Err, append-nil, Grows, Grows-Grows, Timed, Command, End, Reading}
-use Rattle.fw_trace.proofs.Common.{TakesMore, Advances, behind, Stage, Commands, Done, DeskRelations, Standing, course_of, Telling, caused_text, untold, Traced, begun, lines_from, last_lines}
-use Rattle.fw_trace.proofs.Common.{telling_behind, Part, PartsRun, lines_of, part_text, HasLines, Begun, Tracing, kept_from}
+use Rattle.fw_trace.proofs.Common.{TakesMore, Advances, following, ReaderStage, Commands, Done, DeskRelations, BusView, course_of, Telling, caused_text, untold, Traced, begun, lines_from, last_lines}
+use Rattle.fw_trace.proofs.Common.{telling_following, Part, PartsRun, lines_of, part_text, HasLines, Begun, Tracing, kept_from}
 use Rattle.std.proofs.Common.{◌≢◌}
 use Rattle.fw_outside.specs.Outside.{Takes}
 use Rattle.fw_outside.proofs.Parts.{Takes-Takes}
@@ -16,7 +16,7 @@ use Rattle.fw_trace_lines.specs.Commands.{ended, command_lines, jobs_given}
 use Rattle.fw_trace.specs.Parts.{place_of, bytes_of}
 use Rattle.fw_trace.specs.Tracing.{IsOver, IsSplit}
 use Rattle.fw_trace.proofs.HeldLaws.{end_given}
-use Rattle.fw_trace.proofs.PartLaws.{free_more, lines_looked, lines_behind, lines_more, bytes_more, kept_more}
+use Rattle.fw_trace.proofs.PartLaws.{free_more, lines_looked, lines_following, lines_more, bytes_more, kept_more}
 use Rattle.fw_trace.proofs.RunLaws.{going_bytes}
 use Rattle.fw_trace.proofs.TextLaws.{command_text, told_more}
 
@@ -27,11 +27,11 @@ line_known p known left left' text size m l = subst (λ (q : Reading). IsLine q 
 stage_known : (p known : Reading) (left left' : Option (List ℕ)) → TakesMore p known left left' → known.stage ≡ p.stage
 stage_known p known left left' m = ap (λ (q : Reading). q.stage) m.now
 
-gives_at_commands : (s : Stage) (known new : Reading) (r : Answer) → s ≡ Commands → GivesNext s known r new → GivesFirst known r new
-gives_at_commands s known new r e g = subst (λ (t : Stage). GivesNext t known r new) e g
+gives_at_commands : (s : ReaderStage) (known new : Reading) (r : Answer) → s ≡ Commands → GivesNext s known r new → GivesFirst known r new
+gives_at_commands s known new r e g = subst (λ (t : ReaderStage). GivesNext t known r new) e g
 
-over_behind : (p : Reading) (text : List ℕ) (size : ℕ) → p.stage ≡ Commands → IsOver (behind p text size)
-over_behind p text size e = λ d. let wrong : Commands ≡ Done = sym e ∙ d in absurd cc
+over_following : (p : Reading) (text : List ℕ) (size : ℕ) → p.stage ≡ Commands → IsOver (following p text size)
+over_following p text size e = λ d. let wrong : Commands ≡ Done = sym e ∙ d in absurd cc
 
 -- the command of an answer, if it has one
 abbrev command_in : Answer → Command → Command
@@ -47,21 +47,21 @@ line_carried p new left mid left' parts text size c other entries place x l said
     let known = a.known in
     let l' = line_known p known mid left' text size a.takes l in
     let stage' : known.stage ≡ Commands = stage_known p known mid left' a.takes ∙ stage in
-    let first : GivesFirst known (Ok (Some c)) (behind known text size) = on_line c text size l' said stage' form not_end in
+    let first : GivesFirst known (Ok (Some c)) (following known text size) = on_line c text size l' said stage' form not_end in
     let second : GivesFirst known (Ok (Some other)) new = gives_at_commands p.stage known new (Ok (Some other)) stage a.gives in
     let same = gives_once first second (λ e. cc) (λ e. cc) in (
       sym (ap (λ (a : Answer). command_in a c) same.0),
       subst (HasLines left left' (parts ++ Part.command text c entries place ∷ [])) same.1
-          (lines_behind left left' parts known (Part.command text c entries place) text size refl refl (λ f. (f, tt)) (lines_looked left mid left' parts p known x a.takes) l'),
-      subst (λ (q : Reading). IsOver q) same.1 (over_behind known text size stage'),
+          (lines_following left left' parts known (Part.command text c entries place) text size refl refl (λ f. (f, tt)) (lines_looked left mid left' parts p known x a.takes) l'),
+      subst (λ (q : Reading). IsOver q) same.1 (over_following known text size stage'),
     )
 
 -- it was told with what it caused
-pub line_traced : {D : DeskRelations} {left mid left' held start written written' : Option (List ℕ)} {reader reader' : Reading} {bus bus' : Standing} {origin : Traced} {earlier history : List ℕ}
+pub line_traced : {D : DeskRelations} {left mid left' held start written written' : Option (List ℕ)} {reader reader' : Reading} {bus bus' : BusView} {origin : Traced} {earlier history : List ℕ}
     {text : List ℕ} {c : Command} {place : Option (ℕ × ℕ)} (b : Begun D left mid held start reader bus origin earlier (Some text) c place)
     (k : Carried D left mid left' (Some []) (Some history) written written' (course_of b.going) reader reader' bus')
     (given : List ℕ) (now end : Traced) (held1 held2 : Option (List ℕ))
-    → given ++ now.text ≡ origin.text ++ caused_text (lines_from origin.telling k.out) → now.telling ≡ telling_behind origin.telling k.out
+    → given ++ now.text ≡ origin.text ++ caused_text (lines_from origin.telling k.out) → now.telling ≡ telling_following origin.telling k.out
     → Grows start held1 given → Grows held1 held2 (now.text ++ caused_text (last_lines now.telling))
     → end.text ≡ [] → end.telling ≡ ended c place now.telling
     → Tracing D left left' held held2 reader' bus' end history
@@ -77,8 +77,8 @@ line_traced {D} {left} {mid} {left'} {held} {start} {reader = reader} {reader' =
     let course : record { commands = b.going.commands ++ c ∷ []; actions = b.going.actions ++ k.more; log = b.going.log ++ k.out; state = k.going.state } ≡ course_of k.going =
     λ i. record { commands = commands i; actions = sym k.actions i; log = sym k.longer i; state = k.going.state } in
     let kept : end.telling ≡ kept_from untold (b.parts ++ part ∷ []) =
-    e2 ∙ ap (ended c place) (t2 ∙ ap (λ (o : Telling). telling_behind o k.out) b.kept)
-    ∙ ap (λ (q : Option (ℕ × ℕ)). ended c q (telling_behind (begun c before) k.out)) (b.placed k.order decided) ∙ sym (kept_more untold b.parts part) in
+    e2 ∙ ap (ended c place) (t2 ∙ ap (λ (o : Telling). telling_following o k.out) b.kept)
+    ∙ ap (λ (q : Option (ℕ × ℕ)). ended c q (telling_following (begun c before) k.out)) (b.placed k.order decided) ∙ sym (kept_more untold b.parts part) in
     let told : given ++ (now.text ++ caused_text (last_lines now.telling)) ≡ part_text (lines_of 0 b.parts) before part =
     ap (λ (q : Telling). given ++ (now.text ++ caused_text (last_lines q))) t2 ∙ command_text given now.text origin k.out t1
     ∙ (λ i. b.text i ++ caused_text (command_lines (b.kept i) k.out)) in
@@ -123,11 +123,11 @@ ended_end None t = refl
 ended_end (Some place) t = refl
 
 -- it was told with what it caused
-pub end_traced : {D : DeskRelations} {left mid left' held start written written' : Option (List ℕ)} {reader reader' : Reading} {bus bus' : Standing} {origin : Traced} {earlier history : List ℕ}
+pub end_traced : {D : DeskRelations} {left mid left' held start written written' : Option (List ℕ)} {reader reader' : Reading} {bus bus' : BusView} {origin : Traced} {earlier history : List ℕ}
     {c : Command} {place : Option (ℕ × ℕ)} (b : Begun D left mid held start reader bus origin earlier None c place)
     (k : Carried D left mid left' (Some []) (Some history) written written' (course_of b.going) reader reader' bus')
     (given : List ℕ) (now end : Traced) (held1 held2 : Option (List ℕ))
-    → given ++ now.text ≡ origin.text ++ caused_text (lines_from origin.telling k.out) → now.telling ≡ telling_behind origin.telling k.out
+    → given ++ now.text ≡ origin.text ++ caused_text (lines_from origin.telling k.out) → now.telling ≡ telling_following origin.telling k.out
     → Grows start held1 given → Grows held1 held2 (now.text ++ caused_text (last_lines now.telling))
     → end.text ≡ [] → end.telling ≡ ended c place now.telling
     → Tracing D left left' held held2 reader' bus' end history
@@ -143,7 +143,7 @@ end_traced {D} {left} {mid} {left'} {held} {start} {reader = reader} {reader' = 
     let from : origin.telling ≡ before = b.kept ∙ ap (λ (d : Command). begun d before) b.gives.0 in
     let kept : end.telling ≡ kept_from untold (b.parts ++ part ∷ []) =
     e2 ∙ ap (λ (d : Command). ended d place now.telling) b.gives.0 ∙ ended_end place now.telling
-    ∙ ap (ended End None) (t2 ∙ ap (λ (o : Telling). telling_behind o k.out) from) ∙ sym (kept_more untold b.parts part) in
+    ∙ ap (ended End None) (t2 ∙ ap (λ (o : Telling). telling_following o k.out) from) ∙ sym (kept_more untold b.parts part) in
     let told : given ++ (now.text ++ caused_text (last_lines now.telling)) ≡ part_text (lines_of 0 b.parts) before part =
     ap (λ (q : Telling). given ++ (now.text ++ caused_text (last_lines q))) t2 ∙ command_text given now.text origin k.out t1
     ∙ (λ i. b.text i ++ caused_text (command_lines (from i) k.out)) in

@@ -1,11 +1,11 @@
 -- A trace that ends where its run has ended.
 use Rattle.fw_trace.proofs.Common.{◌≡◌, refl, sym, ap, subst, ◌∙◌, ℕ, ◌+◌, ◌<◌, Bool, List, [], ◌++◌, length, ◌⊎◌, Option, Some, None, Ok, Err, arith, append-nil, length-append, ∥∥₁_elim, Grows}
-use Rattle.fw_trace.proofs.Common.{ReadFault, WriteFault, TooLong, NoMemory, Grows-Grows, header_bytes, Two, LogState, Command, End, Reading, Advances, DeskRelations, log_bytes, Standing, Course}
-use Rattle.fw_trace.proofs.Common.{course_of, RunEnding, Refused, Stopped, Traced, Lack, Memory, PartsRun, AreLines, trace_text, Base, WasPassed, Tells, TellsBy, fails_by, Traces, TellsFront, Begun}
+use Rattle.fw_trace.proofs.Common.{ReadFault, WriteFault, TooLong, NoMemory, Grows-Grows, header_bytes, Two, LogState, Command, End, Reading, Advances, DeskRelations, log_bytes, BusView, Course}
+use Rattle.fw_trace.proofs.Common.{course_of, RunEnding, Refused, Stopped, Traced, Lack, Memory, PartsRun, AreLines, trace_text, Base, WasPassed, Tells, TellsBy, fails_by, Traces, TellsPrefix, Begun}
 use Rattle.std.specs.Coded.{Coded-set, coded_ℕ, coded_list}
 use Rattle.fw_script.specs.Reading.{Answer}
 use Rattle.fw_script.specs.declared.ScriptFault.TheVariants as Fault
-use Rattle.fw_script.specs.declared.stage.Stage.TheVariants.{Done as AtEnd}
+use Rattle.fw_script.specs.declared.stage.ReaderStage.TheVariants.{Done as AtEnd}
 use Rattle.fw_script_words.specs.Counts.{WriteCount}
 use Rattle.fw_script_words.specs.Course.{refused_answer}
 use Rattle.fw_script_words.specs.Ending.{RefusesBy}
@@ -44,12 +44,12 @@ refused_line D left left' history p q mid held (Rule rule) n x a =
     (λ e. other_than_end x.logged.state x.command rule x.decided (let is : x.command ≡ End = cc in is))
 
 -- the lines that were told are those that were read
-abbrev looked : {D : DeskRelations} {left mid left' held start : Option (List ℕ)} {reader reader' : Reading} {bus : Standing} {origin : Traced} {earlier : List ℕ} {c : Command}
+abbrev looked : {D : DeskRelations} {left mid left' held start : Option (List ℕ)} {reader reader' : Reading} {bus : BusView} {origin : Traced} {earlier : List ℕ} {c : Command}
     {place : Option (ℕ × ℕ)}
     (line : Option (List ℕ)) (b : Begun D left mid held start reader bus origin earlier line c place) {a : Answer} → Advances reader reader' mid left' a → AreLines left left' b.parts
 looked {left = left} {mid = mid} {left' = left'} {reader = reader} line b a = are_lines left left' b.parts a.known (lines_looked left mid left' b.parts reader a.known b.lines a.takes)
 
-module _ {D : DeskRelations} {left mid left' held start : Option (List ℕ)} {reader reader' : Reading} {bus bus' : Standing} {origin : Traced} {earlier history : List ℕ} {c : Command}
+module _ {D : DeskRelations} {left mid left' held start : Option (List ℕ)} {reader reader' : Reading} {bus bus' : BusView} {origin : Traced} {earlier history : List ℕ} {c : Command}
     {place : Option (ℕ × ℕ)} (line : Option (List ℕ)) (b : Begun D left mid held start reader bus origin earlier line c place)
     (now : Traced) (r : LogState) (count : ℕ) (given : List ℕ) (failed : Bool) (faults faults' : ℕ) (held' : Option (List ℕ)) (passed : WasPassed failed start held' faults faults' given) where
   -- nothing more was told than before the last step
@@ -69,7 +69,7 @@ module _ {D : DeskRelations} {left mid left' held start : Option (List ℕ)} {re
       record { written = history; runs = e.runs; parts = b.parts; run = subst (PartsRun b.parts) (sym e.same) b.run; lines = lines; left_out = left_out; grew = grew }
 
   cut_off : (lack : Lack) → Ended D left mid left' (Some []) (Some history) (course_of b.going) reader reader' bus' (Stopped WriteFault)
-      → ∥ TellsBy (Some lack) origin now r count earlier history given ∥₁ → TellsFront D left left' held held'
+      → ∥ TellsBy (Some lack) origin now r count earlier history given ∥₁ → TellsPrefix D left left' held held'
   cut_off lack e t = cut_traced line b e.runs e.same e.reads failed faults faults' given passed t
 
   ended_by : (ending : RunEnding) (old lack : Option Lack) → Ended D left mid left' (Some []) (Some history) (course_of b.going) reader reader' bus' ending → 0 < length history
@@ -101,7 +101,7 @@ header_there bytes more history rest e f =
     omega (arith, size, ap length f, length-append bytes more, ap length e, length-append (header_bytes Two) rest)
 
 -- the run has ended in a step
-pub ended_on : {D : DeskRelations} {left mid left' held start : Option (List ℕ)} {reader reader' : Reading} {bus bus' : Standing} {origin : Traced} {earlier : List ℕ} {c : Command}
+pub ended_on : {D : DeskRelations} {left mid left' held start : Option (List ℕ)} {reader reader' : Reading} {bus bus' : BusView} {origin : Traced} {earlier : List ℕ} {c : Command}
     {place : Option (ℕ × ℕ)}
     (line : Option (List ℕ)) (b : Begun D left mid held start reader bus origin earlier line c place)
     (name name' first first' : ℕ) (start' : Option (List ℕ)) (origin' : Traced) (earlier' bytes history : List ℕ) (ending : RunEnding)

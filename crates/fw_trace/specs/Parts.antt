@@ -16,7 +16,7 @@ use Rattle.fw_model_run.specs.Carrying.{Carries}
 use Rattle.fw_model_run.specs.Rules.{Decides}
 use Rattle.fw_trace_lines.specs.Lines.{line_text}
 use Rattle.fw_trace_lines.specs.Caused.{Telling, untold, caused_text}
-use Rattle.fw_trace_lines.specs.Commands.{begun, ended, telling_behind, command_lines}
+use Rattle.fw_trace_lines.specs.Commands.{begun, ended, telling_following, command_lines}
 use Rattle.fw_script_words.specs.Course.{Course}
 
 -- the controller, by its device, and the slot that a new connection takes
@@ -41,8 +41,8 @@ part_text lines t (Part.end entries) = caused_text (command_lines t entries)
 -- what is kept of it for the parts that follow
 abbrev pub kept_after : Telling → Part → Telling
 kept_after t (Part.line text) = t
-kept_after t (Part.command text c entries place) = ended c place (telling_behind (begun c t) entries)
-kept_after t (Part.end entries) = ended End None (telling_behind t entries)
+kept_after t (Part.command text c entries place) = ended c place (telling_following (begun c t) entries)
+kept_after t (Part.end entries) = ended End None (telling_following t entries)
 
 -- the lines after it
 abbrev pub lines_after : ℕ → Part → ℕ

@@ -4,7 +4,7 @@ use Rattle.fw_log_entry.specs.declared.entry.Timed.{Timed}
 use Rattle.fw_log.specs.History.{HasRead}
 use Rattle.fw_log.specs.Reader.{State}
 use Rattle.fw_trace_lines.specs.Caused.{caused_text, entry_lines, telling_after}
-use Rattle.fw_trace_lines.specs.Commands.{Traced, lines_from, telling_behind}
+use Rattle.fw_trace_lines.specs.Commands.{Traced, lines_from, telling_following}
 use Rattle.fw_trace.specs.declared.lack.Lack.{Lack}
 use Rattle.fw_trace.specs.declared.lack.Lack.TheVariants.{Memory, Sink}
 
@@ -13,7 +13,7 @@ pub record TakesPart (entries : List Timed) (bytes part : List ℕ) (t t' : Trac
   pub out : List Timed
   pub read : HasRead (entries ++ out) (bytes ++ part) reader'
   pub text : t'.text ≡ t.text ++ caused_text (lines_from t.telling out)
-  pub kept : t'.telling ≡ telling_behind t.telling out
+  pub kept : t'.telling ≡ telling_following t.telling out
 
 -- The lines of an entry were added.
 pub record TakesEntry (e : Timed) (t t' : Traced) : Type 0 where
@@ -57,7 +57,7 @@ pub record Tells (origin now : Traced) (reader : State) (count : ℕ) (earlier b
   pub read : HasRead (before ++ out) bytes reader
   pub counted : count ≡ length bytes
   pub text : passed ++ now.text ≡ origin.text ++ caused_text (lines_from origin.telling out)
-  pub kept : now.telling ≡ telling_behind origin.telling out
+  pub kept : now.telling ≡ telling_following origin.telling out
   pub later : length earlier ≤ length bytes
   pub waits : bytes ≡ earlier → passed ≡ []
 
@@ -67,11 +67,11 @@ pub record ToldPart (origin : Traced) (earlier bytes passed : List ℕ) : Type 0
   pub out : List Timed
   pub begun : State
   pub began : HasRead before earlier begun
-  pub front : List ℕ
+  pub prefix : List ℕ
   pub more : List ℕ
   pub last : State
-  pub parts : bytes ≡ front ++ more
-  pub read : HasRead (before ++ out) front last
+  pub parts : bytes ≡ prefix ++ more
+  pub read : HasRead (before ++ out) prefix last
   pub rest : List ℕ
   pub text : passed ++ rest ≡ origin.text ++ caused_text (lines_from origin.telling out)
 

@@ -1,12 +1,13 @@
 -- What each ending of `trace` says of the input and of what was written: it ends as `run` does with a sink of its own, and in place of the
 -- log the text of its parts was written.
 use Rattle.std.specs.Prelude.{◌≡◌, ℕ, ◌+◌, ◌-◌, ◌<◌, List, [], ◌∷◌, ◌++◌, length, take, Option, Some, None, ⊤}
-use Rattle.fw_outside.specs.Outside.{Grows, AppendsFront}
+use Rattle.fw_outside.specs.Outside.{Grows, AppendsPrefix}
 use Rattle.fw_outside.specs.declared.stop.Stop.TheVariants.{ReadFault, WriteFault, TooLong, NoMemory}
 use Rattle.fw_script_command.specs.Form.{HasForm}
 use Rattle.fw_script_command.specs.Pieces.{IsFree}
 use Rattle.fw_script_command.specs.declared.command.Command.TheVariants.{End}
-use Rattle.fw_model_run.specs.Actions.{Action, Steps}
+use Rattle.fw_model_run.specs.Actions.{Action}
+use Rattle.fw_model_run.specs.Deeds.{Transitions}
 use Rattle.fw_model_run.specs.State.{State}
 use Rattle.fw_model_run.specs.Desks.{DeskRelations}
 use Rattle.fw_model_run.specs.Given.{AreGiven}
@@ -43,11 +44,11 @@ abbrev pub IsBegun : DeskRelations → Course → List Part → Type 0
 IsBegun D k [] = ⊤
 IsBegun D k (Part.line text ∷ ps) = ps ≡ []
 IsBegun D k (Part.command text c entries place ∷ ps) =
-    (ps ≡ []) × HasForm c text × ((done : List Action) × (after : State) × Began (Some c) k.state done × AreGiven D (k.actions ++ done) × Steps k.state done entries after)
-IsBegun D k (Part.end entries ∷ ps) = (ps ≡ []) × ((done : List Action) × (after : State) × Began (Some End) k.state done × AreGiven D (k.actions ++ done) × Steps k.state done entries after)
+    (ps ≡ []) × HasForm c text × ((done : List Action) × (after : State) × Began (Some c) k.state done × AreGiven D (k.actions ++ done) × Transitions k.state done entries after)
+IsBegun D k (Part.end entries ∷ ps) = (ps ≡ []) × ((done : List Action) × (after : State) × Began (Some End) k.state done × AreGiven D (k.actions ++ done) × Transitions k.state done entries after)
 
 -- The sink or memory failed: a prefix was written of the text of parts that were told, and of one that was begun, if any.
-pub record TellsFront (D : DeskRelations) (left left' held held' : Option (List ℕ)) : Type 0 where
+pub record TellsPrefix (D : DeskRelations) (left left' held held' : Option (List ℕ)) : Type 0 where
   pub parts : List Part
   pub course : Course
   pub run : PartsRun parts course
@@ -55,7 +56,7 @@ pub record TellsFront (D : DeskRelations) (left left' held held' : Option (List 
   pub begun : List Part
   pub begins : IsBegun D course begun
   pub lines : AreLines left left' (parts ++ begun)
-  pub grew : AppendsFront held held' (trace_text (parts ++ begun))
+  pub grew : AppendsPrefix held held' (trace_text (parts ++ begun))
 
 -- By the ending. Unlike `run`, memory may run out at any time, since the text of an entry takes as much as it needs.
 abbrev pub Traces : DeskRelations → Option (List ℕ) → Option (List ℕ) → Option (List ℕ) → Option (List ℕ) → RunEnding → Type 0
@@ -63,8 +64,8 @@ Traces D left left' held held' Done = TellsRun D left left' held held' Done
 Traces D left left' held held' (Refused r) = TellsRun D left left' held held' (Refused r)
 Traces D left left' held held' (Stopped ReadFault) = TellsRun D left left' held held' (Stopped ReadFault)
 Traces D left left' held held' (Stopped TooLong) = TellsRun D left left' held held' (Stopped TooLong)
-Traces D left left' held held' (Stopped WriteFault) = TellsFront D left left' held held'
-Traces D left left' held held' (Stopped NoMemory) = TellsFront D left left' held held'
+Traces D left left' held held' (Stopped WriteFault) = TellsPrefix D left left' held held'
+Traces D left left' held held' (Stopped NoMemory) = TellsPrefix D left left' held held'
 
 -- how a call ends that lacks this
 abbrev pub stopped_by : Lack → RunEnding

@@ -8,7 +8,7 @@ use Rattle.fw_script.specs.Passing.{IsCommandNext}
 use Rattle.fw_script.specs.Reader.{HoldsLine}
 use Rattle.fw_script.specs.Reading.{Reading, Answer, GivesFirst, IsAtEndOfInput, IsLine, PassesLimit, at_stage}
 use Rattle.fw_script.specs.declared.ScriptFault.TheVariants.{BadLine, LineTooLong, NoEnd, ReadFault, TooLong}
-use Rattle.fw_script.specs.declared.stage.Stage.TheVariants.{Commands, Done}
+use Rattle.fw_script.specs.declared.stage.ReaderStage.TheVariants.{Commands, Done}
 use Rattle.fw_script_command.specs.Form.{HasForm}
 use Rattle.fw_script_command.specs.declared.command.Command.{Command}
 use Rattle.fw_script_command.specs.declared.command.Command.TheVariants.{End}
@@ -17,7 +17,7 @@ use Rattle.fw_model_run.specs.Rules.{Decides}
 use Rattle.fw_order.specs.declared.order.Order.{Order}
 use Rattle.fw_model_run.specs.Giving.{log_bytes}
 use Rattle.fw_model_run.specs.Desks.{DeskRelations}
-use Rattle.fw_bus.specs.Buses.{Standing}
+use Rattle.fw_bus.specs.Buses.{BusView}
 use Rattle.fw_trace_lines.specs.Caused.{Telling, untold}
 use Rattle.fw_trace_lines.specs.Commands.{Traced, begun}
 use Rattle.fw_trace_lines.specs.Lines.{line_text}
@@ -25,7 +25,7 @@ use Rattle.fw_script_words.specs.Going.{Going, course_of, to_read}
 use Rattle.fw_script_words.specs.declared.ending.RunEnding.{RunEnding}
 use Rattle.fw_trace.specs.Parts.{Part, PartsRun, HaveNoFeed, place_of, bytes_of, lines_of, kept_after, trace_text}
 use Rattle.fw_trace.specs.declared.lack.Lack.{Lack}
-use Rattle.fw_trace.specs.Passed.{GrowsFront}
+use Rattle.fw_trace.specs.Passed.{GrowsPrefix}
 use Rattle.fw_trace.specs.Traces.{Traces, stopped_by}
 
 -- what is kept of parts for those that follow
@@ -52,7 +52,7 @@ abbrev pub IsOver : Reading → Type 0
 IsOver p = p.stage ≡ Done → IsAtEndOfInput p
 
 -- Before a line: the run is under way in memory, and its parts were told.
-pub record Tracing (D : DeskRelations) (left left' held held' : Option (List ℕ)) (reader : Reading) (bus : Standing) (tracer : Traced) (history : List ℕ) : Type 0 where
+pub record Tracing (D : DeskRelations) (left left' held held' : Option (List ℕ)) (reader : Reading) (bus : BusView) (tracer : Traced) (history : List ℕ) : Type 0 where
   pub after : List ℕ
   pub going : Going D left left' (Some []) (Some after) reader bus
   pub parts : List Part
@@ -95,7 +95,7 @@ GivesThis p None c = (c ≡ End) × ((p.stage ≡ Done) ⊎ HoldsNoCommand p)
 GivesThis p (Some text) c = (size : ℕ) × IsLine p text size × (is_skipped text ≡ false) × (p.stage ≡ Commands) × HasForm c text × (c ≢ End)
 
 -- Before a command is carried out, or before the end: its line is to be told with what it causes, and its job takes this place.
-pub record Begun (D : DeskRelations) (left left' held start : Option (List ℕ)) (reader : Reading) (bus : Standing) (origin : Traced) (earlier : List ℕ) (line : Option (List ℕ)) (c : Command)
+pub record Begun (D : DeskRelations) (left left' held start : Option (List ℕ)) (reader : Reading) (bus : BusView) (origin : Traced) (earlier : List ℕ) (line : Option (List ℕ)) (c : Command)
     (place : Option (ℕ × ℕ)) : Type 0 where
   pub after : List ℕ
   pub going : Going D left left' (Some []) (Some after) reader bus
@@ -111,18 +111,18 @@ pub record Begun (D : DeskRelations) (left left' held start : Option (List ℕ))
   pub placed : (o : Order) → Decides going.state c (Ok o) → place ≡ place_of o
 
 -- some trace is under way
-pub record IsTracing (D : DeskRelations) (left' held' : Option (List ℕ)) (reader : Reading) (bus : Standing) (tracer : Traced) (history : List ℕ) : Type 0 where
+pub record IsTracing (D : DeskRelations) (left' held' : Option (List ℕ)) (reader : Reading) (bus : BusView) (tracer : Traced) (history : List ℕ) : Type 0 where
   pub left : Option (List ℕ)
   pub held : Option (List ℕ)
   pub tracing : Tracing D left left' held held' reader bus tracer history
 
 -- a line more was told, or the trace has ended
-abbrev pub TracesOn : DeskRelations → Option (List ℕ) → Option (List ℕ) → Option (List ℕ) → Option (List ℕ) → Reading → Reading → Standing → Traced → List ℕ → Option RunEnding → Type 0
+abbrev pub TracesOn : DeskRelations → Option (List ℕ) → Option (List ℕ) → Option (List ℕ) → Option (List ℕ) → Reading → Reading → BusView → Traced → List ℕ → Option RunEnding → Type 0
 TracesOn D left left' held held' old reader bus tracer history None = Tracing D left left' held held' reader bus tracer history × (to_read reader < to_read old)
 TracesOn D left left' held held' old reader bus tracer history (Some ending) = Traces D left left' held held' ending
 
 -- the same of each trace that is under way
-abbrev pub TracesFrom : DeskRelations → Option (List ℕ) → Option (List ℕ) → Option (List ℕ) → Option (List ℕ) → Reading → Reading → Standing → Standing → Traced → Traced → List ℕ → List ℕ
+abbrev pub TracesFrom : DeskRelations → Option (List ℕ) → Option (List ℕ) → Option (List ℕ) → Option (List ℕ) → Reading → Reading → BusView → BusView → Traced → Traced → List ℕ → List ℕ
     → Option RunEnding → Type 0
 TracesFrom D left' left'' held' held'' old reader bus bus' tracer tracer' history history' result =
     (left held : Option (List ℕ)) → Tracing D left left' held held' old bus tracer history → TracesOn D left left'' held held'' old reader bus' tracer' history' result
@@ -134,4 +134,4 @@ HoldsCommand p n c = (size : ℕ) × HoldsLine p n size × IsCommandNext p p (ta
 -- the log's header was read, and nothing was told; or the sink, or memory, failed, and nothing was told
 abbrev pub IsBeginning : Option (List ℕ) → Option (List ℕ) → Option Lack → Traced → List ℕ → Option RunEnding → Type 0
 IsBeginning held held' lack tracer history None = Grows held held' [] × (lack ≡ None) × (tracer ≡ record { text = []; telling = untold }) × (history ≡ header_bytes Two)
-IsBeginning held held' lack tracer history (Some ending) = GrowsFront held held' [] × (why : Lack) × (ending ≡ stopped_by why)
+IsBeginning held held' lack tracer history (Some ending) = GrowsPrefix held held' [] × (why : Lack) × (ending ≡ stopped_by why)

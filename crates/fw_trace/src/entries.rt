@@ -13,7 +13,7 @@ ghost use Rattle.fw_trace.specs.Telling.{TakesKnown, TakesOne, TakesPiece};
 
 use crate::bodies::put_body;
 use crate::lack::Untold;
-use fw_log::{LogReader, PlainEntry, Room};
+use fw_log::{LogReader, PlainEntry, ReadBuffers};
 use fw_log_entry::codes::kind;
 use fw_log_entry::{Entry, Timed};
 use fw_log_latest::LatestReset;
@@ -27,7 +27,7 @@ fn take_known(
     tracer: &mut Tracer,
     latest: &mut LatestReset,
     reader: &mut LogReader,
-    room: &mut Room,
+    room: &mut ReadBuffers,
     piece: &[u8],
 ) -> Result<Option<usize>, Untold>
     requires { total reader.old + length piece.now < 2 ^ 64 }
@@ -77,7 +77,7 @@ fn take_other(
     tracer: &mut Tracer,
     latest: &mut LatestReset,
     reader: &mut LogReader,
-    room: &mut Room,
+    room: &mut ReadBuffers,
     piece: &[u8],
 ) -> Result<usize, Untold>
     requires { total reader.old + length piece.now < 2 ^ 64 }
@@ -103,7 +103,7 @@ fn take_entry(
     tracer: &mut Tracer,
     latest: &mut LatestReset,
     reader: &mut LogReader,
-    room: &mut Room,
+    room: &mut ReadBuffers,
     piece: &[u8],
 ) -> Result<usize, Untold>
     requires { total reader.old + length piece.now < 2 ^ 64 }
@@ -131,7 +131,7 @@ pub(crate) fn take_entries(
     tracer: &mut Tracer,
     latest: &mut LatestReset,
     reader: &mut LogReader,
-    room: &mut Room,
+    room: &mut ReadBuffers,
     piece: &[u8],
 ) -> Result<(), Untold>
     requires { total reader.old + length piece.now < 2 ^ 64 }

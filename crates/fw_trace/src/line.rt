@@ -2,7 +2,7 @@
 
 ghost use Rattle.std.specs.Prelude.{◌≡◌, ◌⊎◌, None, IfNone};
 ghost use Rattle.fw_script.specs.Reader.{HoldsLine};
-ghost use Rattle.fw_script.specs.declared.stage.Stage.TheVariants.{Done as AtEnd};
+ghost use Rattle.fw_script.specs.declared.stage.ReaderStage.TheVariants.{Done as AtEnd};
 ghost use Rattle.fw_tape.specs.Desks.{AnyBlock, AnyVendorByte};
 ghost use Rattle.fw_script_words.specs.Counts.{ReadsOn, WritesOn};
 ghost use Rattle.fw_trace.specs.Tracing.{HoldsCommand, HoldsNoCommand, IsTracing, TracesFrom};
@@ -100,7 +100,7 @@ fn trace_line<S: Source, K: Sink, F: Fn(u16, u32, u16) -> [u8; 480], H: Fn(u32, 
 {
     let (length, size) = line;
     let mut command = Command::End;
-    match reader.pass(length, size, &mut command) {
+    match reader.read_line(length, size, &mut command) {
         Said::Nothing => match telling.tell_line(reader.line(), reader.text()) {
             Ok(()) => None,
             Err(lack) => Some(stopped(lack)),
@@ -136,7 +136,7 @@ pub(crate) fn trace_next<
     ensures reads { ReadsOn (S.faults source.old) (S.faults source.new) result }
     ensures writes { WritesOn (K.faults telling.old.inner.now) (K.faults telling.new.inner.now) result }
 {
-    match reader.look(source) {
+    match reader.find_line(source) {
         Err(_) => Some(RunEnding::Stopped(Stop::ReadFault)),
         Ok(Some(line)) => trace_line(line, reader, bus, source, telling, desk),
         Ok(None) => carry_alone(reader, bus, source, telling, desk),

@@ -33,7 +33,7 @@ impl<K: Sink> Passed<K> {
     }
 
     // Writes a piece.
-    #[tactic(auto, using(crate::proofs::PassedLaws::passes_more, crate::proofs::PassedLaws::passes_front))]
+    #[tactic(auto, using(crate::proofs::PassedLaws::passes_more, crate::proofs::PassedLaws::passes_prefix))]
     pub(crate) fn write(&mut self, inner: &mut K, piece: &[u8]) -> Result<(), Failed>
         requires failed { self.old.failed ≡ false }
         requires passed { WasPassed self.old.failed (K.held self.old.start.value) (K.held inner.old) (K.faults self.old.start.value) (K.faults inner.old) self.old.given.bytes }

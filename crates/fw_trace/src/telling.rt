@@ -11,7 +11,7 @@ ghost use Rattle.fw_trace.specs.Telling.{Tells, TellsBy, fails_by, faults_by};
 use crate::entries::take_entries;
 use crate::lack::Lack;
 use crate::passed::Passed;
-use fw_log::{LogReader, Room};
+use fw_log::{LogReader, ReadBuffers};
 use fw_log_latest::LatestReset;
 use fw_outside::{Failed, Sink};
 use fw_outside_history::{History, Piece};
@@ -34,7 +34,7 @@ pub(crate) struct Teller<K: Sink> {
     tracer: Tracer,
     latest: LatestReset,
     reader: LogReader,
-    room: Room,
+    room: ReadBuffers,
     count: u64,
     lack: Option<Lack>,
     origin: Snapshot<Tracer>,
@@ -96,7 +96,7 @@ fn tell<K: Sink>(
     tracer: &mut Tracer,
     latest: &mut LatestReset,
     reader: &mut LogReader,
-    room: &mut Room,
+    room: &mut ReadBuffers,
     count: &mut u64,
     piece: &[u8],
 ) -> Option<Lack>

@@ -13,10 +13,10 @@ use Rattle.fw_log_requests.specs.Requests.{asked_by}
 use Rattle.fw_trace_lines.specs.declared.streams.Stream.{Stream}
 use Rattle.fw_trace_lines.specs.Names.{Naming}
 use Rattle.fw_trace_lines.specs.Streams.{stream_at}
-use Rattle.fw_trace_lines.specs.Caused.{Telling, Caused, Held, kind_of, held_by, is_joined, lone_lines, joined_lines}
+use Rattle.fw_trace_lines.specs.Caused.{Telling, Caused, DeferredRequest, kind_of, held_by, is_joined, lone_lines, joined_lines}
 use Rattle.fw_trace_lines.specs.Caused.{joined_line, late_lines, response_lines, packet_lines, own_lines, lines_by, entry_lines}
 use Rattle.fw_trace_lines.specs.Caused.{renumbered, naming_after, held_after, telling_after}
-use Rattle.fw_trace_lines.specs.Commands.{stream_lines, first_streams, last_lines, lines_from, telling_behind, command_lines}
+use Rattle.fw_trace_lines.specs.Commands.{stream_lines, first_streams, last_lines, lines_from, telling_following, command_lines}
 use Rattle.fw_trace_lines.specs.Laws.{entries_told, packets_due, lines_due, entries_due, TellsAll}
 
 -- ---- sums
@@ -45,8 +45,8 @@ same_more x y e = omega (arith, e)
 first_same : (w h h' x : ℕ) → w ≡ h + x → h ≡ h' → w ≡ h' + x
 first_same w h h' x e f = omega (arith, e, f)
 
-behind_sum : (w h x m n : ℕ) → w ≡ h + x → x + m ≡ n → w + m ≡ h + n
-behind_sum w h x m n e f = omega (arith, e, f)
+after_sum : (w h x m n : ℕ) → w ≡ h + x → x + m ≡ n → w + m ≡ h + n
+after_sum w h x m n e f = omega (arith, e, f)
 
 two_told : (j k h p : ℕ) → j ≡ 2 → k ≡ 0 → h ≡ 1 → p ≡ 1 → j + k ≡ h + p
 two_told j k h p a b c d = omega (arith, a, b, c, d)
@@ -60,7 +60,7 @@ told_next w a l e f g later d h u p q r s t = omega (arith, p, q, r, s, t)
 -- ---- lines
 
 -- a request that is held back is still to be told
-abbrev held_count : Option Held → ℕ
+abbrev held_count : Option DeferredRequest → ℕ
 held_count None = 0
 held_count (Some h) = 1
 
@@ -68,21 +68,21 @@ told_append : (a b : List Caused) → entries_told (a ++ b) ≡ entries_told a +
 told_append [] b = none_first (entries_told b)
 told_append (l ∷ ls) b = added l.entries (entries_told (ls ++ b)) (entries_told ls) (entries_told b) (told_append ls b)
 
-lone_count : (h : Option Held) → entries_told (lone_lines h) ≡ held_count h
+lone_count : (h : Option DeferredRequest) → entries_told (lone_lines h) ≡ held_count h
 unfolding lone_lines
 lone_count None = refl
 lone_count (Some h) = refl
 
 -- after the line of a request that is held back
-behind_lone : (h : Option Held) (ls : List Caused) → entries_told (lone_lines h ++ ls) ≡ held_count h + entries_told ls
-behind_lone h ls = first_same (entries_told (lone_lines h ++ ls)) (entries_told (lone_lines h)) (held_count h) (entries_told ls) (told_append (lone_lines h) ls) (lone_count h)
+after_lone : (h : Option DeferredRequest) (ls : List Caused) → entries_told (lone_lines h ++ ls) ≡ held_count h + entries_told ls
+after_lone h ls = first_same (entries_told (lone_lines h ++ ls)) (entries_told (lone_lines h)) (held_count h) (entries_told ls) (told_append (lone_lines h) ls) (lone_count h)
 
-one_behind : (h : Option Held) (ls : List Caused) (n m : ℕ) → entries_told ls + m ≡ n → entries_told (lone_lines h ++ ls) + m ≡ held_count h + n
-one_behind h ls n m e = behind_sum (entries_told (lone_lines h ++ ls)) (held_count h) (entries_told ls) m n (behind_lone h ls) e
+one_after : (h : Option DeferredRequest) (ls : List Caused) (n m : ℕ) → entries_told ls + m ≡ n → entries_told (lone_lines h ++ ls) + m ≡ held_count h + n
+one_after h ls n m e = after_sum (entries_told (lone_lines h ++ ls)) (held_count h) (entries_told ls) m n (after_lone h ls) e
 
 -- ---- packets
 
-joined_some : (k : Option Answer) (head : Head) (held : Option Held) → is_joined k head held ≡ true → (is_some k ≡ true) × ((h : Held) × (held ≡ Some h))
+joined_some : (k : Option Answer) (head : Head) (held : Option DeferredRequest) → is_joined k head held ≡ true → (is_some k ≡ true) × ((h : DeferredRequest) × (held ≡ Some h))
 unfolding is_joined
 joined_some None head None e = absurd cc
 joined_some None head (Some h) e = absurd cc
@@ -117,17 +117,17 @@ lone_due t n cycle (CycleStart h offset time) = refl
 lone_due t n cycle (Lock h offset function bytes) = refl
 lone_due t n cycle (LockReply h rcode function bytes) = refl
 
-joined_two : (n : Naming) (p : Packet) (h : Held) → entries_told (joined_lines n p (Some h)) ≡ 2
+joined_two : (n : Naming) (p : Packet) (h : DeferredRequest) → entries_told (joined_lines n p (Some h)) ≡ 2
 unfolding joined_lines joined_line
 joined_two n p h = refl
 
 -- a response with the request that is held back
-joined_due : (n : Naming) (cycle : ℕ) (p : Packet) (held : Option Held) → is_joined (kind_of p) (head_of p) held ≡ true
+joined_due : (n : Naming) (cycle : ℕ) (p : Packet) (held : Option DeferredRequest) → is_joined (kind_of p) (head_of p) held ≡ true
     → entries_told (joined_lines n p held) + held_count (held_by n cycle p (asked_by p)) ≡ held_count held + packets_due p
 joined_due n cycle p held e =
     let s = joined_some (kind_of p) (head_of p) held e in
     let r = response_due n cycle p s.0 in
-    let two : entries_told (joined_lines n p held) ≡ 2 = subst (λ (x : Option Held). entries_told (joined_lines n p x) ≡ 2) (sym s.1.1) (joined_two n p s.1.0) in
+    let two : entries_told (joined_lines n p held) ≡ 2 = subst (λ (x : Option DeferredRequest). entries_told (joined_lines n p x) ≡ 2) (sym s.1.1) (joined_two n p s.1.0) in
     let one : held_count held ≡ 1 = ap held_count s.1.1 in
     two_told (entries_told (joined_lines n p held)) (held_count (held_by n cycle p (asked_by p))) (held_count held) (packets_due p) two r.0 one r.1
 
@@ -145,20 +145,20 @@ packet_due t n cycle p = by_joined (is_joined (kind_of p) (head_of p) t.held) re
         let s = response_due t.naming cycle p (joined_some (kind_of p) (head_of p) t.held e).0 in
         other_none (entries_told (joined_lines t.naming p t.held)) (held_count (held_by n cycle p (asked_by p))) (held_count (held_by t.naming cycle p (asked_by p)))
         (held_count t.held + packets_due p) r.0 s.0 j
-    by_joined false e = one_behind t.held (response_lines t cycle p (kind_of p)) (packets_due p) (held_count (held_by n cycle p (asked_by p))) (lone_due t n cycle p)
+    by_joined false e = one_after t.held (response_lines t cycle p (kind_of p)) (packets_due p) (held_count (held_by n cycle p (asked_by p))) (lone_due t n cycle p)
 
 -- ---- entries
 
 entry_due : (t : Telling) (cycle : ℕ) (what : Entry)
     → entries_told (lines_by (renumbered what t) cycle what) + held_count (held_after (naming_after t.naming what) cycle what) ≡ held_count t.held + lines_due what
 unfolding lines_by own_lines
-entry_due t cycle (Reset r) = one_behind t.held _ 1 0 refl
+entry_due t cycle (Reset r) = one_after t.held _ 1 0 refl
 entry_due t cycle (Async p) = packet_due (renumbered (Async p) t) t.naming cycle p
-entry_due t cycle (Iso p) = one_behind t.held [] 0 0 refl
-entry_due t cycle (Event e) = one_behind t.held _ 1 0 refl
-entry_due t cycle (Outcome o) = one_behind t.held _ 1 0 refl
-entry_due t cycle (Shown s) = one_behind t.held _ 1 0 refl
-entry_due t cycle End = one_behind t.held _ 1 0 refl
+entry_due t cycle (Iso p) = one_after t.held [] 0 0 refl
+entry_due t cycle (Event e) = one_after t.held _ 1 0 refl
+entry_due t cycle (Outcome o) = one_after t.held _ 1 0 refl
+entry_due t cycle (Shown s) = one_after t.held _ 1 0 refl
+entry_due t cycle End = one_after t.held _ 1 0 refl
 
 -- ---- streams
 
@@ -182,15 +182,15 @@ last_due : (t : Telling) → entries_told (last_lines t) ≡ held_count t.held
 unfolding last_lines
 last_due t =
     sum_first (entries_told (lone_lines t.held ++ first_streams t.naming t.cycle t.streams 64)) (held_count t.held) (entries_told (first_streams t.naming t.cycle t.streams 64))
-    (behind_lone t.held (first_streams t.naming t.cycle t.streams 64)) (streams_due t.naming t.cycle t.streams 64)
+    (after_lone t.held (first_streams t.naming t.cycle t.streams 64)) (streams_due t.naming t.cycle t.streams 64)
 
 -- ---- commands
 
-command_due : (t : Telling) (entries : List Timed) → entries_told (lines_from t entries ++ last_lines (telling_behind t entries)) ≡ held_count t.held + entries_due entries
+command_due : (t : Telling) (entries : List Timed) → entries_told (lines_from t entries ++ last_lines (telling_following t entries)) ≡ held_count t.held + entries_due entries
 command_due t [] = same_more (entries_told (last_lines t)) (held_count t.held) (last_due t)
 command_due t (e ∷ es) =
     let after : Telling = telling_after t e in
-    let last : List Caused = last_lines (telling_behind after es) in
+    let last : List Caused = last_lines (telling_following after es) in
     told_next (entries_told ((entry_lines t e ++ lines_from after es) ++ last)) (entries_told (entry_lines t e ++ lines_from after es)) (entries_told last)
     (entries_told (entry_lines t e)) (entries_told (lines_from after es)) (entries_told (lines_from after es ++ last)) (held_count after.held) (entries_due es) (held_count t.held) (lines_due e.what)
     (told_append (entry_lines t e ++ lines_from after es) last) (told_append (entry_lines t e) (lines_from after es)) (told_append (lines_from after es) last)

@@ -13,7 +13,7 @@ use Rattle.fw_words.specs.Quadlet.{quadlet_at}
 use Rattle.fw_words.specs.Swaps.{quadlet_swap, swap_bytes}
 use Rattle.fw_words.specs.declared.swap.Swap.{Swap}
 use Rattle.fw_log_entry.specs.declared.entry.Entry.TheVariants.{Async}
-use Rattle.fw_log_registers.specs.declared.place.Place.{Place}
+use Rattle.fw_log_registers.specs.declared.place.RegisterPlace.{RegisterPlace}
 use Rattle.fw_log_registers.specs.Places.{place_of}
 use Rattle.fw_log_requests.specs.declared.asked.Answer.TheVariants.{Lock as LockResponse}
 use Rattle.fw_log_requests.specs.declared.asked.Asked.{Asked}
@@ -22,8 +22,41 @@ use Rattle.fw_trace_lines.specs.declared.packets.Reply.{Reply}
 use Rattle.fw_trace_lines.specs.Requests.{with_asked, latest_asked}
 use Rattle.fw_trace_lines.specs.Names.{Naming, id_text}
 use Rattle.fw_trace_lines.specs.Told.{asked_text, carried_text, changes_asked, rcode_or, swapped_text, answer_text, response_text}
-use Rattle.fw_trace_lines.specs.Caused.{Held, Telling, Caused, caused_text, at_cycle, one, kind_of, held_by, is_joined, lone_lines, joined_line, joined_lines, late_lines, response_lines, packet_lines, lines_by, entry_lines, telling_after}
-use Rattle.fw_trace_lines.specs.Replies.{quadlet_of, reply_of, found_text, word_told, brought_text, reply_text, replied_text, joined_with, late_reply, reply_lines, said_lines, with_request, with_response}
+use Rattle.fw_trace_lines.specs.Caused.{
+  DeferredRequest,
+  Telling,
+  Caused,
+  caused_text,
+  at_cycle,
+  one,
+  kind_of,
+  held_by,
+  is_joined,
+  lone_lines,
+  joined_line,
+  joined_lines,
+  late_lines,
+  response_lines,
+  packet_lines,
+  lines_by,
+  entry_lines,
+  telling_after,
+}
+use Rattle.fw_trace_lines.specs.Replies.{
+  quadlet_of,
+  reply_of,
+  found_text,
+  word_told,
+  brought_text,
+  reply_text,
+  replied_text,
+  joined_with,
+  late_reply,
+  reply_lines,
+  said_lines,
+  with_request,
+  with_response,
+}
 use Rattle.fw_trace_lines.specs.Commands.{Traced}
 
 -- ---- swaps
@@ -32,7 +65,7 @@ either_way : (b : Bool) (l : List ℕ) → l ≡ if b then l else l
 either_way true l = refl
 either_way false l = refl
 
-swapped_by : (n : Naming) (place : Place) (s : Option Swap) (bytes : List ℕ) → swapped_text n place s bytes ≡ if length bytes == 4 then found_text n place s (quadlet_at bytes 0) else []
+swapped_by : (n : Naming) (place : RegisterPlace) (s : Option Swap) (bytes : List ℕ) → swapped_text n place s bytes ≡ if length bytes == 4 then found_text n place s (quadlet_at bytes 0) else []
 unfolding swapped_text found_text
 swapped_by n place None bytes = either_way (length bytes == 4) []
 swapped_by n place (Some s) bytes = refl
@@ -48,10 +81,10 @@ swapped_same n q bytes = swapped_by n (place_of q.offset) q.swap bytes ∙ broug
 
 -- ---- responses
 
-joined_same : (n : Naming) (p : Packet) (r : Reply) (h : Option Held) → ((q : Asked) → answer_text n q p ≡ reply_text n q r) → joined_lines n p h ≡ joined_with n r h
+joined_same : (n : Naming) (p : Packet) (r : Reply) (h : Option DeferredRequest) → ((q : Asked) → answer_text n q p ≡ reply_text n q r) → joined_lines n p h ≡ joined_with n r h
 unfolding joined_lines joined_line joined_with
 joined_same n p r None same = refl
-joined_same n p r (Some h) same = ap (λ (x : List ℕ). record { entries = 2; text = h.front ++ codes " <-> " ++ h.told ++ x } ∷ []) (same h.asked)
+joined_same n p r (Some h) same = ap (λ (x : List ℕ). record { entries = 2; text = h.prefix ++ codes " <-> " ++ h.told ++ x } ∷ []) (same h.asked)
 
 response_same : (n : Naming) (p : Packet) (r : Reply) (o : Option Asked) → ((q : Asked) → answer_text n q p ≡ reply_text n q r) → response_text n o p ≡ replied_text n o r
 unfolding response_text replied_text
@@ -81,7 +114,7 @@ reply_same t cycle p r k e same =
 
 -- ---- others
 
-unjoined : (h : Head) (held : Option Held) → is_joined None h held ≡ false
+unjoined : (h : Head) (held : Option DeferredRequest) → is_joined None h held ≡ false
 unfolding is_joined
 unjoined h None = refl
 unjoined h (Some held) = refl
@@ -145,7 +178,7 @@ with_told t cycle q x = record {
   naming = t.naming;
   requests = with_asked (Some q) t.requests;
   jobs = t.jobs;
-  held = Some (record { asked = q; front = at_cycle cycle ++ id_text t.naming q.source; told = x; changes = changes_asked t.naming q });
+  held = Some (record { asked = q; prefix = at_cycle cycle ++ id_text t.naming q.source; told = x; changes = changes_asked t.naming q });
   streams = t.streams;
   cycle = cycle;
 }

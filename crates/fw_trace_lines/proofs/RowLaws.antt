@@ -1,8 +1,8 @@
--- A line of a front, an arrow and what is told: each is found in it again.
+-- A line of a prefix, an arrow and what is told: each is found in it again.
 use Rattle.std.proofs.Common.{◌≡◌, ap, ◌∙◌, ℕ, zero, suc, ◌+◌, List, [], ◌∷◌, ◌++◌, length, take, drop, Some, append_assoc, arith}
 use Rattle.std.proofs.lemmas.List.{length-append, append-nil}
 use Rattle.fw_log_requests.specs.declared.asked.Asked.{Asked}
-use Rattle.fw_trace_lines.specs.Caused.{Held}
+use Rattle.fw_trace_lines.specs.Caused.{DeferredRequest}
 
 -- the first so many bytes of a row after others
 pub row_cut : (a b : List ℕ) (size k : ℕ) → k ≡ length a + size → take k (a ++ b) ≡ a ++ take size b
@@ -21,9 +21,9 @@ after_is [] b k e =
 after_is (x ∷ xs) b zero e = absurd (omega (arith, e))
 after_is (x ∷ xs) b (suc k) e = after_is xs b k (omega (arith, e))
 
--- a line of a front, an arrow of four bytes and what is told
-pub front_is : (f a t line line' line'' : List ℕ) (arrow : ℕ) → line ≡ f → arrow ≡ length line → line' ≡ line ++ a → line'' ≡ line' ++ t → take arrow line'' ≡ f
-front_is f a t line line' line'' arrow e n m l =
+-- a line of a prefix, an arrow of four bytes and what is told
+pub prefix_is : (f a t line line' line'' : List ℕ) (arrow : ℕ) → line ≡ f → arrow ≡ length line → line' ≡ line ++ a → line'' ≡ line' ++ t → take arrow line'' ≡ f
+prefix_is f a t line line' line'' arrow e n m l =
     let whole : line'' ≡ line ++ (a ++ t) = l ∙ ap (λ (x : List ℕ). x ++ t) m ∙ append_assoc line a t in
     ap (take arrow) whole ∙ before_is line (a ++ t) arrow n ∙ e
 
@@ -33,8 +33,8 @@ told_is a t line line' line'' arrow four n m l =
     ap (drop (arrow + 4)) l ∙ after_is line' t (arrow + 4) long
 
 -- a request that is held back, of these parts
-abbrev of_parts : Asked → List ℕ → List ℕ → List ℕ → Held
-of_parts q f t c = record { asked = q; front = f; told = t; changes = c }
+abbrev of_parts : Asked → List ℕ → List ℕ → List ℕ → DeferredRequest
+of_parts q f t c = record { asked = q; prefix = f; told = t; changes = c }
 
 pub held_same : (q : Asked) (f f' t t' c c' : List ℕ) → f ≡ f' → t ≡ t' → c ≡ c' → Some (of_parts q f t c) ≡ Some (of_parts q f' t' c')
 held_same q f f' t t' c c' e g h = λ i. Some (of_parts q (e i) (g i) (h i))

@@ -14,7 +14,7 @@ use Rattle.fw_log_requests.specs.declared.asked.Answer.TheVariants.{Write as Wri
 use Rattle.fw_log_requests.specs.declared.asked.Asked.{Asked}
 use Rattle.fw_log_requests.specs.Requests.{asked_by, answers}
 use Rattle.fw_trace_lines.specs.Requests.{requests_after, latest_asked}
-use Rattle.fw_trace_lines.specs.declared.job.Job.{Job}
+use Rattle.fw_trace_lines.specs.declared.job.TracedConnection.{TracedConnection}
 use Rattle.fw_trace_lines.specs.declared.streams.Stream.{Stream}
 use Rattle.fw_trace_lines.specs.Names.{Naming, nameless, devices_of, id_text}
 use Rattle.fw_trace_lines.specs.Jobs.{job_at, jobs_after, without_device}
@@ -24,9 +24,9 @@ use Rattle.fw_trace_lines.specs.Told.{asked_text, carried_text, changes_asked, a
 -- ---- what is kept
 
 -- a request that is held back, with the texts that its line is made of: what stands before the arrow and after it, and what it would change
-pub record Held : Type 0 where
+pub record DeferredRequest : Type 0 where
   pub asked : Asked
-  pub front : List ℕ
+  pub prefix : List ℕ
   pub told : List ℕ
   pub changes : List ℕ
 
@@ -34,8 +34,8 @@ pub record Held : Type 0 where
 pub record Telling : Type 0 where
   pub naming : Naming
   pub requests : List Asked
-  pub jobs : List Job
-  pub held : Option Held
+  pub jobs : List TracedConnection
+  pub held : Option DeferredRequest
   pub streams : List Stream
   pub cycle : ℕ
 
@@ -74,16 +74,16 @@ kind_of (LockReply h rcode function bytes) = Some LockResponse
 kind_of p = None
 
 -- a request that is held back
-abbrev pub held_of : Naming → ℕ → Packet → Asked → Held
+abbrev pub held_of : Naming → ℕ → Packet → Asked → DeferredRequest
 held_of n cycle p q = record {
   asked = q;
-  front = at_cycle cycle ++ id_text n q.source;
+  prefix = at_cycle cycle ++ id_text n q.source;
   told = id_text n q.destination ++ codes " " ++ asked_text q ++ carried_text p;
   changes = changes_asked n q;
 }
 
 -- a request is held back, if the packet is one
-unfoldable pub held_by : Naming → ℕ → Packet → Option Asked → Option Held
+unfoldable pub held_by : Naming → ℕ → Packet → Option Asked → Option DeferredRequest
 held_by n cycle p None = None
 held_by n cycle p (Some q) = Some (held_of n cycle p q)
 
@@ -93,16 +93,16 @@ if_made [] = []
 if_made (b ∷ bs) = codes "; if made" ++ b ∷ bs
 
 -- the line of a request that is answered later, or not at all
-unfoldable pub lone_lines : Option Held → List Caused
+unfoldable pub lone_lines : Option DeferredRequest → List Caused
 lone_lines None = []
-lone_lines (Some h) = record { entries = 1; text = h.front ++ codes " -> " ++ h.told ++ if_made h.changes } ∷ []
+lone_lines (Some h) = record { entries = 1; text = h.prefix ++ codes " -> " ++ h.told ++ if_made h.changes } ∷ []
 
 -- the line of a request and of its answer
-unfoldable pub joined_line : Naming → Held → Packet → Caused
-joined_line n h p = record { entries = 2; text = h.front ++ codes " <-> " ++ h.told ++ answer_text n h.asked p }
+unfoldable pub joined_line : Naming → DeferredRequest → Packet → Caused
+joined_line n h p = record { entries = 2; text = h.prefix ++ codes " <-> " ++ h.told ++ answer_text n h.asked p }
 
 -- a response of this kind answers the request that is held back
-unfoldable pub is_joined : Option Answer → Head → Option Held → Bool
+unfoldable pub is_joined : Option Answer → Head → Option DeferredRequest → Bool
 is_joined (Some kind) h (Some held) = answers kind h held.asked
 is_joined kind h held = false
 
@@ -117,7 +117,7 @@ response_lines t cycle p None = []
 response_lines t cycle p (Some kind) = late_lines t cycle p
 
 -- the line of a request that is held back and of its answer
-unfoldable pub joined_lines : Naming → Packet → Option Held → List Caused
+unfoldable pub joined_lines : Naming → Packet → Option DeferredRequest → List Caused
 joined_lines n p None = []
 joined_lines n p (Some h) = joined_line n h p ∷ []
 
@@ -164,17 +164,17 @@ abbrev pub entry_lines : Telling → Timed → List Caused
 entry_lines t e = lines_by (renumbered e.what t) e.cycle e.what
 
 -- the jobs after an event: a death ends those of the device
-unfoldable pub jobs_behind : EventEntry → List Job → List Job
-jobs_behind e jobs = if e.code == Events.DIED then without_device e.device jobs else jobs
+unfoldable pub jobs_following : EventEntry → List TracedConnection → List TracedConnection
+jobs_following e jobs = if e.code == Events.DIED then without_device e.device jobs else jobs
 
 -- the jobs after an entry
-abbrev pub jobs_from : Entry → List Job → List Job
-jobs_from (Event e) jobs = jobs_behind e jobs
+abbrev pub jobs_from : Entry → List TracedConnection → List TracedConnection
+jobs_from (Event e) jobs = jobs_following e jobs
 jobs_from (Outcome o) jobs = jobs_after o.code o.device o.slot jobs
 jobs_from e jobs = jobs
 
 -- the request that is held back after an entry
-abbrev pub held_after : Naming → ℕ → Entry → Option Held
+abbrev pub held_after : Naming → ℕ → Entry → Option DeferredRequest
 held_after n cycle (Async p) = held_by n cycle p (asked_by p)
 held_after n cycle e = None
 

@@ -3,7 +3,7 @@ use Rattle.std.specs.Prelude.{ℕ, zero, suc, ◌==◌, List, [], ◌∷◌, ◌
 use Rattle.fw_script_command.specs.declared.command.Command.{Command}
 use Rattle.fw_log_entry.specs.declared.entry.Timed.{Timed}
 use Rattle.fw_trace_lines.specs.declared.job.Connection.{Connection}
-use Rattle.fw_trace_lines.specs.declared.job.Job.{Job}
+use Rattle.fw_trace_lines.specs.declared.job.TracedConnection.{TracedConnection}
 use Rattle.fw_trace_lines.specs.declared.streams.Stream.{Stream}
 use Rattle.fw_trace_lines.specs.Names.{Naming, with_declared}
 use Rattle.fw_trace_lines.specs.Jobs.{connection_of, with_job}
@@ -28,7 +28,7 @@ unfoldable pub last_lines : Telling → List Caused
 last_lines t = lone_lines t.held ++ first_streams t.naming t.cycle t.streams 64
 
 -- the jobs after a command that asked for this connection and was given this slot of this device's controller
-unfoldable pub jobs_given : Option Connection → Option (ℕ × ℕ) → List Job → List Job
+unfoldable pub jobs_given : Option Connection → Option (ℕ × ℕ) → List TracedConnection → List TracedConnection
 jobs_given (Some connection) (Some place) jobs = with_job place.0 place.1 connection jobs
 jobs_given connection place jobs = jobs
 
@@ -42,13 +42,13 @@ lines_from t [] = []
 lines_from t (e ∷ es) = entry_lines t e ++ lines_from (telling_after t e) es
 
 -- what is kept after entries
-abbrev pub telling_behind : Telling → List Timed → Telling
-telling_behind t [] = t
-telling_behind t (e ∷ es) = telling_behind (telling_after t e) es
+abbrev pub telling_following : Telling → List Timed → Telling
+telling_following t [] = t
+telling_following t (e ∷ es) = telling_following (telling_after t e) es
 
 -- all lines that a command caused which wrote these entries
 abbrev pub command_lines : Telling → List Timed → List Caused
-command_lines t entries = lines_from t entries ++ last_lines (telling_behind t entries)
+command_lines t entries = lines_from t entries ++ last_lines (telling_following t entries)
 
 -- what the text of lines and entries has come to, and what is kept
 pub record Traced : Type 0 where

@@ -6,7 +6,7 @@ use Rattle.fw_script_command.specs.declared.command.Command.TheVariants.{Connect
 use Rattle.fw_log_entry.specs.declared.codes.outcome.TheConstants as Outcomes
 use Rattle.fw_trace_lines.specs.declared.job.Connection.{Connection}
 use Rattle.fw_trace_lines.specs.declared.job.Connection.TheVariants.{PlugToPlug, Broadcast, Listen}
-use Rattle.fw_trace_lines.specs.declared.job.Job.{Job}
+use Rattle.fw_trace_lines.specs.declared.job.TracedConnection.{TracedConnection}
 
 -- the connection that a line asks for
 abbrev pub connection_of : Command → Option Connection
@@ -26,51 +26,51 @@ connection_text (Broadcast out) = codes "broadcast " ++ plug_text out
 connection_text (Listen into) = codes "listen " ++ plug_text into
 
 -- a job that has just taken a slot of a device's controller
-abbrev pub new_job : ℕ → ℕ → Connection → Job
+abbrev pub new_job : ℕ → ℕ → Connection → TracedConnection
 new_job device slot connection = record { device = device; slot = slot; connection = connection; made = false; over = false; older = false }
 
 -- the job that has the slot now
-abbrev pub is_now : ℕ → ℕ → Job → Bool
+abbrev pub is_now : ℕ → ℕ → TracedConnection → Bool
 is_now device slot j = (j.device == device) && (j.slot == slot) && not j.older
 
 -- the device's job whose slot another has taken
-abbrev pub is_older : ℕ → Job → Bool
+abbrev pub is_older : ℕ → TracedConnection → Bool
 is_older device j = (j.device == device) && j.older
 
 -- that job, if it is of this slot
-abbrev pub is_older_at : ℕ → ℕ → Job → Bool
+abbrev pub is_older_at : ℕ → ℕ → TracedConnection → Bool
 is_older_at device slot j = (j.device == device) && (j.slot == slot) && j.older
 
 -- another has its slot
-abbrev pub aged : Job → Job
+abbrev pub aged : TracedConnection → TracedConnection
 aged j = record { device = j.device; slot = j.slot; connection = j.connection; made = j.made; over = j.over; older = true }
 
 -- if the job that had the slot is not over, it becomes the device's older one
-abbrev pub displaced : Option Job → List Job → List Job
+abbrev pub displaced : Option TracedConnection → List TracedConnection → List TracedConnection
 displaced None jobs = jobs
 displaced (Some j) jobs = if j.over then jobs else filter (λ other. not (is_older j.device other)) jobs ++ aged j ∷ []
 
 -- the job at a place of the list, if there is one
-abbrev pub job_in : List Job → Option ℕ → Option Job
+abbrev pub job_in : List TracedConnection → Option ℕ → Option TracedConnection
 job_in jobs None = None
 job_in jobs (Some at) = slice_get jobs at
 
 -- the first job that passes a test
-abbrev pub first_where : (Job → Bool) → List Job → Option Job
+abbrev pub first_where : (TracedConnection → Bool) → List TracedConnection → Option TracedConnection
 first_where test jobs = job_in jobs (position test jobs)
 
 -- a new job takes a slot
-unfoldable pub with_job : ℕ → ℕ → Connection → List Job → List Job
+unfoldable pub with_job : ℕ → ℕ → Connection → List TracedConnection → List TracedConnection
 with_job device slot connection jobs =
     displaced (first_where (is_now device slot) jobs) (filter (λ j. not (is_now device slot j)) jobs) ++ new_job device slot connection ∷ []
 
 -- the first of two
-abbrev pub or_else : Option Job → Option Job → Option Job
+abbrev pub or_else : Option TracedConnection → Option TracedConnection → Option TracedConnection
 or_else None other = other
 or_else (Some j) other = Some j
 
 -- the job of an outcome of a device and a slot: the device's older one if that is of the slot, else the one that has it
-unfoldable pub job_at : ℕ → ℕ → List Job → Option Job
+unfoldable pub job_at : ℕ → ℕ → List TracedConnection → Option TracedConnection
 job_at device slot jobs = or_else (first_where (is_older_at device slot) jobs) (first_where (is_now device slot) jobs)
 
 -- an outcome that leaves the connection standing
@@ -86,7 +86,7 @@ abbrev pub over_after : ℕ → Bool → Bool
 over_after code over = over || not (goes_on code)
 
 -- a job after an outcome of it
-abbrev pub after_outcome : ℕ → Job → Job
+abbrev pub after_outcome : ℕ → TracedConnection → TracedConnection
 after_outcome code j = record {
   device = j.device;
   slot = j.slot;
@@ -97,18 +97,18 @@ after_outcome code j = record {
 }
 
 -- the jobs after an outcome of this one among them: an older one is gone
-abbrev pub with_outcome : ℕ → Option Job → List Job → List Job
+abbrev pub with_outcome : ℕ → Option TracedConnection → List TracedConnection → List TracedConnection
 with_outcome code None jobs = jobs
 with_outcome code (Some j) jobs =
     if j.older then filter (λ other. not (is_older_at j.device j.slot other)) jobs
     else filter (λ other. not (is_now j.device j.slot other)) jobs ++ after_outcome code j ∷ []
 
 -- the jobs after an outcome of a device and a slot
-unfoldable pub jobs_after : ℕ → ℕ → ℕ → List Job → List Job
+unfoldable pub jobs_after : ℕ → ℕ → ℕ → List TracedConnection → List TracedConnection
 jobs_after code device slot jobs = with_outcome code (job_at device slot jobs) jobs
 
 -- the controller of a device has died
-unfoldable pub without_device : ℕ → List Job → List Job
+unfoldable pub without_device : ℕ → List TracedConnection → List TracedConnection
 without_device device jobs = filter (λ j. not (j.device == device)) jobs
 
 -- what the outcome's job was doing: a reset broke it off, or another fault did
@@ -122,6 +122,6 @@ verb_of code made =
     else codes " restores "
 
 -- what an outcome's job does, and of which connection; each outcome of a run has a job
-unfoldable pub doing_text : ℕ → Option Job → List ℕ
+unfoldable pub doing_text : ℕ → Option TracedConnection → List ℕ
 doing_text code None = verb_of code false ++ codes "a connection"
 doing_text code (Some j) = verb_of code j.made ++ connection_text j.connection

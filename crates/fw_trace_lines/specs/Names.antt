@@ -1,6 +1,6 @@
 -- Names in place of numbers: those that a script gives its devices.
 use Rattle.std.specs.Prelude.{ℕ, ◌==◌, List, [], ◌∷◌, ◌++◌, codes, decimal, slice_get, map, Option, Some, None, if◌then◌else◌}
-use Rattle.fw_async.specs.NodeIds.{number_of}
+use Rattle.fw_async_fields.specs.NodeIds.{number_of}
 use Rattle.fw_script_command.specs.declared.command.Command.{Command}
 use Rattle.fw_script_command.specs.declared.command.Command.TheVariants.{Device}
 use Rattle.fw_log_entry.specs.declared.nodes.NodeRow.{NodeRow}

@@ -1,6 +1,6 @@
 -- What is told of a place again and again: what is asked of it, a word that stands there, what a swap changes, and a read with its word.
 use Rattle.std.specs.Prelude.{ℕ, List, ◌++◌, None}
-use Rattle.fw_log_registers.specs.declared.place.Place.{Place}
+use Rattle.fw_log_registers.specs.declared.place.RegisterPlace.{RegisterPlace}
 use Rattle.fw_log_registers.specs.Places.{place_of}
 use Rattle.fw_log_requests.specs.declared.asked.Answer.TheVariants.{Write as WriteResponse, ReadQuadlet as ReadQuadletResponse, Lock as LockResponse}
 use Rattle.fw_trace_lines.specs.Names.{Naming}
@@ -10,7 +10,7 @@ use Rattle.fw_trace_lines.specs.declared.phrase.Words.{Words}
 use Rattle.fw_trace_lines.specs.declared.phrase.Words.TheVariants.{Write, Read, Lock, Word, Change, Brought}
 
 -- by its place
-unfoldable pub words_text : Naming → Place → Words → List ℕ
+unfoldable pub words_text : Naming → RegisterPlace → Words → List ℕ
 words_text n place Write = asked_at WriteResponse place None
 words_text n place Read = asked_at ReadQuadletResponse place None
 words_text n place (Lock swap) = asked_at LockResponse place swap

@@ -4,7 +4,7 @@ use Rattle.fw_words.specs.Quadlet.{quadlet_at}
 use Rattle.fw_words.specs.declared.swap.Swap.{Swap}
 use Rattle.fw_async.specs.declared.packet.Packet.{Packet}
 use Rattle.fw_async.specs.declared.packet.Packet.TheVariants.{WriteReply, ReadQuadletReply, ReadBlockReply, LockReply}
-use Rattle.fw_log_registers.specs.declared.place.Place.{Place}
+use Rattle.fw_log_registers.specs.declared.place.RegisterPlace.{RegisterPlace}
 use Rattle.fw_log_registers.specs.Places.{place_of}
 use Rattle.fw_log_requests.specs.declared.asked.Answer.{Answer}
 use Rattle.fw_log_requests.specs.declared.asked.Answer.TheVariants.{Write as WriteResponse, ReadQuadlet as ReadQuadletResponse, ReadBlock as ReadBlockResponse, Lock as LockResponse}
@@ -13,7 +13,7 @@ use Rattle.fw_trace_lines.specs.declared.packets.Reply.{Reply}
 use Rattle.fw_trace_lines.specs.Requests.{with_latest, latest_asked}
 use Rattle.fw_trace_lines.specs.Names.{Naming, id_text}
 use Rattle.fw_trace_lines.specs.Told.{named_word, made_text, rcode_or, asked_text, changes_asked}
-use Rattle.fw_trace_lines.specs.Caused.{Held, Telling, Caused, at_cycle, one, is_joined, lone_lines}
+use Rattle.fw_trace_lines.specs.Caused.{DeferredRequest, Telling, Caused, at_cycle, one, is_joined, lone_lines}
 
 -- ---- what a response says
 
@@ -32,7 +32,7 @@ reply_of p = None
 -- ---- what it tells
 
 -- what a swap brings that found this word
-unfoldable pub found_text : Naming → Place → Option Swap → ℕ → List ℕ
+unfoldable pub found_text : Naming → RegisterPlace → Option Swap → ℕ → List ℕ
 found_text n place None word = []
 found_text n place (Some s) word = made_text n place s word
 
@@ -60,9 +60,9 @@ replied_text n (Some q) r = asked_text q ++ reply_text n q r
 -- ---- its lines
 
 -- the line of a request that is held back, and of its answer
-unfoldable pub joined_with : Naming → Reply → Option Held → List Caused
+unfoldable pub joined_with : Naming → Reply → Option DeferredRequest → List Caused
 joined_with n r None = []
-joined_with n r (Some h) = record { entries = 2; text = h.front ++ codes " <-> " ++ h.told ++ reply_text n h.asked r } ∷ []
+joined_with n r (Some h) = record { entries = 2; text = h.prefix ++ codes " <-> " ++ h.told ++ reply_text n h.asked r } ∷ []
 
 -- the line of a response to an earlier request
 unfoldable pub late_reply : Telling → ℕ → Reply → List Caused
@@ -81,10 +81,10 @@ said_lines t cycle (Some r) = reply_lines t cycle r
 -- ---- what is kept
 
 -- a request that is held back, and carries nothing
-abbrev pub held_bare : Naming → ℕ → Asked → Held
+abbrev pub held_bare : Naming → ℕ → Asked → DeferredRequest
 held_bare n cycle q = record {
   asked = q;
-  front = at_cycle cycle ++ id_text n q.source;
+  prefix = at_cycle cycle ++ id_text n q.source;
   told = id_text n q.destination ++ codes " " ++ asked_text q;
   changes = changes_asked n q;
 }

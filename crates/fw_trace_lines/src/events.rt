@@ -4,7 +4,7 @@ ghost use Rattle.std.specs.Prelude.{◌≡◌, ◌++◌, OnOk};
 ghost use Rattle.fw_log_explain.specs.Lines.{shown_place};
 ghost use Rattle.fw_trace_lines.specs.Told.{manager_text, reset_text, event_device, event_text, missing_text, outcome_value, outcome_text, shown_text};
 
-use crate::job::{Job, put_doing};
+use crate::job::{TracedConnection, put_doing};
 use crate::naming::Names;
 use crate::parts::{put_named_part, put_part};
 use crate::registers::put_named_word;
@@ -13,7 +13,7 @@ use fw_csr::REGISTER_SPACE;
 use fw_log_entry::codes::{NO_DEVICE, outcome};
 use fw_log_entry::{EventEntry, OutcomeEntry, ResetEntry, ShownEntry};
 use fw_log_names::{Pairs, event_name, event_saying, outcome_name, put_word};
-use fw_log_registers::{Place, put_place};
+use fw_log_registers::{RegisterPlace, put_place};
 use std::alloc::AllocError;
 
 // Appends the resource manager that a bus reset has found.
@@ -105,7 +105,7 @@ pub(crate) fn put_outcome(
     text: &mut Vec<u8>,
     pairs: &Pairs,
     names: &Names,
-    job: Option<Job>,
+    job: Option<TracedConnection>,
     o: &OutcomeEntry,
 ) -> Result<(), AllocError>
     ensures { OnOk result (text.new.items ≡ text.old.items ++ outcome_text names.now job o.now) }
@@ -118,10 +118,10 @@ pub(crate) fn put_outcome(
 }
 
 // What stands where a word is shown.
-fn shown_place(s: &ShownEntry) -> Place
+fn shown_place(s: &ShownEntry) -> RegisterPlace
     ensures { result ≡ shown_place s.now }
 {
-    Place::of(REGISTER_SPACE + u64::from(s.offset))
+    RegisterPlace::of(REGISTER_SPACE + u64::from(s.offset))
 }
 
 // Appends a shown word.

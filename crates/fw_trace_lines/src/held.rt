@@ -29,11 +29,11 @@ pub(crate) struct HeldBack {
 
 impl Model for HeldBack {
     ghost use Rattle.std.specs.Prelude.{◌≡◌, ◌++◌, ◌+◌, Option, IfSome, codes, drop, option_map, take};
-    ghost use Rattle.fw_trace_lines.specs.Caused.{Held};
+    ghost use Rattle.fw_trace_lines.specs.Caused.{DeferredRequest};
 
-    ghost Value = { Option Held };
+    ghost Value = { Option DeferredRequest };
 
-    ghost view = { λ h. option_map (λ q. record { asked = q; front = take h.arrow h.line.items; told = drop (h.arrow + 4) h.line.items; changes = h.changes.items }) h.asked };
+    ghost view = { λ h. option_map (λ q. record { asked = q; prefix = take h.arrow h.line.items; told = drop (h.arrow + 4) h.line.items; changes = h.changes.items }) h.asked };
 
     ghost invariant = { λ h. IfSome h.asked (λ q. h.line.items ≡ take h.arrow h.line.items ++ codes " -> " ++ drop (h.arrow + 4) h.line.items) };
 }
@@ -42,7 +42,7 @@ impl Model for HeldBack {
 const ARROW: &str = " -> ";
 
 // Puts what a line that was caused begins with, and who asks, in place of what was there.
-fn set_front(
+fn set_prefix(
     line: &mut Vec<u8>,
     digits: &mut CycleRow,
     cycle: u64,
@@ -139,7 +139,7 @@ impl HeldBack {
         ensures { OnOk result (self.new ≡ Some (held_of names.now cycle p.now q)) }
     {
         self.asked = None;
-        set_front(&mut self.line, digits, cycle, names, q.source)?;
+        set_prefix(&mut self.line, digits, cycle, names, q.source)?;
         let arrow = self.line.len();
         put_word(&mut self.line, ARROW)?;
         put_carrying(&mut self.line, pairs, memo, names, p, &q)?;
@@ -162,7 +162,7 @@ impl HeldBack {
         ensures { OnOk result (self.new ≡ Some (held_bare names.now cycle q)) }
     {
         self.asked = None;
-        set_front(&mut self.line, digits, cycle, names, q.source)?;
+        set_prefix(&mut self.line, digits, cycle, names, q.source)?;
         let arrow = self.line.len();
         put_word(&mut self.line, ARROW)?;
         put_told(&mut self.line, pairs, memo, names, &q)?;

@@ -67,7 +67,7 @@ fn put_plug(text: &mut Vec<u8>, plug: &(Name, u8)) -> Result<(), AllocError>
 
 /// A connection that a controller was asked to make, and what has become of it.
 #[derive(Clone, Copy)]
-pub struct Job {
+pub struct TracedConnection {
     /// The number of the controller's device.
     pub device: u8,
     /// The slot that it took.
@@ -82,12 +82,12 @@ pub struct Job {
     pub older: bool,
 }
 
-impl Job {
+impl TracedConnection {
     // A job that has just taken a slot.
-    pub(crate) fn new(device: u8, slot: u8, connection: Connection) -> Job
+    pub(crate) fn new(device: u8, slot: u8, connection: Connection) -> TracedConnection
         ensures { result ≡ new_job device slot connection }
     {
-        Job {
+        TracedConnection {
             device,
             slot,
             connection,
@@ -156,7 +156,11 @@ fn verb_of(code: u8, made: bool) -> &'static str
 
 // Appends what an outcome's job was doing, and of which connection.
 #[tactic(auto, unfolding(crate::specs::Jobs::doing_text))]
-pub(crate) fn put_doing(text: &mut Vec<u8>, code: u8, job: Option<Job>) -> Result<(), AllocError>
+pub(crate) fn put_doing(
+    text: &mut Vec<u8>,
+    code: u8,
+    job: Option<TracedConnection>,
+) -> Result<(), AllocError>
     ensures { OnOk result (text.new.items ≡ text.old.items ++ doing_text code job) }
 {
     match job {

@@ -23,7 +23,7 @@ mod sayings;
 mod streams;
 mod tracer;
 
-pub use job::{Connection, Job};
+pub use job::{Connection, TracedConnection};
 pub use laws::all_entries_are_told;
 pub use streams::Stream;
 pub use tracer::Tracer;

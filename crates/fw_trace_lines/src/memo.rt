@@ -8,7 +8,7 @@ use crate::naming::Names;
 use crate::parts::put_row;
 use crate::phrase::{Phrase, Words, is_nameless, put_words};
 use fw_log_names::Pairs;
-use fw_log_registers::Place;
+use fw_log_registers::RegisterPlace;
 use std::alloc::{AllocError, Global};
 use std::marker::Model;
 
@@ -111,7 +111,7 @@ impl Row {
     ) -> Result<(), AllocError>
         ensures { OnOk result (text.new.items ≡ text.old.items ++ phrase_text names.now phrase.now) }
     {
-        let place = Place::of(phrase.offset);
+        let place = RegisterPlace::of(phrase.offset);
         let begins = text.len();
         put_words(text, pairs, names, place, phrase.words)?;
         if is_nameless(place) {
@@ -166,7 +166,13 @@ impl Memo {
             }
             None => {
                 self.fill()?;
-                put_words(text, pairs, names, Place::of(phrase.offset), phrase.words)
+                put_words(
+                    text,
+                    pairs,
+                    names,
+                    RegisterPlace::of(phrase.offset),
+                    phrase.words,
+                )
             }
         }
     }

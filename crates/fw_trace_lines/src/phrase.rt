@@ -10,7 +10,7 @@ ghost use Rattle.fw_trace_lines.specs.Told.{asked_text, changes_of, named_word, 
 use crate::naming::Names;
 use crate::registers::{put_named_told, put_named_word};
 use fw_log_names::{Pairs, put_quadlet, put_word};
-use fw_log_registers::{Place, Register, Told, put_place};
+use fw_log_registers::{NamedRegister, RegisterPlace, RegisterValue, put_place};
 use fw_log_requests::{Answer, Asked};
 use fw_words::Swap;
 use std::alloc::AllocError;
@@ -59,7 +59,12 @@ impl Phrase {
 }
 
 // Appends a word, and what stands at a place.
-fn put_at(text: &mut Vec<u8>, pairs: &Pairs, word: &str, place: Place) -> Result<(), AllocError>
+fn put_at(
+    text: &mut Vec<u8>,
+    pairs: &Pairs,
+    word: &str,
+    place: RegisterPlace,
+) -> Result<(), AllocError>
     ensures { OnOk result (text.new.items ≡ text.old.items ++ (word.now ++ place_text place)) }
 {
     put_word(text, word)?;
@@ -71,7 +76,7 @@ fn put_at(text: &mut Vec<u8>, pairs: &Pairs, word: &str, place: Place) -> Result
 fn put_swap_asked(
     text: &mut Vec<u8>,
     pairs: &Pairs,
-    place: Place,
+    place: RegisterPlace,
     swap: Option<Swap>,
 ) -> Result<(), AllocError>
     ensures { OnOk result (text.new.items ≡ text.old.items ++ swap_asked place swap) }
@@ -90,12 +95,12 @@ fn put_changes_of(
     text: &mut Vec<u8>,
     pairs: &Pairs,
     names: &Names,
-    place: Place,
+    place: RegisterPlace,
     swap: Swap,
 ) -> Result<(), AllocError>
     ensures { OnOk result (text.new.items ≡ text.old.items ++ changes_of names.now place swap) }
 {
-    let told = Told::Swap {
+    let told = RegisterValue::Swap {
         old: swap.argument,
         new: swap.new,
     };
@@ -107,7 +112,7 @@ fn put_read(
     text: &mut Vec<u8>,
     pairs: &Pairs,
     names: &Names,
-    place: Place,
+    place: RegisterPlace,
     word: u32,
 ) -> Result<(), AllocError>
     ensures { OnOk result (text.new.items ≡ text.old.items ++ (codes "read " ++ place_text place ++ named_word names.now place word)) }
@@ -118,10 +123,10 @@ fn put_read(
 
 // What is told of this place has no name of a node in it.
 #[tactic(auto, unfolding(crate::specs::Phrases::words_text, crate::specs::Told::named_word, crate::specs::Told::named_told))]
-pub(crate) fn is_nameless(place: Place) -> bool
+pub(crate) fn is_nameless(place: RegisterPlace) -> bool
     ensures { IsTrue result → (n m : Naming) → (words : TheWords) → words_text n place words ≡ words_text m place words }
 {
-    !matches!(place, Place::Named(Register::BusManagerId, _))
+    !matches!(place, RegisterPlace::Named(NamedRegister::BusManagerId, _))
 }
 
 // Appends what is told of a place.
@@ -130,7 +135,7 @@ pub(crate) fn put_words(
     text: &mut Vec<u8>,
     pairs: &Pairs,
     names: &Names,
-    place: Place,
+    place: RegisterPlace,
     words: Words,
 ) -> Result<(), AllocError>
     ensures { OnOk result (text.new.items ≡ text.old.items ++ words_text names.now place words) }

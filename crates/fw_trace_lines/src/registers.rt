@@ -7,7 +7,7 @@ ghost use Rattle.fw_trace_lines.specs.Told.{number_told, connections_told, holde
 use crate::naming::Names;
 use crate::parts::put_part;
 use fw_log_names::{Pairs, put_quadlet, put_word};
-use fw_log_registers::{Place, Register, Told, put_told};
+use fw_log_registers::{NamedRegister, RegisterPlace, RegisterValue, put_told};
 use fw_words::Quadlet;
 use std::alloc::AllocError;
 
@@ -15,7 +15,7 @@ use std::alloc::AllocError;
 #[tactic(auto, unfolding(crate::specs::Told::number_told))]
 fn put_field(
     text: &mut Vec<u8>,
-    told: Told,
+    told: RegisterValue,
     label: &str,
     first: u8,
     last: u8,
@@ -25,8 +25,8 @@ fn put_field(
     ensures { OnOk result (text.new.items ≡ text.old.items ++ number_told told label.now first last) }
 {
     match told {
-        Told::Word(word) => put_number_of(text, label, Quadlet(word).field(first, last)),
-        Told::Swap { old, new } => {
+        RegisterValue::Word(word) => put_number_of(text, label, Quadlet(word).field(first, last)),
+        RegisterValue::Swap { old, new } => {
             let from = Quadlet(old).field(first, last);
             let to = Quadlet(new).field(first, last);
             if from == to {
@@ -48,7 +48,7 @@ fn put_number_of(text: &mut Vec<u8>, label: &str, n: u32) -> Result<(), AllocErr
 }
 
 // Appends how a plug is connected.
-fn put_connections(text: &mut Vec<u8>, told: Told) -> Result<(), AllocError>
+fn put_connections(text: &mut Vec<u8>, told: RegisterValue) -> Result<(), AllocError>
     ensures { OnOk result (text.new.items ≡ text.old.items ++ connections_told told) }
 {
     put_field(text, told, "broadcast", 1, 1)?;
@@ -85,12 +85,12 @@ fn put_change(text: &mut Vec<u8>, names: &Names, old: u32, new: u32) -> Result<(
 
 // Appends what is told of BUS_MANAGER_ID.
 #[tactic(auto, unfolding(crate::specs::Told::manager_told))]
-fn put_manager(text: &mut Vec<u8>, names: &Names, told: Told) -> Result<(), AllocError>
+fn put_manager(text: &mut Vec<u8>, names: &Names, told: RegisterValue) -> Result<(), AllocError>
     ensures { OnOk result (text.new.items ≡ text.old.items ++ manager_told names.now told) }
 {
     match told {
-        Told::Word(word) => put_holder(text, names, holder_of(word)),
-        Told::Swap { old, new } => {
+        RegisterValue::Word(word) => put_holder(text, names, holder_of(word)),
+        RegisterValue::Swap { old, new } => {
             let from = holder_of(old);
             let to = holder_of(new);
             if from == to {
@@ -107,16 +107,16 @@ pub(crate) fn put_named_told(
     text: &mut Vec<u8>,
     pairs: &Pairs,
     names: &Names,
-    place: Place,
-    told: Told,
+    place: RegisterPlace,
+    told: RegisterValue,
 ) -> Result<(), AllocError>
     ensures { OnOk result (text.new.items ≡ text.old.items ++ named_told names.now place told) }
 {
     match place {
-        Place::Named(Register::OutputPlug | Register::InputPlug, _) => {
+        RegisterPlace::Named(NamedRegister::OutputPlug | NamedRegister::InputPlug, _) => {
             put_connections(text, told)
         }
-        Place::Named(Register::BusManagerId, _) => put_manager(text, names, told),
+        RegisterPlace::Named(NamedRegister::BusManagerId, _) => put_manager(text, names, told),
         other => put_told(text, pairs, other, told),
     }
 }
@@ -127,11 +127,11 @@ pub(crate) fn put_named_word(
     text: &mut Vec<u8>,
     pairs: &Pairs,
     names: &Names,
-    place: Place,
+    place: RegisterPlace,
     word: u32,
 ) -> Result<(), AllocError>
     ensures { OnOk result (text.new.items ≡ text.old.items ++ named_word names.now place word) }
 {
     put_quadlet(text, pairs, word)?;
-    put_named_told(text, pairs, names, place, Told::Word(word))
+    put_named_told(text, pairs, names, place, RegisterValue::Word(word))
 }

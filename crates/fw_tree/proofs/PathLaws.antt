@@ -2,7 +2,7 @@
 use Rattle.fw_tree.proofs.Common.{◌≡◌, ◌⊎◌, inl, inr, ℕ, ◌<◌, ◌==◌, ◌&&◌, List, [], ◌∷◌, ◌++◌, Option, Some, None, true, arith, refl, sym, ap, subst, ◌∙◌, cases_eq, cases_lt, nat_tests, End, Parent}
 use Rattle.fw_tree.proofs.Common.{Peers, peer, stays, HasParent, AreCables, IsParent, rank}
 use Rattle.fw_tree.specs.Rounds.{IsRoot}
-use Rattle.fw_tree.specs.Paths.{is_front}
+use Rattle.fw_tree.specs.Paths.{is_prefix}
 use Rattle.fw_tree.specs.Numbers.{LeadsDown, at_root, down_to}
 use Rattle.fw_tree.proofs.ForestLaws.{both, first_of, second_of, open_to}
 use Rattle.fw_tree.proofs.RoundLaws.{same_port, same_end, earlier, goes}
@@ -67,27 +67,27 @@ one_device g root v w d e (down_to {k = k} {d = a} u p q r is h split) (down_to 
     same_end (peer g a p) (record { device = d; port = q }) (record { device = e; port = n }) is here_too
 
 -- a prefix of a path leads to a device
-front_snoc : (y k : List ℕ) (p : ℕ) → is_front y (k ++ p ∷ []) ≡ true → (is_front y k ≡ true) ⊎ (y ≡ k ++ p ∷ [])
-front_snoc [] k p h = inl refl
-front_snoc (y ∷ []) [] p h = inr (let e : y ≡ p = grind (arith, nat_tests) in cc)
-front_snoc (y ∷ z ∷ ys) [] p h = absurd (let e : ⊥ = grind (arith, nat_tests) in e)
-front_snoc (y ∷ ys) (x ∷ k) p h = step y x ys k p (front_snoc ys k p) h
+prefix_snoc : (y k : List ℕ) (p : ℕ) → is_prefix y (k ++ p ∷ []) ≡ true → (is_prefix y k ≡ true) ⊎ (y ≡ k ++ p ∷ [])
+prefix_snoc [] k p h = inl refl
+prefix_snoc (y ∷ []) [] p h = inr (let e : y ≡ p = grind (arith, nat_tests) in cc)
+prefix_snoc (y ∷ z ∷ ys) [] p h = absurd (let e : ⊥ = grind (arith, nat_tests) in e)
+prefix_snoc (y ∷ ys) (x ∷ k) p h = step y x ys k p (prefix_snoc ys k p) h
   where
     eq : (y x : ℕ) → (y == x) ≡ true → y ≡ x
     eq y x h = grind (arith, nat_tests)
 
-    step : (y x : ℕ) (ys k : List ℕ) (p : ℕ) → (is_front ys (k ++ p ∷ []) ≡ true → (is_front ys k ≡ true) ⊎ (ys ≡ k ++ p ∷ [])) → ((y == x) && is_front ys (k ++ p ∷ [])) ≡ true
-        → (((y == x) && is_front ys k) ≡ true) ⊎ (y ∷ ys ≡ x ∷ (k ++ p ∷ []))
+    step : (y x : ℕ) (ys k : List ℕ) (p : ℕ) → (is_prefix ys (k ++ p ∷ []) ≡ true → (is_prefix ys k ≡ true) ⊎ (ys ≡ k ++ p ∷ [])) → ((y == x) && is_prefix ys (k ++ p ∷ [])) ≡ true
+        → (((y == x) && is_prefix ys k) ≡ true) ⊎ (y ∷ ys ≡ x ∷ (k ++ p ∷ []))
     step y x ys k p f h =
-        let a = first_of (y == x) (is_front ys (k ++ p ∷ [])) h in
+        let a = first_of (y == x) (is_prefix ys (k ++ p ∷ [])) h in
         let same : y ≡ x = eq y x a in
-        elim (f (second_of (y == x) (is_front ys (k ++ p ∷ [])) h)) [ inl u ↦ inl (both (y == x) (is_front ys k) a u) | inr e ↦ inr (cc) ]
+        elim (f (second_of (y == x) (is_prefix ys (k ++ p ∷ [])) h)) [ inl u ↦ inl (both (y == x) (is_prefix ys k) a u) | inr e ↦ inr (cc) ]
 
-pub front_device : (g : Peers) (root : ℕ) (v y : List ℕ) (d : ℕ) → LeadsDown g root v d → is_front y v ≡ true → (c : ℕ) × LeadsDown g root y c
-front_device g root v [] d at_root h = (root, at_root)
-front_device g root v (x ∷ y) d at_root h = absurd (let e : ⊥ = cc in e)
-front_device g root v y d (down_to {k = k} u p q r is l split) h = elim (front_snoc y k p (rw split at h)) [
-  | inl f ↦ front_device g root k y _ u f
+pub prefix_device : (g : Peers) (root : ℕ) (v y : List ℕ) (d : ℕ) → LeadsDown g root v d → is_prefix y v ≡ true → (c : ℕ) × LeadsDown g root y c
+prefix_device g root v [] d at_root h = (root, at_root)
+prefix_device g root v (x ∷ y) d at_root h = absurd (let e : ⊥ = cc in e)
+prefix_device g root v y d (down_to {k = k} u p q r is l split) h = elim (prefix_snoc y k p (rw split at h)) [
+  | inl f ↦ prefix_device g root k y _ u f
   | inr same ↦ (d, down_to u p q r is l same)
 ]
 

@@ -25,12 +25,12 @@ declared_of facts count g k d p e is = elim (cases_lt d count) [
 ]
 
 -- the first ports say what all say
-pub front_same : (row : List (Option End)) (n p : ℕ) → ((q : ℕ) → n ≤ q → slice_index_or row q None ≡ None) → slice_index_or (take n row) p None ≡ slice_index_or row p None
-front_same [] zero p none = refl
-front_same [] (suc n) p none = refl
-front_same (x ∷ row) zero p none = sym (none p (omega arith))
-front_same (x ∷ row) (suc n) zero none = refl
-front_same (x ∷ row) (suc n) (suc p) none = front_same row n p (λ q h. none (suc q) (omega arith))
+pub prefix_same : (row : List (Option End)) (n p : ℕ) → ((q : ℕ) → n ≤ q → slice_index_or row q None ≡ None) → slice_index_or (take n row) p None ≡ slice_index_or row p None
+prefix_same [] zero p none = refl
+prefix_same [] (suc n) p none = refl
+prefix_same (x ∷ row) zero p none = sym (none p (omega arith))
+prefix_same (x ∷ row) (suc n) zero none = refl
+prefix_same (x ∷ row) (suc n) (suc p) none = prefix_same row n p (λ q h. none (suc q) (omega arith))
 
 open_step : (stays : ℕ → Bool) (o : Option End) (row : List (Option End)) → count_by (is_open stays) (o ∷ row) ≡ cond (is_open stays o) 1 0 + count_by (is_open stays) row
 open_step stays o row = sum_by-cons (λ x. cond (is_open stays x) 1 0) o row
@@ -50,8 +50,8 @@ open_same stays (x ∷ xs) (y ∷ ys) same =
     ∙ sym (open_step stays y ys))
 
 -- a port that the device lacks has no cable
-pub none_behind : (facts : List PhyFacts) (g : Peers) (d p : ℕ) → ArePlaced facts g → (facts_at facts d).ports ≤ p → peer g d p ≡ None
-none_behind facts g d p placed behind = go (peer g d p) refl
+pub none_following : (facts : List PhyFacts) (g : Peers) (d p : ℕ) → ArePlaced facts g → (facts_at facts d).ports ≤ p → peer g d p ≡ None
+none_following facts g d p placed following = go (peer g d p) refl
   where
     go : (o : Option End) → peer g d p ≡ o → peer g d p ≡ None
     go None is = is
@@ -60,7 +60,7 @@ none_behind facts g d p placed behind = go (peer g d p) refl
 -- what stands at the ports that a device has is what stands at all
 pub cables_same : (facts : List PhyFacts) (g : Peers) (d n : ℕ) → ArePlaced facts g → n ≡ (facts_at facts d).ports
     → (p : ℕ) → slice_index_or (take n (slice_index_or g d [])) p None ≡ peer g d p
-cables_same facts g d n placed e p = front_same (slice_index_or g d []) n p (λ q h. none_behind facts g d q placed (omega arith))
+cables_same facts g d n placed e p = prefix_same (slice_index_or g d []) n p (λ q h. none_following facts g d q placed (omega arith))
 
 -- ---- marks
 

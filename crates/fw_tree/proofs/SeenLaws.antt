@@ -47,7 +47,7 @@ only_from n e d h = elim (seen_from (replicate n false) e d h) [ inl none ↦ cc
 pub reached_first : (g : Peers) (a : ℕ) (seen : List Bool) → ((d : ℕ) → IsTrue (is_seen seen d) → d ≡ a) → AllReached g a seen
 reached_first g a seen others d h = let P : ℕ → Type 0 = Walk g a in subst P (sym (others d h)) here
 
--- where nothing is joined to the one device that was seen, all that can be walked to was seen
+-- if nothing is joined to the one device that was seen, all that can be walked to was seen
 pub closed_alone : (g : Peers) (a : ℕ) (old seen : List Bool) → ((d : ℕ) → IsTrue (is_seen old d) → d ≡ a) → seen ≡ old → AreMarked (slice_index_or g a []) seen
     → IsClosed g seen
 closed_alone g a old seen others same marked d p found =

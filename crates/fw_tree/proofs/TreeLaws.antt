@@ -3,14 +3,14 @@ use Rattle.fw_tree.proofs.Common.{replicate, ◌≡◌, inl, inr, ℕ, zero, suc
 use Rattle.fw_tree.proofs.Common.{slice_set, if◌then◌else◌, arith, refl, sym, ap, subst, ◌∙◌, cases_eq, cases_lt, get_or_past, nat_tests, End, Parent, Peers, peer, Walk, InRange, is_seen, here, along}
 use Rattle.fw_tree.proofs.Common.{stays, HasParent, AreCables, HasNoLoop, IsOn, IsParent, Settled, parent_at, rank, counted, number_at, is_there, has_number, AreNodes, Ports, PhyFacts, IsSound}
 use Rattle.fw_tree.specs.Parents.{IsTheRoot}
-use Rattle.fw_tree.specs.Paths.{comes_before, is_left, is_front}
+use Rattle.fw_tree.specs.Paths.{comes_before, is_left, is_prefix}
 use Rattle.fw_tree.specs.Numbers.{LeadsDown, at_root, down_to, IsChild, AreNumbers, AreParents, IsParentPort, shown}
 use Rattle.fw_tree.specs.Branch.{Tree, ArePaths, Done, Branch}
 use Rattle.fw_tree.proofs.TopologyLaws.{ports_within}
 use Rattle.fw_tree.proofs.ForestLaws.{truth, both, open_to}
 use Rattle.fw_tree.proofs.RoundLaws.{in_range, bus_splits, led}
 use Rattle.fw_tree.proofs.RootLaws.{root_no_parent, ended}
-use Rattle.fw_tree.proofs.PathLaws.{one_parent, one_path, one_device, snoc_same, front_device, later}
+use Rattle.fw_tree.proofs.PathLaws.{one_parent, one_path, one_device, snoc_same, prefix_device, later}
 use Rattle.fw_tree.proofs.CountLaws.{counted_same, set_there, set_else, there, nodes_blank, nodes_set}
 use Rattle.fw_tree.proofs.StepLaws.{irreflexive, PortsBelow, down, next, last}
 
@@ -78,9 +78,9 @@ no_way g par root on d p k v c t l (down_to {k = j} {d = b} u m q r is h apart) 
     })
 
 pub no_child : (g : Peers) (par : List (Option Parent)) (root : ℕ) (on : ℕ → Bool) (paths : ℕ → List ℕ) (d p : ℕ) → Tree g par root on → ArePaths g root on paths → on d ≡ true
-    → ((e : ℕ) → IsChild g par d p e → ⊥) → (v : ℕ) → on v ≡ true → is_front (paths d ++ p ∷ []) (paths v) ≡ false
-no_child g par root on paths d p t a i shut v j = elim (truth (is_front (paths d ++ p ∷ []) (paths v))) [
-  | inl front ↦ let w = front_device g root (paths v) (paths d ++ p ∷ []) v (a.lead v j) front in absurd (no_way g par root on d p (paths d) (paths d ++ p ∷ []) w.0 t (a.lead d i) w.1 refl shut)
+    → ((e : ℕ) → IsChild g par d p e → ⊥) → (v : ℕ) → on v ≡ true → is_prefix (paths d ++ p ∷ []) (paths v) ≡ false
+no_child g par root on paths d p t a i shut v j = elim (truth (is_prefix (paths d ++ p ∷ []) (paths v))) [
+  | inl prefix ↦ let w = prefix_device g root (paths v) (paths d ++ p ∷ []) v (a.lead v j) prefix in absurd (no_way g par root on d p (paths d) (paths d ++ p ∷ []) w.0 t (a.lead d i) w.1 refl shut)
   | inr off ↦ off
 ]
 
@@ -112,33 +112,33 @@ done_same on paths f h number e l = record {
     same true b c e = e refl
     same false b c e = refl
 
-left_or_front : (v k : List ℕ) → (v ≡ k → ⊥) → (is_left v k || is_front k v) ≡ comes_before v k
-left_or_front [] [] differ = absurd (differ refl)
-left_or_front [] (y ∷ k) differ = refl
-left_or_front (x ∷ v) [] differ = refl
-left_or_front (x ∷ v) (y ∷ k) differ = step x y (is_left v k) (is_front k v) (comes_before v k) (λ e. left_or_front v k (λ s. differ (cc)))
+left_or_prefix : (v k : List ℕ) → (v ≡ k → ⊥) → (is_left v k || is_prefix k v) ≡ comes_before v k
+left_or_prefix [] [] differ = absurd (differ refl)
+left_or_prefix [] (y ∷ k) differ = refl
+left_or_prefix (x ∷ v) [] differ = refl
+left_or_prefix (x ∷ v) (y ∷ k) differ = step x y (is_left v k) (is_prefix k v) (comes_before v k) (λ e. left_or_prefix v k (λ s. differ (cc)))
   where
     step : (x y : ℕ) (a b c : Bool) → (x ≡ y → (a || b) ≡ c) → ((if x == y then a else nat_lt x y) || ((y == x) && b)) ≡ (if x == y then c else nat_lt x y)
     step x y a b c e = grind (arith, nat_tests)
 
-front_self : (k : List ℕ) → is_front k k ≡ true
-front_self [] = refl
-front_self (x ∷ k) = let e = front_self k in grind (arith, nat_tests)
+prefix_self : (k : List ℕ) → is_prefix k k ≡ true
+prefix_self [] = refl
+prefix_self (x ∷ k) = let e = prefix_self k in grind (arith, nat_tests)
 
 -- the loop over the ports of a device, at its first port, at the next ones, and after the last
 pub done_first : (on : ℕ → Bool) (paths : ℕ → List ℕ) (k : List ℕ) (number : List (Option ℕ)) → Done on paths (λ v. is_left (paths v) k) number
     → Done on paths (λ v. is_left (paths v) (k ++ 0 ∷ [])) number
 done_first on paths k number l = done_same on paths (λ v. is_left (paths v) k) (λ v. is_left (paths v) (k ++ 0 ∷ [])) number (λ v i. sym (down (paths v) k)) l
 
-pub done_child : (on : ℕ → Bool) (paths : ℕ → List ℕ) (k c : List ℕ) (p : ℕ) (number : List (Option ℕ)) → c ≡ k ++ p ∷ [] → Done on paths (λ v. is_left (paths v) c || is_front c (paths v)) number
+pub done_child : (on : ℕ → Bool) (paths : ℕ → List ℕ) (k c : List ℕ) (p : ℕ) (number : List (Option ℕ)) → c ≡ k ++ p ∷ [] → Done on paths (λ v. is_left (paths v) c || is_prefix c (paths v)) number
     → Done on paths (λ v. is_left (paths v) (k ++ (p + 1) ∷ [])) number
-done_child on paths k c p number e l = done_same on paths (λ v. is_left (paths v) c || is_front c (paths v)) (λ v. is_left (paths v) (k ++ (p + 1) ∷ [])) number
+done_child on paths k c p number e l = done_same on paths (λ v. is_left (paths v) c || is_prefix c (paths v)) (λ v. is_left (paths v) (k ++ (p + 1) ∷ [])) number
     (λ v i. rw e (sym (next (paths v) k p))) l
 
-pub done_none : (on : ℕ → Bool) (paths : ℕ → List ℕ) (k : List ℕ) (p : ℕ) (number : List (Option ℕ)) → ((v : ℕ) → on v ≡ true → is_front (k ++ p ∷ []) (paths v) ≡ false)
+pub done_none : (on : ℕ → Bool) (paths : ℕ → List ℕ) (k : List ℕ) (p : ℕ) (number : List (Option ℕ)) → ((v : ℕ) → on v ≡ true → is_prefix (k ++ p ∷ []) (paths v) ≡ false)
     → Done on paths (λ v. is_left (paths v) (k ++ p ∷ [])) number → Done on paths (λ v. is_left (paths v) (k ++ (p + 1) ∷ [])) number
 done_none on paths k p number shut l = done_same on paths (λ v. is_left (paths v) (k ++ p ∷ [])) (λ v. is_left (paths v) (k ++ (p + 1) ∷ [])) number
-    (λ v i. or_not (is_left (paths v) (k ++ p ∷ [])) (is_front (k ++ p ∷ []) (paths v)) (shut v i) ∙ sym (next (paths v) k p)) l
+    (λ v i. or_not (is_left (paths v) (k ++ p ∷ [])) (is_prefix (k ++ p ∷ []) (paths v)) (shut v i) ∙ sym (next (paths v) k p)) l
   where
     or_not : (a b : Bool) → b ≡ false → a ≡ (a || b)
     or_not true b e = refl
@@ -151,10 +151,10 @@ done_last g root on paths k number range cables a l = done_same on paths (λ v. 
 
 -- what is numbered once a device is, among which it is the last
 abbrev Upto : List ℕ → List ℕ → Bool
-Upto k v = is_left v k || is_front k v
+Upto k v = is_left v k || is_prefix k v
 
 upto_self : (k v : List ℕ) → v ≡ k → Upto k v ≡ true
-upto_self k v e = rw e (or_true (is_left k k) (is_front k k) (front_self k))
+upto_self k v e = rw e (or_true (is_left k k) (is_prefix k k) (prefix_self k))
   where
     or_true : (a b : Bool) → b ≡ true → (a || b) ≡ true
     or_true true b h = refl
@@ -187,7 +187,7 @@ no_part false b h = refl
 -- the device itself
 pub done_number : (g : Peers) (root : ℕ) (on : ℕ → Bool) (paths : ℕ → List ℕ) (d n : ℕ) (number : List (Option ℕ)) → ArePaths g root on paths → on d ≡ true → d < length number → d < 63
     → Done on paths (λ v. comes_before (paths v) (paths d)) number → n ≡ counted (has_number number) 63
-    → Done on paths (λ v. is_left (paths v) (paths d) || is_front (paths d) (paths v)) (slice_set number d (Some n))
+    → Done on paths (λ v. is_left (paths v) (paths d) || is_prefix (paths d) (paths v)) (slice_set number d (Some n))
 done_number g root on paths d n number a i size low l e =
     let count : n ≡ counted (λ e. on e && comes_before (paths e) (paths d)) 63 = e ∙ counted_same (has_number number) (λ e. on e && comes_before (paths e) (paths d)) 63 (λ k h. l.has k) in
     record {
@@ -197,7 +197,7 @@ done_number g root on paths d n number a i size low l e =
     }
   where
     upto : (v : ℕ) → on v ≡ true → (v ≡ d → ⊥) → Upto (paths d) (paths v) ≡ comes_before (paths v) (paths d)
-    upto v j differ = left_or_front (paths v) (paths d) (λ s. differ (one_device g root (paths v) (paths d) v d (a.lead v j) (a.lead d i) s))
+    upto v j differ = left_or_prefix (paths v) (paths d) (λ s. differ (one_device g root (paths v) (paths d) v d (a.lead v j) (a.lead d i) s))
 
 -- the loop over the ports
 pub ports_first : (g : Peers) (par : List (Option Parent)) (root : ℕ) (on : ℕ → Bool) (paths : ℕ → List ℕ) (d : ℕ) (number : List (Option ℕ)) → Ports g par root on paths d 0 number number
@@ -294,7 +294,7 @@ numbers_of g par root on old now t bus top blank branch = given (λ d. (choose g
           place = λ v i s. absurd (let e = no_left (paths v) (paths root) empty in let z : ⊥ = cc in z);
           nodes = nodes_blank old blank;
         } in
-        let end : Done (is_seen on) paths (λ v. is_left (paths v) (paths root) || is_front (paths root) (paths v)) now = branch paths t a on_root start in
+        let end : Done (is_seen on) paths (λ v. is_left (paths v) (paths root) || is_prefix (paths root) (paths v)) now = branch paths t a on_root start in
         let all : (v : ℕ) → has_number now v ≡ is_seen on v = λ v. end.has v ∙ all_done (is_seen on v) (Upto (paths root) (paths v)) (all_upto (paths v) (paths root) empty) in
         record {
           numbers = record {

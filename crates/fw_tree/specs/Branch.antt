@@ -5,7 +5,7 @@ use Rattle.fw_tree.specs.Cables.{Peers, InRange}
 use Rattle.fw_tree.specs.Rounds.{IsRoot}
 use Rattle.fw_tree.specs.Forest.{AreCables, Splits}
 use Rattle.fw_tree.specs.Parents.{IsParent, parent_at}
-use Rattle.fw_tree.specs.Paths.{comes_before, is_left, is_front}
+use Rattle.fw_tree.specs.Paths.{comes_before, is_left, is_prefix}
 use Rattle.fw_tree.specs.Numbers.{LeadsDown, AreNodes, counted, number_at, has_number}
 
 -- the tree of the bus
@@ -31,7 +31,7 @@ pub record Done (on : ℕ → Bool) (paths : ℕ → List ℕ) (f : ℕ → Bool
 -- if all left of the device had its number, the device and its branch have theirs too
 abbrev pub Branch : Peers → List (Option Parent) → ℕ → (ℕ → Bool) → (ℕ → List ℕ) → ℕ → List (Option ℕ) → List (Option ℕ) → Type 0
 Branch g par root on paths d old now = Tree g par root on → ArePaths g root on paths → on d ≡ true → Done on paths (λ v. is_left (paths v) (paths d)) old
-    → Done on paths (λ v. is_left (paths v) (paths d) || is_front (paths d) (paths v)) now
+    → Done on paths (λ v. is_left (paths v) (paths d) || is_prefix (paths d) (paths v)) now
 
 -- the same as far as a port of the device
 abbrev pub Ports : Peers → List (Option Parent) → ℕ → (ℕ → Bool) → (ℕ → List ℕ) → ℕ → ℕ → List (Option ℕ) → List (Option ℕ) → Type 0

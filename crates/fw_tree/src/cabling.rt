@@ -84,7 +84,7 @@ impl Cabling {
         ports_at(&self.facts, self.count, device)
     }
 
-    /// The other end of the cable at a port. None if no cable is, and where there is no such port.
+    /// The other end of the cable at a port. None if there is no cable, or no such port.
     pub fn peer(&self, end: End) -> Option<End>
         ensures { result ≡ peer self.now.cables end.device end.port }
     {
@@ -182,7 +182,7 @@ impl Cabling {
         ensures fit { All Fits out.new }
     {
         let devices = devices_of(&n.number, n.count);
-        *out = SelfIds::new();
+        out.clear();
         for node in 0..n.count {
             let device = devices[node as usize];
             push_node(

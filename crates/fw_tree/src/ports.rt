@@ -52,7 +52,7 @@ pub fn cables_of<'a>(g: &'a AllCables, facts: &[PhyFacts; 63], d: usize) -> &'a 
     }
 }
 
-/// The far end of the cable at a port. None if no cable is, and where there is no such port.
+/// The far end of the cable at a port. None if there is no cable, or no such port.
 pub fn peer_at(g: &AllCables, e: End) -> Option<End>
     ensures { result ≡ peer g.now e.device e.port }
 {

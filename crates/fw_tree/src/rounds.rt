@@ -82,7 +82,7 @@ fn has_left(before: &[bool; 63], after: &[bool; 63], other: usize, d: usize) -> 
     other < d && before[other] && !after[other]
 }
 
-// Lets a device leave where it has one open cable, and says whether it left. Then the one at that cable may leave in the next
+// Lets a device leave if it has one open cable, and says whether it left. Then the one at that cable may leave in the next
 // round. Those before it have left already, so that they need not be asked again.
 fn leave_one(
     g: &AllCables,

@@ -6,15 +6,15 @@ use Rattle.fw_log_entry.specs.declared.entry.Entry.{Entry}
 use Rattle.fw_watch_known.specs.declared.hear.Packet.{Packet}
 use Rattle.fw_watch_known.specs.declared.state.State.{State}
 use Rattle.fw_async.specs.declared.packet.Packet.{Packet as AsyncPacket}
-use Rattle.fw_watch_known.specs.declared.asked.Answer.{Answer}
-use Rattle.fw_watch_known.specs.declared.asked.Asked.{Asked}
-use Rattle.fw_watch_known.specs.Standing.{answer_of, standing_behind}
+use Rattle.fw_watch_requests.specs.declared.asked.Answer.{Answer}
+use Rattle.fw_watch_requests.specs.declared.asked.Asked.{Asked}
+use Rattle.fw_watch_requests.specs.Standing.{answer_of, standing_following}
 use Rattle.fw_watch.specs.Answering.{answered_remarks, after_answered, with_packet, packet_remarks, after_packet}
 use Rattle.fw_watch_known.specs.declared.hear.Heard.{Heard}
 use Rattle.fw_watch_known.specs.Heard.{is_usual, heard}
 use Rattle.fw_watch_known.specs.States.{reset_state}
 use Rattle.fw_watch_known.proofs.UsualLaws.{usual_row, usual_heard}
-use Rattle.fw_watch_remarks.specs.Remarks.{Told, told}
+use Rattle.fw_watch_remarks.specs.Remarks.{WatchOutput, told}
 use Rattle.fw_watch.specs.Hearing.{start_remarks, two_remarks, free_remarks, owners_remarks, wrong_remarks, heard_remarks}
 use Rattle.fw_watch.specs.Holding.{held_remarks}
 use Rattle.fw_watch.specs.Steps.{IsBusOf, at_cycle, reset_remarks, what_remarks, after_what, ticked, remarks, after}
@@ -27,24 +27,24 @@ usual_silent s p h =
     ap (λ (o : Option ℕ). start_remarks o p ++ wrong_remarks (heard s p) p) (usual_row s p h).sender ∙ ap (λ (x : Heard). wrong_remarks x p) (usual_heard s p h)
 
 -- what a packet tells that is an answer, and what is known after it
-pub answer_lines : (s : State) (standing : List Asked) (o : Option Answer) (p : AsyncPacket) (cycle : ℕ) → o ≡ answer_of s.standing p → standing ≡ standing_behind p s.standing
+pub answer_lines : (s : State) (standing : List Asked) (o : Option Answer) (p : AsyncPacket) (cycle : ℕ) → o ≡ answer_of s.standing p → standing ≡ standing_following p s.standing
     → answered_remarks o cycle (record s { standing = standing }) ≡ packet_remarks cycle p s
 unfolding packet_remarks
 answer_lines s standing o p cycle e f =
     ap (λ (l : List Asked). answered_remarks o cycle (record s { standing = l })) f ∙ ap (λ (a : Option Answer). answered_remarks a cycle (with_packet p s)) e
 
-pub answer_known : (s : State) (standing : List Asked) (o : Option Answer) (p : AsyncPacket) (cycle : ℕ) → o ≡ answer_of s.standing p → standing ≡ standing_behind p s.standing
+pub answer_known : (s : State) (standing : List Asked) (o : Option Answer) (p : AsyncPacket) (cycle : ℕ) → o ≡ answer_of s.standing p → standing ≡ standing_following p s.standing
     → after_answered o cycle (record s { standing = standing }) ≡ after_packet cycle p s
 unfolding after_packet
 answer_known s standing o p cycle e f =
     ap (λ (l : List Asked). after_answered o cycle (record s { standing = l })) f ∙ ap (λ (a : Option Answer). after_answered a cycle (with_packet p s)) e
 
 -- an entry tells what it records after the time has told its part
-pub entry_lines : (s ticks : State) (old mid new : Told) (cycle : ℕ) (what : Entry) → mid ≡ told old (held_remarks 64 cycle s) → ticks ≡ ticked cycle s
+pub entry_lines : (s ticks : State) (old mid new : WatchOutput) (cycle : ℕ) (what : Entry) → mid ≡ told old (held_remarks 64 cycle s) → ticks ≡ ticked cycle s
     → new ≡ told mid (what_remarks cycle what ticks) → new ≡ told old (remarks s (at_cycle cycle what))
 unfolding remarks
 entry_lines s ticks old mid new cycle what e f g =
-    g ∙ ap (λ (j : Told). told j (what_remarks cycle what ticks)) e ∙ ap (λ (x : State). told (told old (held_remarks 64 cycle s)) (what_remarks cycle what x)) f
+    g ∙ ap (λ (j : WatchOutput). told j (what_remarks cycle what ticks)) e ∙ ap (λ (x : State). told (told old (held_remarks 64 cycle s)) (what_remarks cycle what x)) f
     ∙ sym (told_more old (held_remarks 64 cycle s) (what_remarks cycle what (ticked cycle s)))
 
 pub entry_known : (s ticks new : State) (cycle : ℕ) (what : Entry) → ticks ≡ ticked cycle s → new ≡ after_what cycle what ticks → new ≡ after s (at_cycle cycle what)

@@ -2,14 +2,14 @@
 use Rattle.std.proofs.Common.{◌≡◌, refl, ap, sym, ◌∙◌, ℕ, List, [], ◌∷◌, ◌++◌, append_assoc}
 use Rattle.std.proofs.lemmas.List.{append-nil}
 use Rattle.fw_log_entry.specs.declared.entry.Timed.{Timed}
-use Rattle.fw_watch_remarks.specs.Remarks.{Said, Told, told, line, with_line}
+use Rattle.fw_watch_remarks.specs.Remarks.{Said, WatchOutput, told, line, with_line}
 use Rattle.fw_watch_known.specs.declared.state.State.{State}
 use Rattle.fw_watch_known.specs.States.{no_state}
 use Rattle.fw_watch.specs.Steps.{remarks, after}
 use Rattle.fw_watch.specs.Watched.{known_from, known, remarks_from, lines, watched}
 
 -- more lines after others
-pub told_more : (t : Told) (xs ys : List Said) → told t (xs ++ ys) ≡ told (told t xs) ys
+pub told_more : (t : WatchOutput) (xs ys : List Said) → told t (xs ++ ys) ≡ told (told t xs) ys
 told_more t [] ys = refl
 told_more t (x ∷ xs) ys = told_more (with_line t x) xs ys
 
@@ -35,7 +35,7 @@ watched_more before more rest =
     ∙ ap (λ (s : State). lines (remarks_from (known before) more) ++ lines (remarks_from s rest)) (sym (known_from_more no_state before more))
 
 -- the text that is told is that of the lines
-pub told_text : (t : Told) (xs : List Said) → (told t xs).text ≡ t.text ++ lines xs
+pub told_text : (t : WatchOutput) (xs : List Said) → (told t xs).text ≡ t.text ++ lines xs
 unfolding with_line
 told_text t [] = sym (append-nil t.text)
 told_text t (x ∷ xs) = told_text (with_line t x) xs ∙ append_assoc t.text (line x) (lines xs)

@@ -7,10 +7,10 @@ use Rattle.fw_watch_remarks.specs.declared.remark.Remark.TheVariants.{NotManager
 use Rattle.fw_watch_remarks.specs.Registers.{is_managed}
 use Rattle.fw_watch_remarks.specs.Knowing.{nothing_known}
 use Rattle.fw_watch_remarks.specs.Remarks.{Said, said}
-use Rattle.fw_watch_known.specs.declared.asked.Answer.{Answer}
+use Rattle.fw_watch_requests.specs.declared.asked.Answer.{Answer}
 use Rattle.fw_watch_known.specs.declared.state.State.{State}
 use Rattle.fw_watch_known.specs.declared.swap.Made.{Made}
-use Rattle.fw_watch_known.specs.Standing.{answer_of, standing_behind}
+use Rattle.fw_watch_requests.specs.Standing.{answer_of, standing_following}
 use Rattle.fw_watch_known.specs.States.{manager_by, manager_node, is_manager, with_known}
 use Rattle.fw_watch_known.specs.Judging.{judged}
 use Rattle.fw_watch_known.specs.Swapped.{swapped}
@@ -108,9 +108,9 @@ abbrev pub after_answered : Option Answer → ℕ → State → State
 after_answered None cycle s = s
 after_answered (Some a) cycle s = after_answer cycle a s
 
--- the requests that stand after a packet
+-- the outstanding requests after a packet
 abbrev pub with_packet : Packet → State → State
-with_packet p s = record s { standing = standing_behind p s.standing }
+with_packet p s = record s { standing = standing_following p s.standing }
 
 -- a packet
 unfoldable pub packet_remarks : ℕ → Packet → State → List Said

@@ -1,6 +1,6 @@
 -- Channels that nobody has used in the second since they were taken.
 use Rattle.std.specs.Prelude.{ℕ, zero, suc, ◌+◌, List, [], ◌∷◌, ◌++◌, slice_set, Option, Some, None}
-use Rattle.fw_watch_remarks.specs.declared.remark.Remark.TheVariants.{Held}
+use Rattle.fw_watch_remarks.specs.declared.remark.Remark.TheVariants.{UnusedChannel}
 use Rattle.fw_watch_remarks.specs.Remarks.{Said, said}
 use Rattle.fw_watch_known.specs.declared.channels.Late.{Late}
 use Rattle.fw_watch_known.specs.declared.state.State.{State}
@@ -9,7 +9,7 @@ use Rattle.fw_watch_known.specs.Channels.{undue, channel_at, late_to}
 -- a channel that is late, in the cycle in which it became that
 abbrev pub late_remarks : Option Late → List Said
 late_remarks None = []
-late_remarks (Some late) = said (late.due.since + 8000) (Held late.due.holder late.channel) ∷ []
+late_remarks (Some late) = said (late.due.since + 8000) (UnusedChannel late.due.holder late.channel) ∷ []
 
 -- it was told, and will not be again
 abbrev pub after_late : Option Late → State → State

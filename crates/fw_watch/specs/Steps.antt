@@ -9,7 +9,7 @@ use Rattle.fw_log_entry.specs.declared.entry.ShownEntry.{ShownEntry}
 use Rattle.fw_log_entry.specs.declared.entry.Entry.{Entry}
 use Rattle.fw_log_entry.specs.declared.entry.Entry.TheVariants.{Reset as ResetOf, Async, Iso, Event, Outcome, Shown, End}
 use Rattle.fw_log_entry.specs.declared.entry.Timed.{Timed}
-use Rattle.fw_watch_remarks.specs.declared.register.Register.{Register}
+use Rattle.fw_watch_remarks.specs.declared.register.WatchedRegister.{WatchedRegister}
 use Rattle.fw_watch_remarks.specs.declared.register.At.{At}
 use Rattle.fw_watch_remarks.specs.declared.remark.Remark.TheVariants.{Reset}
 use Rattle.fw_watch_remarks.specs.Registers.{register_at, is_managed}
@@ -41,7 +41,7 @@ after_event e s =
     else if e.code == Events.DIED then after_death e.device s else s
 
 -- a register of a node, but of the resource manager's at that alone
-abbrev pub shown_at_node : State → Option ℕ → Option Register → Option At
+abbrev pub shown_at_node : State → Option ℕ → Option WatchedRegister → Option At
 shown_at_node s None register = None
 shown_at_node s (Some node) None = None
 shown_at_node s (Some node) (Some register) =

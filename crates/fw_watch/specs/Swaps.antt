@@ -1,8 +1,8 @@
 -- Swaps that were made and changed something: what they change, and what they tell.
 use Rattle.std.specs.Prelude.{ℕ, zero, suc, ◌+◌, ◌-◌, ◌==◌, ◌&&◌, not, nat_lt, Bool, true, false, List, [], ◌∷◌, ◌++◌, Option, Some, None, unwrap_or, if◌then◌else◌}
 use Rattle.fw_words.specs.Quadlet.{field}
-use Rattle.fw_watch_remarks.specs.declared.register.Register.{Register}
-use Rattle.fw_watch_remarks.specs.declared.register.Register.TheVariants.{Bandwidth, ChannelsHigh, ChannelsLow, Output, Input}
+use Rattle.fw_watch_remarks.specs.declared.register.WatchedRegister.{WatchedRegister}
+use Rattle.fw_watch_remarks.specs.declared.register.WatchedRegister.TheVariants.{Bandwidth, ChannelsHigh, ChannelsLow, Output, Input}
 use Rattle.fw_watch_known.specs.declared.second.Before.{Before}
 use Rattle.fw_watch_known.specs.declared.second.Before.TheVariants.{Nothing, Dark, Words}
 use Rattle.fw_watch_known.specs.declared.second.Second.{Second}
@@ -30,17 +30,17 @@ moves_one old new = if same_bits old new 1 1 then are_next (field old 2 7) (fiel
 
 -- the first bit after the counters that a move keeps: bit 8, but if the plug was or is not connected, an iPCR may have another channel (to bit 15),
 -- and an oPCR another channel, rate and overhead (to bit 21)
-unfoldable pub first_kept : Register → ℕ → ℕ → ℕ
+unfoldable pub first_kept : WatchedRegister → ℕ → ℕ → ℕ
 first_kept register old new = if is_connected old && is_connected new then 8 else if is_output register then 22 else 16
 
 -- the swap makes or breaks one connection, and changes nothing else
-unfoldable pub is_move : Register → ℕ → ℕ → Bool
+unfoldable pub is_move : WatchedRegister → ℕ → ℕ → Bool
 is_move register old new = moves_one old new && same_bits old new 0 0 && same_bits old new (first_kept register old new) 31
 
 -- ---- the second after a bus reset
 
 -- the channel at a bit of a half was known to be free before the second; channel 31 is nobody's business
-abbrev pub is_new : Before → Register → ℕ → Bool
+abbrev pub is_new : Before → WatchedRegister → ℕ → Bool
 is_new (Words words) ChannelsHigh at = not (at == 31) && is_known_set words.high at
 is_new (Words words) ChannelsLow at = is_known_set words.low at
 is_new (Words words) Bandwidth at = false
@@ -130,7 +130,7 @@ plug_remarks m =
     ∷ (if is_move m.at.register m.old m.new then [] else said m.cycle (MoreThanMove m.by m.at m.old m.new) ∷ [])
 
 -- a swap, by its register
-abbrev pub remarks_by : Register → State → Made → List Said
+abbrev pub remarks_by : WatchedRegister → State → Made → List Said
 remarks_by Bandwidth s m = units_remarks s m
 remarks_by ChannelsHigh s m = channels_remarks s m 0
 remarks_by ChannelsLow s m = channels_remarks s m 32

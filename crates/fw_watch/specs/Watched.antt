@@ -1,7 +1,7 @@
 -- What a log tells: the remarks of its entries, a line each, and at its end how much was judged.
 use Rattle.std.specs.Prelude.{◌≡◌, ℕ, List, [], ◌∷◌, ◌++◌, codes, decimal}
 use Rattle.fw_log_entry.specs.declared.entry.Timed.{Timed}
-use Rattle.fw_watch_remarks.specs.Remarks.{Said, Told, told, line}
+use Rattle.fw_watch_remarks.specs.Remarks.{Said, WatchOutput, told, line}
 use Rattle.fw_watch_known.specs.declared.counts.Counts.{Counts}
 use Rattle.fw_watch_known.specs.declared.state.State.{State}
 use Rattle.fw_watch_known.specs.States.{no_state}
@@ -63,11 +63,11 @@ unfoldable pub watched_end : List Timed → List ℕ
 watched_end entries = summary (known entries).counts (findings_from 0 (all_remarks entries))
 
 -- what a watch holds: what it told, and what it knows
-pub record Room : Type 0 where
-  pub told : Told
+pub record WatchState : Type 0 where
+  pub told : WatchOutput
   pub state : State
 
 -- it took these entries
-pub record Watches (w : Room) (entries : List Timed) : Type 0 where
+pub record Watches (w : WatchState) (entries : List Timed) : Type 0 where
   pub known : w.state ≡ known entries
   pub findings : w.told.findings ≡ findings_from 0 (all_remarks entries)

@@ -18,7 +18,7 @@ fn tell_late(state: &mut State, journal: &mut Journal, cycle: u64) -> Result<boo
     let Some(late) = state.channels.late(cycle) else {
         return Ok(false);
     };
-    let remark = Remark::Held {
+    let remark = Remark::UnusedChannel {
         node: late.due.holder,
         channel: late.channel,
     };

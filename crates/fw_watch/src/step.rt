@@ -19,7 +19,7 @@ use fw_csr::offset::REGISTER_SPACE;
 use fw_log_entry::codes::event;
 use fw_log_entry::{Entry, EventEntry, ResetEntry, ShownEntry, Timed};
 use fw_watch_known::{Packet, State};
-use fw_watch_remarks::{At, Journal, Register, Remark};
+use fw_watch_remarks::{At, Journal, Remark, WatchedRegister};
 use std::alloc::AllocError;
 
 // Takes a bus reset.
@@ -61,7 +61,7 @@ fn shown_at(state: &State, s: &ShownEntry) -> Option<At>
     ensures { result ≡ shown_at state.now s.now }
 {
     let node = state.node_of_device(s.device)?;
-    let register = Register::at(REGISTER_SPACE + u64::from(s.offset))?;
+    let register = WatchedRegister::at(REGISTER_SPACE + u64::from(s.offset))?;
     if register.is_managed() && !state.manager.is(node) {
         None
     } else {
@@ -133,7 +133,11 @@ fn tick(state: &mut State, journal: &mut Journal, cycle: u64) -> Result<(), Allo
 
 /// Takes an entry, and tells what it shows.
 #[tactic(auto, using(crate::proofs::WatchLaws::told_more), unfolding(crate::specs::Steps::remarks, crate::specs::Steps::after, crate::specs::Steps::ticked))]
-pub(crate) fn step(state: &mut State, journal: &mut Journal, t: &Timed) -> Result<(), AllocError>
+pub(crate) fn follow_entry(
+    state: &mut State,
+    journal: &mut Journal,
+    t: &Timed,
+) -> Result<(), AllocError>
     ensures lines { OnOk result (journal.new ≡ told journal.old (remarks state.old t.now)) }
     ensures known { OnOk result (state.new ≡ after state.old t.now) }
 {

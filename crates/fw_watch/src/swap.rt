@@ -5,7 +5,7 @@ ghost use Rattle.fw_watch_remarks.specs.Knowing.{bit_of};
 ghost use Rattle.fw_watch.specs.Swaps.{same_bits, moves_one, first_kept, is_move, next_count, changes_to, is_new, units_held};
 
 use fw_watch_known::{Before, Second};
-use fw_watch_remarks::{Register, bit, is_connected};
+use fw_watch_remarks::{WatchedRegister, bit, is_connected};
 use fw_words::Quadlet;
 
 /// All units that a bus has (IEEE 1394-1995, BANDWIDTH_AVAILABLE).
@@ -37,7 +37,7 @@ fn moves_one(old: u32, new: u32) -> bool
 // The first bit after the counters that a move keeps: if the plug was or is not connected, it may have another channel, and an
 // output plug another rate and overhead.
 #[tactic(auto, unfolding(crate::specs::Swaps::first_kept))]
-fn first_kept(register: Register, old: u32, new: u32) -> u8
+fn first_kept(register: WatchedRegister, old: u32, new: u32) -> u8
     ensures value { result ≡ first_kept register old new }
     ensures within { result ≤ 31 }
 {
@@ -52,7 +52,7 @@ fn first_kept(register: Register, old: u32, new: u32) -> u8
 
 // The swap of a plug makes or breaks one connection, and changes nothing else.
 #[tactic(auto, unfolding(crate::specs::Swaps::is_move))]
-pub(crate) fn is_move(register: Register, old: u32, new: u32) -> bool
+pub(crate) fn is_move(register: WatchedRegister, old: u32, new: u32) -> bool
     ensures { result ≡ is_move register old new }
 {
     moves_one(old, new)
@@ -61,13 +61,13 @@ pub(crate) fn is_move(register: Register, old: u32, new: u32) -> bool
 }
 
 // A channel was known to be free before the second, by its bit of a half.
-pub(crate) fn is_new(second: &Second, register: Register, at: u8) -> bool
+pub(crate) fn is_new(second: &Second, register: WatchedRegister, at: u8) -> bool
     requires { at < 32 }
     ensures { result ≡ is_new second.now.before register at }
 {
     match (second.before, register) {
-        (Before::Words(words), Register::ChannelsHigh) => at != 31 && words.high.is_set(at),
-        (Before::Words(words), Register::ChannelsLow) => words.low.is_set(at),
+        (Before::Words(words), WatchedRegister::ChannelsHigh) => at != 31 && words.high.is_set(at),
+        (Before::Words(words), WatchedRegister::ChannelsLow) => words.low.is_set(at),
         _ => false,
     }
 }

@@ -6,7 +6,7 @@ ghost use Rattle.fw_watch.specs.Swaps.{many_remarks, new_units_remarks, units_re
 
 use crate::swap::{ALL_UNITS, changes, is_move, is_new, units_held};
 use fw_watch_known::{Made, State, only_change};
-use fw_watch_remarks::{Journal, Register, Remark, bit};
+use fw_watch_remarks::{Journal, Remark, WatchedRegister, bit};
 use std::alloc::AllocError;
 
 // Tells a swap that leaves more units than there are.
@@ -184,9 +184,9 @@ pub(crate) fn tell_swap(state: &State, journal: &mut Journal, m: &Made) -> Resul
     ensures { OnOk result (journal.new ≡ told journal.old (swap_remarks state.now m.now)) }
 {
     match m.at.register {
-        Register::Bandwidth => tell_units(state, journal, m),
-        Register::ChannelsHigh => tell_channels(state, journal, m, 0),
-        Register::ChannelsLow => tell_channels(state, journal, m, 32),
-        Register::Output(_) | Register::Input(_) => tell_plug(journal, m),
+        WatchedRegister::Bandwidth => tell_units(state, journal, m),
+        WatchedRegister::ChannelsHigh => tell_channels(state, journal, m, 0),
+        WatchedRegister::ChannelsLow => tell_channels(state, journal, m, 32),
+        WatchedRegister::Output(_) | WatchedRegister::Input(_) => tell_plug(journal, m),
     }
 }

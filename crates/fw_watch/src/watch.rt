@@ -9,7 +9,7 @@ ghost use Rattle.fw_log_entry.specs.declared.entry.ResetEntry.{ResetEntry as ARe
 ghost use Rattle.fw_watch.specs.Steps.{at_cycle, IsBusOf};
 ghost use Rattle.fw_watch.specs.Watched.{Watches, watched, watched_end, resets_text, unseen_text, judged_text, last_text};
 
-use crate::step::{step, step_iso, step_packet, step_reset};
+use crate::step::{follow_entry, step_iso, step_packet, step_reset};
 use fw_cip::IsoPacket;
 use fw_log_entry::{ResetEntry, Timed};
 use fw_watch_known::{Counts, State};
@@ -26,9 +26,9 @@ pub struct Watch {
 }
 
 impl Model for Watch {
-    ghost use Rattle.fw_watch.specs.Watched.{Room};
+    ghost use Rattle.fw_watch.specs.Watched.{WatchState};
 
-    ghost Value = { Room };
+    ghost Value = { WatchState };
 
     ghost view = { λ w. record { told = w.journal; state = w.state.value } };
 }
@@ -100,9 +100,9 @@ impl Watch {
     /// else.
     pub fn put(&mut self, t: &Timed) -> Result<(), AllocError>
         ensures lines { (before : List Timed) → Watches self.old before → OnOk result (self.new.told.text ≡ self.old.told.text ++ watched before (t.now ∷ [])) }
-        ensures behind { (before : List Timed) → Watches self.old before → OnOk result (Watches self.new (before ++ t.now ∷ [])) }
+        ensures following { (before : List Timed) → Watches self.old before → OnOk result (Watches self.new (before ++ t.now ∷ [])) }
     {
-        step(&mut self.state, &mut self.journal, t)
+        follow_entry(&mut self.state, &mut self.journal, t)
     }
 
     /// As `put`, of an asynchronous packet, from its bytes.
@@ -111,7 +111,7 @@ impl Watch {
         requires { IsPacket bytes.now }
         ensures lines { (p : AsyncPacket) → Spells p bytes.now → (before : List Timed) → Watches self.old before
             → OnOk result (self.new.told.text ≡ self.old.told.text ++ watched before (at_cycle cycle (Async p) ∷ [])) }
-        ensures behind { (p : AsyncPacket) → Spells p bytes.now → (before : List Timed) → Watches self.old before
+        ensures following { (p : AsyncPacket) → Spells p bytes.now → (before : List Timed) → Watches self.old before
             → OnOk result (Watches self.new (before ++ at_cycle cycle (Async p) ∷ [])) }
     {
         step_packet(&mut self.state, &mut self.journal, cycle, bytes)
@@ -122,7 +122,7 @@ impl Watch {
     pub fn put_iso(&mut self, cycle: u64, p: &IsoPacket) -> Result<(), AllocError>
         ensures lines { (before : List Timed) → Watches self.old before
             → OnOk result (self.new.told.text ≡ self.old.told.text ++ watched before (at_cycle cycle (Iso p.now) ∷ [])) }
-        ensures behind { (before : List Timed) → Watches self.old before → OnOk result (Watches self.new (before ++ at_cycle cycle (Iso p.now) ∷ [])) }
+        ensures following { (before : List Timed) → Watches self.old before → OnOk result (Watches self.new (before ++ at_cycle cycle (Iso p.now) ∷ [])) }
     {
         step_iso(&mut self.state, &mut self.journal, cycle, p)
     }
@@ -131,7 +131,7 @@ impl Watch {
     pub fn put_reset(&mut self, cycle: u64, r: &ResetEntry) -> Result<(), AllocError>
         ensures lines { (whole : AReset) → IsBusOf whole r.now → (before : List Timed) → Watches self.old before
             → OnOk result (self.new.told.text ≡ self.old.told.text ++ watched before (at_cycle cycle (ResetOf whole) ∷ [])) }
-        ensures behind { (whole : AReset) → IsBusOf whole r.now → (before : List Timed) → Watches self.old before
+        ensures following { (whole : AReset) → IsBusOf whole r.now → (before : List Timed) → Watches self.old before
             → OnOk result (Watches self.new (before ++ at_cycle cycle (ResetOf whole) ∷ [])) }
     {
         step_reset(&mut self.state, &mut self.journal, cycle, r)

@@ -3,9 +3,6 @@ pub mod LoopLaws
 pub mod DueLaws
 pub mod UsedLaws
 pub mod Keeping
-pub mod ApartLaws
 pub mod UsualLaws
 pub mod SameWordLaws
-pub mod GlanceLaws
-pub mod QueueLaws
 pub mod ChangeLaws

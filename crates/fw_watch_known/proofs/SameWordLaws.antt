@@ -6,8 +6,8 @@ use Rattle.std.proofs.lemmas.Bool.{eq-eqb}
 use Rattle.std.proofs.lemmas.List.{set-get_or}
 use Rattle.fw_watch_remarks.specs.declared.known.Known.{Known}
 use Rattle.fw_watch_remarks.specs.declared.register.At.{At}
-use Rattle.fw_watch_remarks.specs.declared.register.Register.{Register}
-use Rattle.fw_watch_remarks.specs.declared.register.Register.TheVariants.{Bandwidth, ChannelsHigh, ChannelsLow, Output, Input}
+use Rattle.fw_watch_remarks.specs.declared.register.WatchedRegister.{WatchedRegister}
+use Rattle.fw_watch_remarks.specs.declared.register.WatchedRegister.TheVariants.{Bandwidth, ChannelsHigh, ChannelsLow, Output, Input}
 use Rattle.fw_watch_remarks.specs.Registers.{is_managed, plug_index}
 use Rattle.fw_watch_remarks.specs.Knowing.{all_known, channel_of, differing, nothing_known}
 use Rattle.fw_watch_remarks.specs.Remarks.{counted}
@@ -48,7 +48,7 @@ unfolding plug_moved
 stays_on o cs = ap (λ (b : Bool). unused o (if b then cs else quieted o (quieted o cs))) (same_itself o)
 
 -- one of the resource manager's registers stays as it is
-by_managed : (r : Register) (s : State) (at : At) (k : Known) → is_managed r ≡ true → k ≡ known_by r s.managed (plug_at s.plugs at) → with_known_by r s at k ≡ s
+by_managed : (r : WatchedRegister) (s : State) (at : At) (k : Known) → is_managed r ≡ true → k ≡ known_by r s.managed (plug_at s.plugs at) → with_known_by r s at k ≡ s
 by_managed Bandwidth s at k m e = ap (λ (x : Known). record s { managed = record s.managed { bandwidth = x } }) e
 by_managed ChannelsHigh s at k m e =
     ap (λ (x : Known). with_known_by ChannelsHigh s at x) e ∙ ap (λ (cs : List Channel). record s { channels = cs }) (same_half 0 s.managed.high s.channels)
@@ -66,7 +66,7 @@ plug_stays s at k e =
     ∙ ap (λ (ps : List Known). record s { channels = unused (channel_of (plug_at s.plugs at)) s.channels; plugs = ps }) (set-get_or s.plugs (plug_index at.node at.register) nothing_known)
     ∙ ap (λ (x : Known). record s { channels = unused (channel_of x) s.channels }) (sym e)
 
-by_plug : (r : Register) (s : State) (at : At) (k : Known) → is_managed r ≡ false → k ≡ known_by r s.managed (plug_at s.plugs at)
+by_plug : (r : WatchedRegister) (s : State) (at : At) (k : Known) → is_managed r ≡ false → k ≡ known_by r s.managed (plug_at s.plugs at)
     → with_known_by r s at k ≡ record s { channels = unused (channel_of k) s.channels }
 by_plug Bandwidth s at k m e = cc m
 by_plug ChannelsHigh s at k m e = cc m

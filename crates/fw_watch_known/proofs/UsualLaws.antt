@@ -10,7 +10,7 @@ use Rattle.fw_watch_known.specs.declared.hear.Packet.{Packet}
 use Rattle.fw_watch_known.specs.declared.state.State.{State}
 use Rattle.fw_watch_remarks.specs.Remarks.{counted}
 use Rattle.fw_watch_known.specs.Channels.{channel_at, fresh, others_on}
-use Rattle.fw_watch_known.specs.Heard.{is_free, is_sender, other_sender, is_usual, nothing_heard, heard, heard_on, owners_of, sender_behind, channel_behind, after_heard}
+use Rattle.fw_watch_known.specs.Heard.{is_free, is_sender, other_sender, is_usual, nothing_heard, heard, heard_on, owners_of, sender_after, channel_after, after_heard}
 
 -- what is usual of a row
 pub record IsUsualRow (s : State) (p : Packet) (row : Channel) : Type 0 where
@@ -80,21 +80,21 @@ or_false false = refl
 row_with : Option Due → Option ℕ → Bool → Bool → Bool → Channel
 row_with d o two free plug = record { due = d; sender = o; noted = record { two = two; free = free; plug = plug } }
 
-same_row : (row : Channel) (sid : ℕ) → row.sender ≡ Some sid → row.due ≡ None → channel_behind sid nothing_heard row ≡ row
-unfolding channel_behind row_with
+same_row : (row : Channel) (sid : ℕ) → row.sender ≡ Some sid → row.due ≡ None → channel_after sid nothing_heard row ≡ row
+unfolding channel_after row_with
 same_row row sid e f =
-    ap (λ (d : Option Due). row_with d (Some (sender_behind sid row.sender)) (row.noted.two || false) (row.noted.free || false) (row.noted.plug || false)) (sym f)
-    ∙ ap (λ (o : Option ℕ). row_with row.due o (row.noted.two || false) (row.noted.free || false) (row.noted.plug || false)) (ap (λ (o : Option ℕ). Some (sender_behind sid o)) e ∙ sym e)
+    ap (λ (d : Option Due). row_with d (Some (sender_after sid row.sender)) (row.noted.two || false) (row.noted.free || false) (row.noted.plug || false)) (sym f)
+    ∙ ap (λ (o : Option ℕ). row_with row.due o (row.noted.two || false) (row.noted.free || false) (row.noted.plug || false)) (ap (λ (o : Option ℕ). Some (sender_after sid o)) e ∙ sym e)
     ∙ ap (λ (b : Bool). row_with row.due row.sender b (row.noted.free || false) (row.noted.plug || false)) (or_false row.noted.two)
     ∙ ap (λ (b : Bool). row_with row.due row.sender row.noted.two b (row.noted.plug || false)) (or_false row.noted.free)
     ∙ ap (λ (b : Bool). row_with row.due row.sender row.noted.two row.noted.free b) (or_false row.noted.plug)
 
 -- what is kept of its channel stays
-pub usual_stays : (s : State) (p : Packet) → is_usual s p ≡ true → set s.channels p.channel (channel_behind p.sid (heard s p) (channel_at s.channels p.channel)) ≡ s.channels
+pub usual_stays : (s : State) (p : Packet) → is_usual s p ≡ true → set s.channels p.channel (channel_after p.sid (heard s p) (channel_at s.channels p.channel)) ≡ s.channels
 usual_stays s p h =
     let u = usual_row s p h in
     let row : Channel = channel_at s.channels p.channel in
-    ap (λ (x : Heard). set s.channels p.channel (channel_behind p.sid x row)) (usual_heard s p h)
+    ap (λ (x : Heard). set s.channels p.channel (channel_after p.sid x row)) (usual_heard s p h)
     ∙ ap (λ (x : Channel). set s.channels p.channel x) (same_row row p.sid u.sender u.due) ∙ set-get_or s.channels p.channel fresh
 
 -- so it is counted, and nothing else changes

@@ -58,21 +58,21 @@ is_usual s p =
     && ((channel_at s.channels p.channel).noted.free || not (is_free s p.channel))
 
 -- the sender that a channel has, or the node of its first packet
-abbrev pub sender_behind : ℕ → Option ℕ → ℕ
-sender_behind sid None = sid
-sender_behind sid (Some sender) = sender
+abbrev pub sender_after : ℕ → Option ℕ → ℕ
+sender_after sid None = sid
+sender_after sid (Some sender) = sender
 
 -- what is kept of a channel after a packet that showed this: its first sender stays
-unfoldable pub channel_behind : ℕ → Heard → Channel → Channel
-channel_behind sid h row = record {
+unfoldable pub channel_after : ℕ → Heard → Channel → Channel
+channel_after sid h row = record {
   due = None;
-  sender = Some (sender_behind sid row.sender);
+  sender = Some (sender_after sid row.sender);
   noted = record { two = row.noted.two || is_some h.first; free = row.noted.free || h.free; plug = row.noted.plug || not (h.owners == 0) };
 }
 
 -- a packet is counted, and what it showed was told
 unfoldable pub after_heard : State → Packet → State
 after_heard s p = record s {
-  channels = slice_set s.channels p.channel (channel_behind p.sid (heard s p) (channel_at s.channels p.channel));
+  channels = slice_set s.channels p.channel (channel_after p.sid (heard s p) (channel_at s.channels p.channel));
   counts = record s.counts { packets = counted s.counts.packets };
 }

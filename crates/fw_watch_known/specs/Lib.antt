@@ -1,10 +1,7 @@
 pub mod Channels
-pub mod Standing
 pub mod States
 pub mod Judging
 pub mod Swapped
 pub mod Heard
 pub mod Used
-pub mod Kept
-pub mod Glances
 pub mod Changes

@@ -3,8 +3,8 @@ use Rattle.std.specs.Prelude.{ℕ, ◌+◌, ◌-◌, ◌^◌, ◌==◌, ◌&&◌
 use Rattle.std.specs.List.{position}
 use Rattle.fw_log_entry.specs.declared.nodes.NodeRow.{NodeRow}
 use Rattle.fw_log_entry.specs.declared.entry.ResetEntry.{ResetEntry}
-use Rattle.fw_watch_remarks.specs.declared.register.Register.{Register}
-use Rattle.fw_watch_remarks.specs.declared.register.Register.TheVariants.{Bandwidth, ChannelsHigh, ChannelsLow, Output, Input}
+use Rattle.fw_watch_remarks.specs.declared.register.WatchedRegister.{WatchedRegister}
+use Rattle.fw_watch_remarks.specs.declared.register.WatchedRegister.TheVariants.{Bandwidth, ChannelsHigh, ChannelsLow, Output, Input}
 use Rattle.fw_watch_remarks.specs.declared.register.At.{At}
 use Rattle.fw_watch_remarks.specs.declared.known.Known.{Known}
 use Rattle.fw_watch_remarks.specs.declared.known.Managed.{Managed}
@@ -18,7 +18,7 @@ use Rattle.fw_watch_known.specs.declared.state.State.{State}
 use Rattle.fw_watch_remarks.specs.Knowing.{nothing_known, no_managed, reset_managed, after_reset, channel_of}
 use Rattle.fw_watch_remarks.specs.Remarks.{counted}
 use Rattle.fw_watch_known.specs.Channels.{fresh, plug_at, with_plug, freshened, plug_moved}
-use Rattle.fw_watch_known.specs.Standing.{without_source}
+use Rattle.fw_watch_requests.specs.Standing.{without_source}
 
 -- ---- the second after a bus reset
 
@@ -115,7 +115,7 @@ manager_node Absent = None
 manager_node (Node m) = Some m
 
 -- what is known of a register by its kind
-abbrev pub known_by : Register → Managed → Known → Known
+abbrev pub known_by : WatchedRegister → Managed → Known → Known
 known_by Bandwidth managed plug = managed.bandwidth
 known_by ChannelsHigh managed plug = managed.high
 known_by ChannelsLow managed plug = managed.low
@@ -132,7 +132,7 @@ with_known_plug s at known =
     record s { channels = plug_moved (channel_of (plug_at s.plugs at)) (channel_of known) s.channels; plugs = with_plug s.plugs at known }
 
 -- what is known of a register from now on, by its kind; of a channel whose bit changes nothing was seen
-abbrev pub with_known_by : Register → State → At → Known → State
+abbrev pub with_known_by : WatchedRegister → State → At → Known → State
 with_known_by Bandwidth s at known = record s { managed = record s.managed { bandwidth = known } }
 with_known_by ChannelsHigh s at known = record s { channels = freshened 32 0 s.managed.high known s.channels; managed = record s.managed { high = known } }
 with_known_by ChannelsLow s at known = record s { channels = freshened 32 32 s.managed.low known s.channels; managed = record s.managed { low = known } }
@@ -171,6 +171,6 @@ abbrev pub buried : Option ℕ → State → State
 buried None s = s
 buried (Some node) s = record s { standing = without_source (0xFFC0 + node) s.standing }
 
--- the controller of a device died: its requests stand no longer
+-- the controller of a device died: its requests are outstanding no longer
 unfoldable pub after_death : ℕ → State → State
 after_death device s = buried (node_of_device device s.nodes) s

@@ -1,12 +1,12 @@
 -- Swaps that were made and changed something: what is known then.
 use Rattle.std.specs.Prelude.{ℕ, ◌==◌, Option, Some, None, if◌then◌else◌}
-use Rattle.fw_watch_remarks.specs.declared.register.Register.{Register}
-use Rattle.fw_watch_remarks.specs.declared.register.Register.TheVariants.{Bandwidth, ChannelsHigh, ChannelsLow, Output, Input}
+use Rattle.fw_watch_remarks.specs.declared.register.WatchedRegister.{WatchedRegister}
+use Rattle.fw_watch_remarks.specs.declared.register.WatchedRegister.TheVariants.{Bandwidth, ChannelsHigh, ChannelsLow, Output, Input}
 use Rattle.fw_watch_known.specs.declared.state.State.{State}
 use Rattle.fw_watch_known.specs.declared.swap.Made.{Made}
 use Rattle.fw_watch_remarks.specs.Knowing.{all_known}
 use Rattle.fw_watch_known.specs.Channels.{with_dues}
-use Rattle.fw_watch_known.specs.Standing.{node_of}
+use Rattle.fw_watch_requests.specs.Standing.{node_of}
 use Rattle.fw_watch_known.specs.States.{counted_second, with_known}
 
 -- the node that holds what it takes, if it is one of the local bus
@@ -20,7 +20,7 @@ with_holder (Some holder) m first s =
     record s { channels = with_dues 32 first m.old m.new (record { holder = holder; since = m.cycle }) s.plugs s.channels }
 
 -- what a swap changes besides its register
-abbrev pub swapped_by : Register → Made → State → State
+abbrev pub swapped_by : WatchedRegister → Made → State → State
 swapped_by Bandwidth m s = record s { second = counted_second m.old m.new s.second }
 swapped_by ChannelsHigh m s = with_holder (holder_of m.by) m 0 s
 swapped_by ChannelsLow m s = with_holder (holder_of m.by) m 32 s

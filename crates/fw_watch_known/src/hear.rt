@@ -1,7 +1,7 @@
 //! Isochronous packets: whose they are, and what they show.
 
 ghost use Rattle.std.specs.Prelude.{◌≡◌, true};
-ghost use Rattle.fw_watch_known.specs.Heard.{is_free, other_sender, is_sender, channel_behind, owners_of, is_usual, heard, after_heard};
+ghost use Rattle.fw_watch_known.specs.Heard.{is_free, other_sender, is_sender, channel_after, owners_of, is_usual, heard, after_heard};
 
 use crate::channel::{Channel, Noted};
 use crate::state::State;
@@ -51,9 +51,9 @@ impl Channel {
     }
 
     // What is kept of it after a packet that showed this.
-    #[tactic(auto, unfolding(crate::specs::Heard::channel_behind))]
-    fn behind(self, sid: u8, heard: &Heard) -> Channel
-        ensures { result ≡ channel_behind sid heard.now self }
+    #[tactic(auto, unfolding(crate::specs::Heard::channel_after))]
+    fn after_packet(self, sid: u8, heard: &Heard) -> Channel
+        ensures { result ≡ channel_after sid heard.now self }
     {
         Channel {
             due: None,
@@ -144,7 +144,8 @@ impl State {
     {
         let row = self.channels.at(p.channel);
         let heard = self.heard(p);
-        self.channels.set(p.channel, row.behind(p.sid, &heard));
+        self.channels
+            .set(p.channel, row.after_packet(p.sid, &heard));
         self.counts.packets = counted(self.counts.packets);
     }
 }

@@ -7,7 +7,7 @@ ghost use Rattle.fw_watch_remarks.specs.Knowing.{nothing_known, after_reset, is_
 ghost use Rattle.fw_watch_known.specs.Channels.{plug_at, with_plug, is_used, has_output, node_bit, owners_to, others_on};
 
 use crate::used::{none_used, one_fewer, one_more};
-use fw_watch_remarks::{At, Known, Register};
+use fw_watch_remarks::{At, Known, WatchedRegister};
 use std::alloc::{AllocError, Global};
 use std::marker::Model;
 
@@ -42,8 +42,8 @@ fn index(at: At) -> usize
     ensures { result ≡ plug_index at.node at.register }
 {
     match at.register {
-        Register::Output(number) => usize::from(at.node) * 62 + usize::from(number),
-        Register::Input(number) => usize::from(at.node) * 62 + (31 + usize::from(number)),
+        WatchedRegister::Output(number) => usize::from(at.node) * 62 + usize::from(number),
+        WatchedRegister::Input(number) => usize::from(at.node) * 62 + (31 + usize::from(number)),
         _ => 0,
     }
 }

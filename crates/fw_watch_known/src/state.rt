@@ -4,14 +4,13 @@ ghost use Rattle.std.specs.Prelude.{◌≡◌, ◌≤◌, ◌<◌, [], IfOk, IfS
 ghost use Rattle.std.specs.List.{position};
 ghost use Rattle.fw_watch_known.specs.States.{no_state, known_of, with_known, with_known_plug, is_device, is_manager, is_absent, manager_node, manager_by, reset_state, manager_of, node_of_device, after_death};
 
-use crate::asked::node_id;
 use crate::channels::Channels;
 use crate::counts::Counts;
 use crate::plugs::Plugs;
 use crate::second::Second;
-use crate::standing::Standing;
 use fw_log_entry::{NodeList, NodeRow, ResetEntry};
-use fw_watch_remarks::{At, Known, Managed, Register, counted};
+use fw_watch_remarks::{At, Known, Managed, WatchedRegister, counted};
+use fw_watch_requests::{OutstandingRequests, node_id};
 use std::alloc::{AllocError, Global};
 
 /// Which node is the isochronous resource manager.
@@ -42,8 +41,8 @@ pub struct State {
     pub plugs: Plugs,
     /// What is kept of channels.
     pub channels: Channels,
-    /// The requests that stand.
-    pub standing: Standing,
+    /// The outstanding requests.
+    pub standing: OutstandingRequests,
     /// The second after the latest bus reset.
     pub second: Second,
     /// What was counted.
@@ -126,7 +125,7 @@ impl State {
             managed: Managed::nothing(),
             plugs: Plugs::new(alloc)?,
             channels: Channels::new(alloc)?,
-            standing: Standing::new(),
+            standing: OutstandingRequests::new(),
             second: Second::none(),
             counts: Counts::none(),
         })
@@ -138,10 +137,10 @@ impl State {
         ensures { result ≡ known_of self.now at }
     {
         match at.register {
-            Register::Bandwidth => self.managed.bandwidth,
-            Register::ChannelsHigh => self.managed.high,
-            Register::ChannelsLow => self.managed.low,
-            Register::Output(_) | Register::Input(_) => self.plugs.at(at),
+            WatchedRegister::Bandwidth => self.managed.bandwidth,
+            WatchedRegister::ChannelsHigh => self.managed.high,
+            WatchedRegister::ChannelsLow => self.managed.low,
+            WatchedRegister::Output(_) | WatchedRegister::Input(_) => self.plugs.at(at),
         }
     }
 
@@ -161,16 +160,16 @@ impl State {
         ensures { self.new ≡ with_known self.old at known }
     {
         match at.register {
-            Register::Bandwidth => self.managed.bandwidth = known,
-            Register::ChannelsHigh => {
+            WatchedRegister::Bandwidth => self.managed.bandwidth = known,
+            WatchedRegister::ChannelsHigh => {
                 self.channels.freshen(0, self.managed.high, known);
                 self.managed.high = known;
             }
-            Register::ChannelsLow => {
+            WatchedRegister::ChannelsLow => {
                 self.channels.freshen(32, self.managed.low, known);
                 self.managed.low = known;
             }
-            Register::Output(_) | Register::Input(_) => self.put_plug(at, known),
+            WatchedRegister::Output(_) | WatchedRegister::Input(_) => self.put_plug(at, known),
         }
     }
 
@@ -199,7 +198,7 @@ impl State {
         place_of_device(self.nodes.as_slice(), device)
     }
 
-    /// The controller of a device died: its requests stand no longer.
+    /// The controller of a device died: its requests are outstanding no longer.
     #[tactic(auto, unfolding(crate::specs::States::after_death))]
     pub fn bury(&mut self, device: u8)
         ensures { self.new ≡ after_death device self.old }

@@ -3,10 +3,10 @@
 ghost use Rattle.std.specs.Prelude.{◌≡◌, ◌≤◌};
 ghost use Rattle.fw_watch_known.specs.Swapped.{holder_of, with_holder, swapped};
 
-use crate::asked::node_of;
 use crate::channel::Due;
 use crate::state::State;
-use fw_watch_remarks::{At, Known, Register};
+use fw_watch_remarks::{At, Known, WatchedRegister};
+use fw_watch_requests::node_of;
 
 /// A swap that was made, and that changed something.
 #[derive(Clone, Copy)]
@@ -54,10 +54,10 @@ impl State {
     {
         self.put(m.at, Known::all(m.new));
         match m.at.register {
-            Register::Bandwidth => self.second.count(m.old, m.new),
-            Register::ChannelsHigh => self.set_dues(m, 0),
-            Register::ChannelsLow => self.set_dues(m, 32),
-            Register::Output(_) | Register::Input(_) => {}
+            WatchedRegister::Bandwidth => self.second.count(m.old, m.new),
+            WatchedRegister::ChannelsHigh => self.set_dues(m, 0),
+            WatchedRegister::ChannelsLow => self.set_dues(m, 32),
+            WatchedRegister::Output(_) | WatchedRegister::Input(_) => {}
         }
     }
 }

@@ -12,7 +12,7 @@ use Rattle.fw_watch_laws.proofs.Matching.{AllMatched}
 use Rattle.fw_watch_laws.proofs.Latest.{latest_after, next_latest}
 use Rattle.fw_watch_laws.proofs.Following.{none_matched, step_matched}
 use Rattle.fw_watch_laws.proofs.Apart.{ids_apart, none_apart}
-use Rattle.fw_watch_laws.proofs.Labels.{IsOwn, own_behind}
+use Rattle.fw_watch_laws.proofs.Labels.{IsOwn, own_following}
 
 -- ---- the locks that stand have the label of procedures
 
@@ -42,7 +42,7 @@ unfolding after_what reset_state after_packet after_shown after_heard
 own_what cycle (Reset r) s h a = none_own
 own_what cycle (Async p) s h a =
     let P : List Asked → Type 0 = λ xs. All IsOwn xs in
-    subst P (sym (answered_frame (answer_of s.standing p) cycle (with_packet p s)).standing) (own_behind p s.standing h a)
+    subst P (sym (answered_frame (answer_of s.standing p) cycle (with_packet p s)).standing) (own_following p s.standing h a)
 own_what cycle (Iso p) s h a = a
 own_what cycle (Event e) s h a = own_event e s a
 own_what cycle (Outcome o) s h a = a
@@ -96,7 +96,7 @@ manager_what cycle End s o p f m = manager_kept o p s _ f (λ x e. e) m
 
 -- ---- all that agrees
 
--- the requests that stand are those of the account, locks have the label of procedures, and the manager is that of the bus reset
+-- the outstanding requests are those of the account, locks have the label of procedures, and the manager is that of the bus reset
 pub record Agrees (s : State) (l : Account) : Type 0 where
   pub matched : AllMatched l s.standing
   pub own : All IsOwn s.standing

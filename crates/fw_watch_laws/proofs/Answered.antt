@@ -5,8 +5,8 @@ use Rattle.fw_watch_laws.proofs.Common.{made_by, lock_answer}
 use Rattle.std.specs.List.{position}
 use Rattle.std.proofs.lemmas.List.Quantifiers.{position-Some}
 use Rattle.std.proofs.lemmas.Option.{cond_some, get_or_from_slice_get}
-use Rattle.fw_watch_known.specs.declared.asked.Asking.TheVariants.{Lock}
-use Rattle.fw_watch_known.specs.Standing.{alike, asked_at, answer_of_node, read_answer}
+use Rattle.fw_watch_requests.specs.declared.asked.Asking.TheVariants.{Lock}
+use Rattle.fw_watch_requests.specs.Standing.{alike, asked_at, answer_of_node, read_answer}
 
 -- ---- requests
 

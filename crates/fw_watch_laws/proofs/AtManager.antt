@@ -1,6 +1,24 @@
 -- No swap is told as made at a node that is not the resource manager; and what else is not told of swaps.
 use Rattle.fw_watch_laws.proofs.Common.{◌≡◌, refl, ap, sym, ◌∙◌, ℕ, ◌&&◌, not, nat_le, Bool, true, false, List, [], ◌∷◌, ◌++◌, if◌then◌else◌, Option, Some, None, ⊤, list_any, Swap, ResetEntry, Timed}
-use Rattle.fw_watch_laws.proofs.Common.{Account, no_account, Place, place_at, is_node, At, Register, Bandwidth, ChannelsHigh, ChannelsLow, Output, Input, is_managed, Said, Answer, Channel, Second}
+use Rattle.fw_watch_laws.proofs.Common.{
+  Account,
+  no_account,
+  Place,
+  place_at,
+  is_node,
+  At,
+  WatchedRegister,
+  Bandwidth,
+  ChannelsHigh,
+  ChannelsLow,
+  Output,
+  Input,
+  is_managed,
+  Said,
+  Answer,
+  Channel,
+  Second,
+}
 use Rattle.fw_watch_laws.proofs.Common.{State, Made, manager_by, is_manager, Ignore, Refuse, Follow, heed, made, ticked, known, IsOrderly, offset_of, HasNone}
 use Rattle.fw_watch_known.specs.declared.state.Manager.{Manager}
 use Rattle.fw_watch_known.specs.States.{manager_of}
@@ -43,17 +61,17 @@ followed_by (Some r) s c d at v m e f =
 
 -- a test that passes something odd in swaps alone, and that in none of the moves of the account, passes nothing of a log
 pub silent : (q : Said → Bool) (entries : List Timed) (P : List Timed → Account → Type 0) → IsOrderly entries → IsOfSwaps q
-    → ((front rest : List Timed) (t : Timed) (l m : Account) → Passes entries front rest t l m → P front l → P (front ++ t ∷ []) m) → P [] no_account
-    → ((front rest : List Timed) (t : Timed) (l m : Account) (a : Answer) (swap : Swap) (u : State) → Passes entries front rest t l m → P front l → IsAccountSwap l m a swap
-    → u.second ≡ (ticked t.cycle (known front)).second → NoneOdd q a.at.register u (made t.cycle a swap))
+    → ((prefix rest : List Timed) (t : Timed) (l m : Account) → Passes entries prefix rest t l m → P prefix l → P (prefix ++ t ∷ []) m) → P [] no_account
+    → ((prefix rest : List Timed) (t : Timed) (l m : Account) (a : Answer) (swap : Swap) (u : State) → Passes entries prefix rest t l m → P prefix l → IsAccountSwap l m a swap
+    → u.second ≡ (ticked t.cycle (known prefix)).second → NoneOdd q a.at.register u (made t.cycle a swap))
     → list_any q (all_remarks entries) ≡ false
 silent q entries P o f step first odd =
     none_in q entries P o step
-    (λ front rest t l m y p. entry_none q (known front) t f
+    (λ prefix rest t l m y p. entry_none q (known prefix) t f
     (λ c d e k a w g swap x.
-    let i : IsAccountSwap l m a swap = swap_in entries front rest t l m k a swap y w g x in (
-      followed_by l.latest (known front) c d a.at i.register y.agrees.manager i.place,
-      λ u z. odd front rest t l m a swap u y p i (z ∙ ap (λ (v : State). v.second) (sym e)),
+    let i : IsAccountSwap l m a swap = swap_in entries prefix rest t l m k a swap y w g x in (
+      followed_by l.latest (known prefix) c d a.at i.register y.agrees.manager i.place,
+      λ u z. odd prefix rest t l m a swap u y p i (z ∙ ap (λ (v : State). v.second) (sym e)),
     )))
     first
 
@@ -67,7 +85,7 @@ free k n x e = is_not_manager_by x.remark ∙ ap is_of_refused e ∙ n
 of_swaps : IsOfSwaps refuses
 of_swaps = record { reset = free OfReset refl; word = free OfWord refl; swap = free OfSwap refl; channel = free OfChannel refl }
 
-none_odd : (r : Register) (s : State) (m : Made) → NoneOdd refuses r s m
+none_odd : (r : WatchedRegister) (s : State) (m : Made) → NoneOdd refuses r s m
 none_odd Bandwidth s m = (many_free refuses m (free OfMany refl), units_free refuses s m (free OfUnits refl))
 none_odd ChannelsHigh s m = (new_free refuses s m 0 (free OfNew refl), several_free refuses m (free OfSeveral refl))
 none_odd ChannelsLow s m = (new_free refuses s m 32 (free OfNew refl), several_free refuses m (free OfSeveral refl))
@@ -76,5 +94,5 @@ none_odd (Input x) s m = more_free refuses m (free OfMore refl)
 
 pub swap_at_manager : (entries : List Timed) → IsOrderly entries → HasNone is_not_manager entries
 swap_at_manager entries o =
-    silent refuses entries (λ front l. ⊤) o of_swaps (λ front rest t l m y p. tt) tt
-    (λ front rest t l m a swap u y p i e. none_odd a.at.register u (made t.cycle a swap))
+    silent refuses entries (λ prefix l. ⊤) o of_swaps (λ prefix rest t l m y p. tt) tt
+    (λ prefix rest t l m a swap u y p i e. none_odd a.at.register u (made t.cycle a swap))

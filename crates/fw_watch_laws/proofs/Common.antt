@@ -28,17 +28,17 @@ pub use Rattle.fw_model_audit.specs.Looked.{ShowsWords, looked_packet}
 pub use Rattle.fw_watch_known.specs.Channels.{channel_at, fresh, undue}
 unfoldable pub use Rattle.fw_watch_known.specs.Heard.{after_heard}
 unfoldable pub use Rattle.fw_watch_known.specs.Judging.{judged, judged_counts}
-pub use Rattle.fw_watch_known.specs.Standing.{asked_at_register, is_from, is_read, lock_answer, lock_of, node_of, with_request}
-unfoldable pub use Rattle.fw_watch_known.specs.Standing.{answer_of, answered, answers, is_of, made_by, old_word, standing_behind}
-unfoldable pub use Rattle.fw_watch_known.specs.Standing.{without_answered, without_same, without_source}
+pub use Rattle.fw_watch_requests.specs.Standing.{asked_at_register, is_from, is_read, lock_answer, lock_of, node_of, with_request}
+unfoldable pub use Rattle.fw_watch_requests.specs.Standing.{answer_of, answered, answers, is_of, made_by, old_word, standing_following}
+unfoldable pub use Rattle.fw_watch_requests.specs.Standing.{without_answered, without_same, without_source}
 pub use Rattle.fw_watch_known.specs.States.{buried, is_manager, manager_by, no_state}
 unfoldable pub use Rattle.fw_watch_known.specs.States.{after_death, ended_second, known_of, node_of_device, reset_state, ticked_second, with_known, with_known_plug}
 pub use Rattle.fw_watch_known.specs.Swapped.{holder_of, swapped_by}
 unfoldable pub use Rattle.fw_watch_known.specs.Swapped.{swapped, with_holder}
-pub use Rattle.fw_watch_known.specs.declared.asked.Answer.{Answer}
-pub use Rattle.fw_watch_known.specs.declared.asked.Asked.{Asked}
-pub use Rattle.fw_watch_known.specs.declared.asked.Asking.{Asking}
-pub use Rattle.fw_watch_known.specs.declared.asked.Asking.TheVariants.{Read, Swap as SwapOf}
+pub use Rattle.fw_watch_requests.specs.declared.asked.Answer.{Answer}
+pub use Rattle.fw_watch_requests.specs.declared.asked.Asked.{Asked}
+pub use Rattle.fw_watch_requests.specs.declared.asked.Asking.{Asking}
+pub use Rattle.fw_watch_requests.specs.declared.asked.Asking.TheVariants.{Read, Swap as SwapOf}
 pub use Rattle.fw_watch_known.specs.declared.channel.Channel.{Channel}
 pub use Rattle.fw_watch_known.specs.declared.second.Second.{Second}
 pub use Rattle.fw_watch_known.specs.declared.state.State.{State}
@@ -52,8 +52,8 @@ pub use Rattle.fw_watch_remarks.specs.Remarks.{Said, said}
 pub use Rattle.fw_watch_remarks.specs.declared.known.Known.{Known}
 pub use Rattle.fw_watch_remarks.specs.declared.known.Managed.{Managed}
 pub use Rattle.fw_watch_remarks.specs.declared.register.At.{At}
-pub use Rattle.fw_watch_remarks.specs.declared.register.Register.{Register}
-pub use Rattle.fw_watch_remarks.specs.declared.register.Register.TheVariants.{Bandwidth, ChannelsHigh, ChannelsLow, Input, Output}
+pub use Rattle.fw_watch_remarks.specs.declared.register.WatchedRegister.{WatchedRegister}
+pub use Rattle.fw_watch_remarks.specs.declared.register.WatchedRegister.TheVariants.{Bandwidth, ChannelsHigh, ChannelsLow, Input, Output}
 pub use Rattle.fw_watch_remarks.specs.declared.remark.Remark.TheVariants.{NewInSecond, UnitsInSecond, Unseen}
 pub use Rattle.fw_watch.specs.Answering.{after_answered, after_heeded, after_shown_by, made, with_packet}
 unfoldable pub use Rattle.fw_watch.specs.Answering.{after_answer, after_followed, after_found, after_made, after_packet, heed, with_manager}

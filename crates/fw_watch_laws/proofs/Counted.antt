@@ -4,7 +4,7 @@ use Rattle.fw_watch_laws.proofs.Common.{Event, Outcome, Shown, End, Timed, Known
 use Rattle.fw_watch_laws.proofs.Common.{glimpse}
 use Rattle.std.specs.List.{count_by}
 use Rattle.std.proofs.lemmas.List.Sums.{length-filter, sum_by-append}
-use Rattle.fw_watch_remarks.specs.Remarks.{Told, told, with_line, is_finding, counted}
+use Rattle.fw_watch_remarks.specs.Remarks.{WatchOutput, told, with_line, is_finding, counted}
 use Rattle.fw_watch_known.specs.declared.counts.Counts.{Counts}
 use Rattle.fw_watch_known.specs.States.{capped}
 use Rattle.fw_watch.specs.Watched.{remarks_from, all_remarks}
@@ -179,7 +179,7 @@ unseen_count s (t ∷ ts) =
     ∙ ap (λ (n : ℕ). one_if (seen_so is_other s (glimpse s t.what)) + n) (unseen_count (after s t) ts)
 
 -- findings
-found_count : (x : Told) (rest : List Said) (a : ℕ) → x.findings ≡ capped a → (told x rest).findings ≡ capped (a + count_by (λ (s : Said). is_finding s.remark) rest)
+found_count : (x : WatchOutput) (rest : List Said) (a : ℕ) → x.findings ≡ capped a → (told x rest).findings ≡ capped (a + count_by (λ (s : Said). is_finding s.remark) rest)
 unfolding with_line
 found_count x [] a e = e ∙ ap capped (omega arith)
 found_count x (s ∷ rest) a e =

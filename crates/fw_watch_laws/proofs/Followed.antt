@@ -1,6 +1,6 @@
 -- What `watch` knows of registers is the account's, at each bit that it knows.
 use Rattle.fw_watch_laws.proofs.Common.{◌≡◌, ◌≢◌, refl, ap, sym, ◌∙◌, subst, ℕ, Bool, true, false, if◌then◌else◌, Option, Some, None, unwrap_or, arith, true≢false, same_Some, Packet, ResetEntry}
-use Rattle.fw_watch_laws.proofs.Common.{Entry, Reset, Async, Iso, Event, Outcome, Shown, End, Timed, Account, after_reset, next_account, IsSound, Place, word_of, ShowsWords, Known, Register}
+use Rattle.fw_watch_laws.proofs.Common.{Entry, Reset, Async, Iso, Event, Outcome, Shown, End, Timed, Account, after_reset, next_account, IsSound, Place, word_of, ShowsWords, Known, WatchedRegister}
 use Rattle.fw_watch_laws.proofs.Common.{differing, State, known_of, after, IsPlace, Glimpse, glimpse, left, fixed, offset_of}
 use Rattle.fw_model_account.proofs.Bounds.{register_there}
 use Rattle.fw_model_audit.specs.Looked.{looked}
@@ -20,11 +20,11 @@ use Rattle.fw_watch_laws.proofs.ShownGlimpses.{word_seen, event_seen}
 
 -- what is known of each register of the account differs from its word in no bit
 abbrev pub KnowsWords : State → Account → Type 0
-KnowsWords s l = (n : ℕ) (g : Register) (v : Place) → Stands l.latest n g v → differing (known_of s (record { node = n; register = g })) (word_of l v) ≡ 0
+KnowsWords s l = (n : ℕ) (g : WatchedRegister) (v : Place) → Stands l.latest n g v → differing (known_of s (record { node = n; register = g })) (word_of l v) ≡ 0
 
 -- ---- after a glimpse
 
-sees_if : (b : Bool) (gl : Glimpse) (s : State) (l m : Account) (n : ℕ) (g : Register) (v : Place) → is_same gl.at (record { node = n; register = g }) ≡ b → Sees l m gl → IsApart l.latest
+sees_if : (b : Bool) (gl : Glimpse) (s : State) (l m : Account) (n : ℕ) (g : WatchedRegister) (v : Place) → is_same gl.at (record { node = n; register = g }) ≡ b → Sees l m gl → IsApart l.latest
     → KnowsWords s l
     → Stands l.latest n g v → differing (unwrap_or (if b then Some gl.left else None) (known_of s (record { node = n; register = g }))) (word_of m v) ≡ 0
 sees_if true gl s l m n g v e x a k y =
@@ -39,11 +39,11 @@ sees_if false gl s l m n g v e x a k y =
     ap (differing (known_of s (record { node = n; register = g }))) (x.others v (register_there l.latest n (offset_of g) v y.place) other) ∙ k n g v y
 
 -- a register of the account stands on a bus
-latest_of : (o : Option ResetEntry) (n : ℕ) (g : Register) (v : Place) → Stands o n g v → (r : ResetEntry) × (o ≡ Some r)
+latest_of : (o : Option ResetEntry) (n : ℕ) (g : WatchedRegister) (v : Place) → Stands o n g v → (r : ResetEntry) × (o ≡ Some r)
 latest_of None n g v x = (let e = x.place in cc)
 latest_of (Some r) n g v x = (r, refl)
 
-after_glimpse : (o : Option Glimpse) (s : State) (l m : Account) (n : ℕ) (g : Register) (v : Place) → Seen l m o → IsApart l.latest → KnowsWords s l → Stands l.latest n g v
+after_glimpse : (o : Option Glimpse) (s : State) (l m : Account) (n : ℕ) (g : WatchedRegister) (v : Place) → Seen l m o → IsApart l.latest → KnowsWords s l → Stands l.latest n g v
     → differing (unwrap_or (left_by o (record { node = n; register = g })) (known_of s (record { node = n; register = g }))) (word_of m v) ≡ 0
 after_glimpse None s l m n g v x a k y =
     let z = latest_of l.latest n g v y in
@@ -81,10 +81,11 @@ entry_seen (Shown x) s l m c a w i h n =
     subst P (same_Some l m n) (word_seen s l x c.nodes h)
 entry_seen End s l m c a w i h n = same_seen l m n
 
-back : (o p : Option ResetEntry) (n : ℕ) (g : Register) (v : Place) → p ≡ o → Stands p n g v → Stands o n g v
+back : (o p : Option ResetEntry) (n : ℕ) (g : WatchedRegister) (v : Place) → p ≡ o → Stands p n g v → Stands o n g v
 back o p n g v e x = let P : Option ResetEntry → Type 0 = λ y. Stands y n g v in subst P e x
 
-left_knows : (e : Entry) (s : State) (l m : Account) (n : ℕ) (g : Register) (v : Place) → SeenIn e s l m → IsSound m → next_account l e ≡ Some m → m.latest ≡ latest_after e l.latest → IsApart l.latest
+left_knows : (e : Entry) (s : State) (l m : Account) (n : ℕ) (g : WatchedRegister) (v : Place) → SeenIn e s l m → IsSound m → next_account l e ≡ Some m → m.latest ≡ latest_after e l.latest
+    → IsApart l.latest
     → KnowsWords s l → Stands m.latest n g v → differing (unwrap_or (left s e (record { node = n; register = g })) (known_of s (record { node = n; register = g }))) (word_of m v) ≡ 0
 unfolding SeenIn
 left_knows (Reset r) s l m n g v x sound e f a k y =
@@ -99,7 +100,7 @@ left_knows (Outcome o) s l m n g v x sound e f a k y = after_glimpse None s l m 
 left_knows (Shown z) s l m n g v x sound e f a k y = after_glimpse (glimpse s (Shown z)) s l m n g v x a k (back l.latest m.latest n g v f y)
 left_knows End s l m n g v x sound e f a k y = after_glimpse None s l m n g v x a k (back l.latest m.latest n g v f y)
 
-place_is : (o : Option ResetEntry) (s : State) (n : ℕ) (g : Register) (v : Place) → IsOnBus o s → Stands o n g v → IsPlace (record { node = n; register = g })
+place_is : (o : Option ResetEntry) (s : State) (n : ℕ) (g : WatchedRegister) (v : Place) → IsOnBus o s → Stands o n g v → IsPlace (record { node = n; register = g })
 place_is None s n g v b x = (let e = x.place in cc)
 place_is (Some r) s n g v b x =
     let low = node_there g r n v b.fits x in

@@ -1,4 +1,4 @@
--- Requests that stand and requests that are outstanding, after an entry.
+-- Requests that are outstanding and requests that are outstanding, after an entry.
 use Rattle.fw_watch_laws.proofs.Common.{◌≡◌, refl, ap, sym, ◌∙◌, subst, ℕ, ◌+◌, ◌==◌, not, Bool, true, false, List, [], if◌then◌else◌, Option, Some, None, is_some, arith, get_or, All-filter}
 use Rattle.fw_watch_laws.proofs.Common.{same_Some, EventEntry, ResetEntry, Entry, Reset, Async, Iso, Event, Outcome, Shown, End, Timed, device_of_id, Account, Request, after_second, after_withholding}
 use Rattle.fw_watch_laws.proofs.Common.{next_account, Asked, Channel, Second, State, after_heard, answer_of, is_from, without_source, reset_state, ended_second, node_of_device, buried, after_death}

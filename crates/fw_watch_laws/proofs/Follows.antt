@@ -1,6 +1,23 @@
 -- A register of the account is followed.
 use Rattle.fw_watch_laws.proofs.Common.{◌≡◌, refl, sym, subst, ℕ, ◌<◌, ◌&&◌, not, nat_le, Bool, true, false, length, if◌then◌else◌, Option, Some, None, IfSome, arith, eqb-true, nat_tests, same_Some}
-use Rattle.fw_watch_laws.proofs.Common.{ResetEntry, Place, is_node, Register, Bandwidth, ChannelsHigh, ChannelsLow, Output, Input, is_managed, State, manager_by, is_manager, Ignore, Refuse, Follow}
+use Rattle.fw_watch_laws.proofs.Common.{
+  ResetEntry,
+  Place,
+  is_node,
+  WatchedRegister,
+  Bandwidth,
+  ChannelsHigh,
+  ChannelsLow,
+  Output,
+  Input,
+  is_managed,
+  State,
+  manager_by,
+  is_manager,
+  Ignore,
+  Refuse,
+  Follow,
+}
 use Rattle.fw_watch_laws.proofs.Common.{heed}
 use Rattle.std.proofs.lemmas.Option.{slice_get_within}
 use Rattle.fw_log_entry.specs.Log.{ResetFits}
@@ -19,7 +36,7 @@ plug_below : (r q : ResetEntry) (n k : ℕ) → Some r ≡ Some q → n < length
 plug_below r q n k e h = let same : q ≡ r = same_Some q r (sym e) in let P : ResetEntry → Type 0 = λ x. n < length x.nodes in subst P same h
 
 -- its node is there
-pub node_there : (g : Register) (r : ResetEntry) (n : ℕ) (v : Place) → ResetFits r → Stands (Some r) n g v → n < length r.nodes
+pub node_there : (g : WatchedRegister) (r : ResetEntry) (n : ℕ) (v : Place) → ResetFits r → Stands (Some r) n g v → n < length r.nodes
 node_there Bandwidth r n v f x = manager_below r.manager n (length r.nodes) (managed_place Bandwidth r n v refl x.place).0 f.manager
 node_there ChannelsHigh r n v f x = manager_below r.manager n (length r.nodes) (managed_place ChannelsHigh r n v refl x.place).0 f.manager
 node_there ChannelsLow r n v f x = manager_below r.manager n (length r.nodes) (managed_place ChannelsLow r n v refl x.place).0 f.manager
@@ -35,7 +52,7 @@ follow_if true b e f = cc
 follow_if false true e f = cc
 follow_if false false e f = refl
 
-pub follows : (o : Option ResetEntry) (s : State) (n : ℕ) (g : Register) (v : Place) → IsOnBus o s → IsManager o s → Stands o n g v → heed s (record { node = n; register = g }) ≡ Follow
+pub follows : (o : Option ResetEntry) (s : State) (n : ℕ) (g : WatchedRegister) (v : Place) → IsOnBus o s → IsManager o s → Stands o n g v → heed s (record { node = n; register = g }) ≡ Follow
 unfolding heed
 follows None s n g v b m x = (let e = x.place in cc)
 follows (Some r) s n g v b m x =

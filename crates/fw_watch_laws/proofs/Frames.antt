@@ -1,5 +1,28 @@
 -- What answers, shown words and packets leave as it was.
-use Rattle.fw_watch_laws.proofs.Common.{◌≡◌, refl, ap, ◌∙◌, ℕ, zero, suc, Bool, true, false, List, length, if◌then◌else◌, Option, Some, None, Known, At, Register, Bandwidth, ChannelsHigh, ChannelsLow}
+use Rattle.fw_watch_laws.proofs.Common.{
+  ◌≡◌,
+  refl,
+  ap,
+  ◌∙◌,
+  ℕ,
+  zero,
+  suc,
+  Bool,
+  true,
+  false,
+  List,
+  length,
+  if◌then◌else◌,
+  Option,
+  Some,
+  None,
+  Known,
+  At,
+  WatchedRegister,
+  Bandwidth,
+  ChannelsHigh,
+  ChannelsLow,
+}
 use Rattle.fw_watch_laws.proofs.Common.{Output, Input, is_managed, nothing_known, all_known, Swap, Answer, Channel, Second, State, Made, after_heard, judged, judged_counts, known_of, with_known}
 use Rattle.fw_watch_laws.proofs.Common.{with_known_plug, ticked_second, manager_by, holder_of, with_holder, swapped_by, swapped, Heed, Ignore, Refuse, Follow, made, after_made, after_found}
 use Rattle.fw_watch_laws.proofs.Common.{with_manager, after_shown_by, after_followed, heed, after_heeded, after_answer, after_answered, ticked, after_word}
@@ -12,7 +35,7 @@ use Rattle.fw_watch_known.specs.Channels.{late_to}
 use Rattle.fw_watch_known.specs.States.{manager_of}
 use Rattle.fw_watch.specs.Holding.{after_late, after_held}
 
--- the nodes and the requests that stand are the same, the table of plugs is as long, and the manager of a bus reset stays
+-- the nodes and the outstanding requests are the same, the table of plugs is as long, and the manager of a bus reset stays
 pub record Frame (s t : State) : Type 0 where
   pub count : t.count ≡ s.count
   pub nodes : t.nodes ≡ s.nodes
@@ -38,7 +61,7 @@ put_plug : (s : State) (at : At) (k : Known) → Frame s (with_known_plug s at k
 unfolding with_known_plug
 put_plug s at k = record { count = refl; nodes = refl; standing = refl; plugs = length-set s.plugs (plug_index at.node at.register) k; manager = λ o e. e; epoch = refl }
 
-put_by : (r : Register) (s : State) (n : ℕ) (k : Known) → Frame s (with_known s (record { node = n; register = r }) k)
+put_by : (r : WatchedRegister) (s : State) (n : ℕ) (k : Known) → Frame s (with_known s (record { node = n; register = r }) k)
 unfolding with_known
 put_by Bandwidth s n k = record { count = refl; nodes = refl; standing = refl; plugs = refl; manager = λ o e. e; epoch = refl }
 put_by ChannelsHigh s n k = record { count = refl; nodes = refl; standing = refl; plugs = refl; manager = λ o e. e; epoch = refl }
@@ -60,7 +83,7 @@ unfolding with_holder
 holder_frame None m first s = same s
 holder_frame (Some holder) m first s = record { count = refl; nodes = refl; standing = refl; plugs = refl; manager = λ o e. e; epoch = refl }
 
-by_frame : (r : Register) (m : Made) (s : State) → Frame s (swapped_by r m s)
+by_frame : (r : WatchedRegister) (m : Made) (s : State) → Frame s (swapped_by r m s)
 by_frame Bandwidth m s = record { count = refl; nodes = refl; standing = refl; plugs = refl; manager = λ o e. e; epoch = refl }
 by_frame ChannelsHigh m s = holder_frame (holder_of m.by) m 0 s
 by_frame ChannelsLow m s = holder_frame (holder_of m.by) m 32 s
@@ -172,7 +195,7 @@ holder_known None m first s at = refl
 holder_known (Some holder) m first s at = refl
 
 -- nor on what a swap changes besides its register
-pub by_known : (r : Register) (m : Made) (s : State) (at : At) → known_of (swapped_by r m s) at ≡ known_of s at
+pub by_known : (r : WatchedRegister) (m : Made) (s : State) (at : At) → known_of (swapped_by r m s) at ≡ known_of s at
 unfolding known_of
 by_known Bandwidth m s at = refl
 by_known ChannelsHigh m s at = holder_known (holder_of m.by) m 0 s at

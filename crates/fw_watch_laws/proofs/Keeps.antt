@@ -1,6 +1,6 @@
 -- The state keeps what was last known of each register.
 use Rattle.fw_watch_laws.proofs.Common.{◌≡◌, refl, ap, sym, ◌∙◌, subst, ℕ, ◌+◌, ◌*◌, ◌==◌, Bool, true, false, List, [], ◌∷◌, length, if◌then◌else◌, Option, Some, None, unwrap_or, arith, All}
-use Rattle.fw_watch_laws.proofs.Common.{EventEntry, Entry, Reset, Async, Iso, Event, Outcome, Shown, End, Timed, Known, At, Register, Bandwidth, ChannelsHigh, ChannelsLow, Output, Input}
+use Rattle.fw_watch_laws.proofs.Common.{EventEntry, Entry, Reset, Async, Iso, Event, Outcome, Shown, End, Timed, Known, At, WatchedRegister, Bandwidth, ChannelsHigh, ChannelsLow, Output, Input}
 use Rattle.fw_watch_laws.proofs.Common.{nothing_known, Asked, Channel, Second, State, answer_of, known_of, no_state, reset_state, ended_second, node_of_device, buried, after_death, with_packet}
 use Rattle.fw_watch_laws.proofs.Common.{after_packet, shown_at, after_shown, after_event, after_what, packet_of, after, known_from, known, IsPlace, left}
 use Rattle.std.proofs.lemmas.List.{get_or-replicate, length-replicate}
@@ -85,7 +85,7 @@ kept_from s (t ∷ ts) at w p =
     ∙ ap (unwrap_or (latest (after s t) ts at)) (known_step s t at w.standing p w.plugs)
     ∙ later_or (latest (after s t) ts at) (left s t.what at) (known_of s at)
 
-none_by : (r : Register) (n : ℕ) → IsPlace (record { node = n; register = r }) → known_of no_state (record { node = n; register = r }) ≡ nothing_known
+none_by : (r : WatchedRegister) (n : ℕ) → IsPlace (record { node = n; register = r }) → known_of no_state (record { node = n; register = r }) ≡ nothing_known
 unfolding known_of
 none_by Bandwidth n p = refl
 none_by ChannelsHigh n p = refl

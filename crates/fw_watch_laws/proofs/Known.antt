@@ -17,37 +17,37 @@ use Rattle.fw_watch_laws.proofs.Followed.{KnowsWords, SeenIn, ReadsIn, entry_see
 use Rattle.fw_watch_laws.proofs.Unseen.{seen_by, found_by, step_unseen}
 
 -- so far `watch` knows the account's words
-pub record IsFine (front : List Timed) (l : Account) : Type 0 where
-  pub nodes : IsOnBus l.latest (known front)
-  pub stand : AllStand l (known front).standing
-  pub knows : KnowsWords (known front) l
+pub record IsFine (prefix : List Timed) (l : Account) : Type 0 where
+  pub nodes : IsOnBus l.latest (known prefix)
+  pub stand : AllStand l (known prefix).standing
+  pub knows : KnowsWords (known prefix) l
 
-apart_at : (front rest : List Timed) (t : Timed) → All (λ x. IsApartIn x.what) (front ++ t ∷ rest) → IsApartIn t.what
+apart_at : (prefix rest : List Timed) (t : Timed) → All (λ x. IsApartIn x.what) (prefix ++ t ∷ rest) → IsApartIn t.what
 apart_at [] rest t a = All-head (λ (x : Timed). IsApartIn x.what) t rest a
-apart_at (u ∷ front) rest t a = apart_at front rest t (All-tail (λ (x : Timed). IsApartIn x.what) u (front ++ t ∷ rest) a)
+apart_at (u ∷ prefix) rest t a = apart_at prefix rest t (All-tail (λ (x : Timed). IsApartIn x.what) u (prefix ++ t ∷ rest) a)
 
-reads_in : (entries front rest : List Timed) (t : Timed) (l m : Account) → ShowsAccount entries → Passes entries front rest t l m → ReadsIn (known front) l t.what
-reads_in entries front rest t l m s y p e h value a f n g =
-    s.reads front rest t h value a l y.parts y.account (e ∙ ap (λ (x : Packet). Async x) f) n (ap (answer_of (known front).standing) (sym f) ∙ g)
+reads_in : (entries prefix rest : List Timed) (t : Timed) (l m : Account) → ShowsAccount entries → Passes entries prefix rest t l m → ReadsIn (known prefix) l t.what
+reads_in entries prefix rest t l m s y p e h value a f n g =
+    s.reads prefix rest t h value a l y.parts y.account (e ∙ ap (λ (x : Packet). Async x) f) n (ap (answer_of (known prefix).standing) (sym f) ∙ g)
 
-pub seen : (entries front rest : List Timed) (t : Timed) (l m : Account) → ShowsAccount entries → Passes entries front rest t l m → IsFine front l → SeenIn t.what (known front) l m
-seen entries front rest t l m s y f =
-    entry_seen t.what (known front) l m (record { sound = y.sound; agrees = y.agrees; nodes = f.nodes }) f.stand (whole_known front) (reads_in entries front rest t l m s y) y.words y.next
+pub seen : (entries prefix rest : List Timed) (t : Timed) (l m : Account) → ShowsAccount entries → Passes entries prefix rest t l m → IsFine prefix l → SeenIn t.what (known prefix) l m
+seen entries prefix rest t l m s y f =
+    entry_seen t.what (known prefix) l m (record { sound = y.sound; agrees = y.agrees; nodes = f.nodes }) f.stand (whole_known prefix) (reads_in entries prefix rest t l m s y) y.words y.next
 
-pub fine_step : (entries front rest : List Timed) (t : Timed) (l m : Account) → ShowsAccount entries → Passes entries front rest t l m → IsFine front l → IsFine (front ++ t ∷ []) m
-fine_step entries front rest t l m s y f =
+pub fine_step : (entries prefix rest : List Timed) (t : Timed) (l m : Account) → ShowsAccount entries → Passes entries prefix rest t l m → IsFine prefix l → IsFine (prefix ++ t ∷ []) m
+fine_step entries prefix rest t l m s y f =
     let latest : m.latest ≡ latest_after t.what l.latest = next_latest t.what l m y.next in
-    let on : IsOnBus m.latest (after (known front) t) = step_on t (known front) l.latest m.latest y.fits latest f.nodes in
+    let on : IsOnBus m.latest (after (known prefix) t) = step_on t (known prefix) l.latest m.latest y.fits latest f.nodes in
     let P : List Timed → Type 0 = λ xs. All (λ (x : Timed). IsApartIn x.what) xs in
     let Q : State → Type 0 = λ z. IsOnBus m.latest z in
     let R : State → Type 0 = λ z. AllStand m z.standing in
     let S : State → Type 0 = λ z. KnowsWords z m in
-    let push : after (known front) t ≡ known (front ++ t ∷ []) = sym (known_push front t) in
+    let push : after (known prefix) t ≡ known (prefix ++ t ∷ []) = sym (known_push prefix t) in
     record {
       nodes = subst Q push on;
-      stand = subst R push (step_stands t (known front) l m (s.few front (t ∷ rest) y.parts) y.agrees.apart (apart_at front rest t (subst P y.parts s.others)) f.nodes f.stand y.next);
+      stand = subst R push (step_stands t (known prefix) l m (s.few prefix (t ∷ rest) y.parts) y.agrees.apart (apart_at prefix rest t (subst P y.parts s.others)) f.nodes f.stand y.next);
       knows = subst S push
-          (knows_step t (known front) l m (seen entries front rest t l m s y f) (whole_known front) (next_keeps l m t.what y.fits y.sound y.next) y.next latest y.agrees.apart on f.knows);
+          (knows_step t (known prefix) l m (seen entries prefix rest t l m s y f) (whole_known prefix) (next_keeps l m t.what y.fits y.sound y.next) y.next latest y.agrees.apart on f.knows);
     }
 
 -- ---- nothing is told
@@ -75,8 +75,8 @@ entry_quiet (Outcome o) s cycle l m x k = refl
 entry_quiet (Shown z) s cycle l m x k = glimpse_quiet (glimpse s (Shown z)) s cycle l m x k
 entry_quiet End s cycle l m x k = refl
 
-quiet : (entries front rest : List Timed) (t : Timed) (l m : Account) → ShowsAccount entries → Passes entries front rest t l m → IsFine front l → IsNone is_unseen (remarks (known front) t)
-quiet entries front rest t l m s y f = step_unseen (known front) t ∙ entry_quiet t.what (known front) t.cycle l m (seen entries front rest t l m s y f) f.knows
+quiet : (entries prefix rest : List Timed) (t : Timed) (l m : Account) → ShowsAccount entries → Passes entries prefix rest t l m → IsFine prefix l → IsNone is_unseen (remarks (known prefix) t)
+quiet entries prefix rest t l m s y f = step_unseen (known prefix) t ∙ entry_quiet t.what (known prefix) t.cycle l m (seen entries prefix rest t l m s y f) f.knows
 
 pub none_stand : AllStand no_account []
 none_stand c id r g e d at = cc
@@ -86,5 +86,5 @@ none_known n g v x = (let e = x.place in cc)
 
 pub none_unseen : (entries : List Timed) → IsOrderly entries → ShowsAccount entries → HasNone tells_unseen entries
 none_unseen entries o s =
-    none_in is_unseen entries IsFine o (λ front rest t l m y f. fine_step entries front rest t l m s y f) (λ front rest t l m y f. quiet entries front rest t l m s y f)
+    none_in is_unseen entries IsFine o (λ prefix rest t l m y f. fine_step entries prefix rest t l m s y f) (λ prefix rest t l m y f. quiet entries prefix rest t l m s y f)
     (record { nodes = tt; stand = none_stand; knows = none_known })

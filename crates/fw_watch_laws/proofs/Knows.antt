@@ -1,6 +1,25 @@
 -- What is known of a register after an entry.
 use Rattle.fw_watch_laws.proofs.Common.{◌≡◌, refl, ap, ◌∙◌, ℕ, ◌+◌, ◌*◌, ◌==◌, ◌&&◌, not, Bool, true, false, List, length, if◌then◌else◌, Option, Some, None, IfSome, unwrap_or, arith, All, Swap}
-use Rattle.fw_watch_laws.proofs.Common.{ResetEntry, EventEntry, register_at, is_managed, Entry, Reset, Async, Iso, Event, Outcome, Shown, End, Timed, Known, At, Register, Bandwidth, ChannelsHigh}
+use Rattle.fw_watch_laws.proofs.Common.{
+  ResetEntry,
+  EventEntry,
+  register_at,
+  is_managed,
+  Entry,
+  Reset,
+  Async,
+  Iso,
+  Event,
+  Outcome,
+  Shown,
+  End,
+  Timed,
+  Known,
+  At,
+  WatchedRegister,
+  Bandwidth,
+  ChannelsHigh,
+}
 use Rattle.fw_watch_laws.proofs.Common.{ChannelsLow, Output, Input, nothing_known, all_known, Answer, Channel, Second, State, after_heard, judged, judged_counts, answer_of, known_of, with_known}
 use Rattle.fw_watch_laws.proofs.Common.{reset_state, ended_second, is_manager, node_of_device, buried, after_death, swapped, Heed, Ignore, Refuse, Follow, made, after_made, after_found, with_manager}
 use Rattle.fw_watch_laws.proofs.Common.{after_shown_by, after_followed, heed, after_heeded, after_answer, after_answered, with_packet, after_packet, shown_at, after_word, after_shown, after_event}
@@ -67,7 +86,7 @@ node_if : (b : Bool) (a : At) → IsNumber a.register → IfSome (if b then None
 node_if true a n = tt
 node_if false a n = n
 
-at_number : (s : State) (node : Option ℕ) (o : Option Register) → IfSome o IsNumber → IfSome (shown_at_node s node o) (λ (x : At). IsNumber x.register)
+at_number : (s : State) (node : Option ℕ) (o : Option WatchedRegister) → IfSome o IsNumber → IfSome (shown_at_node s node o) (λ (x : At). IsNumber x.register)
 at_number s None o n = tt
 at_number s (Some node) None n = tt
 at_number s (Some node) (Some r) n = node_if (is_managed r && not (is_manager node s.manager)) (record { node = node; register = r }) n
@@ -77,7 +96,7 @@ unfolding shown_at
 shown_number s w = at_number s (node_of_device w.device s.nodes) (register_at (REGISTER_SPACE + w.offset)) (register_number (REGISTER_SPACE + w.offset))
 
 -- a bus reset fixes what is known of a register
-reset_by : (r : Register) (n cycle : ℕ) (e : ResetEntry) (s : State) → IsPlace (record { node = n; register = r }) → length s.plugs ≡ 3906
+reset_by : (r : WatchedRegister) (n cycle : ℕ) (e : ResetEntry) (s : State) → IsPlace (record { node = n; register = r }) → length s.plugs ≡ 3906
     → known_of (reset_state cycle e s) (record { node = n; register = r }) ≡ fixed (record { node = n; register = r })
 unfolding reset_state known_of
 reset_by Bandwidth n cycle e s p l = refl

@@ -1,11 +1,29 @@
 -- What a complete response to a lock shows of a register is the account's word.
 use Rattle.fw_watch_laws.proofs.Common.{◌≡◌, refl, ap, sym, ◌∙◌, subst, inl, inr, ℕ, ◌==◌, true, false, List, Option, Some, None, eq-eqb, same_Some, Swap, Procedure, label_code, Head, Packet}
-use Rattle.fw_watch_laws.proofs.Common.{LockReply, Account, Operation, Request, Reply, Locked, Place, word_of, looked_packet, ShowsWords, Register, all_known, Asking, SwapOf, Asked, Answer, State}
+use Rattle.fw_watch_laws.proofs.Common.{
+  LockReply,
+  Account,
+  Operation,
+  Request,
+  Reply,
+  Locked,
+  Place,
+  word_of,
+  looked_packet,
+  ShowsWords,
+  WatchedRegister,
+  all_known,
+  Asking,
+  SwapOf,
+  Asked,
+  Answer,
+  State,
+}
 use Rattle.fw_watch_laws.proofs.Common.{is_read, answers, answered, node_of, made_by, lock_answer, old_word, heed, glimpse_by}
 use Rattle.fw_model_account.specs.Packets.{after_packet}
 use Rattle.fw_model_account.proofs.Packets.{device_below}
 use Rattle.fw_model_audit.specs.Looked.{Replies, quadlet_in}
-use Rattle.fw_watch_known.specs.Standing.{answer_of_node}
+use Rattle.fw_watch_requests.specs.Standing.{answer_of_node}
 use Rattle.fw_watch_laws.proofs.Answered.{IsIn, answered_in, of_all, IsLockAnswer}
 use Rattle.fw_watch_laws.proofs.Labels.{IsOwn}
 use Rattle.fw_watch_laws.proofs.Matches.{asking_of, IsSame}
@@ -71,12 +89,12 @@ pub lock_seen : (o : Option Swap) (s : State) (l m : Account) (p : Packet) (a : 
 lock_seen None s l m p a k c w n e = unchanged_seen s l m p a k c w n e
 lock_seen (Some swap) s l m p a k c w n e = made_seen s l m p a swap k c w n e
 
--- ---- a lock that no request that stands is answered by
+-- ---- a lock that no outstanding request is answered by
 
 is_read_not : (o : Operation) (w : Swap) → asking_of o ≡ SwapOf w → is_read (asking_of o) ≡ false
 is_read_not o w e = ap is_read e
 
-answers_own : (h : Head) (id : ℕ) (r : Request) (g : Register) → id ≡ h.destination → r.target ≡ h.source → h.tl ≡ label_code Procedure → is_read (asking_of r.operation) ≡ false
+answers_own : (h : Head) (id : ℕ) (r : Request) (g : WatchedRegister) → id ≡ h.destination → r.target ≡ h.source → h.tl ≡ label_code Procedure → is_read (asking_of r.operation) ≡ false
     → answers false h (asked_of id r g) ≡ true
 unfolding answers
 answers_own h id r g a b c d = rw (eq-eqb id h.destination a, eq-eqb r.target h.source b, eq-eqb (label_code Procedure) h.tl (sym c), d) refl

@@ -1,7 +1,22 @@
 -- What is known of the resource manager's registers is the account's.
 use Rattle.fw_watch_laws.proofs.Common.{◌≡◌, ◌≢◌, refl, ap, sym, ◌∙◌, subst, inl, inr, ◌⊎◌, ℕ, ◌+◌, ◌<◌, ◌==◌, ◌&&◌, not, Bool, true, false, if◌then◌else◌, Option, Some, None, unwrap_or, arith}
 use Rattle.fw_watch_laws.proofs.Common.{true≢false, nat_tests, same_Some, flag, ResetEntry, Entry, Reset, Async, Iso, Event, Outcome, Shown, End, Timed, Account, after_reset, next_account, Place}
-use Rattle.fw_watch_laws.proofs.Common.{BandwidthAvailable, ChannelsAvailable, word_of, Known, Managed, Register, Bandwidth, ChannelsHigh, ChannelsLow, Output, Input, all_known, bit_of, is_managed}
+use Rattle.fw_watch_laws.proofs.Common.{
+  BandwidthAvailable,
+  ChannelsAvailable,
+  word_of,
+  Known,
+  Managed,
+  WatchedRegister,
+  Bandwidth,
+  ChannelsHigh,
+  ChannelsLow,
+  Output,
+  Input,
+  all_known,
+  bit_of,
+  is_managed,
+}
 use Rattle.fw_watch_laws.proofs.Common.{State, known_of, reset_state, after_what, ticked, after, IsPlace, Glimpse, glimpse, is_same_by, left, fixed}
 use Rattle.fw_model_account.proofs.Bounds.{IsThere}
 use Rattle.fw_model_account.proofs.Resets.{reset_remainder}
@@ -18,7 +33,8 @@ use Rattle.fw_watch_laws.proofs.Followed.{SeenIn}
 use Rattle.fw_watch_laws.proofs.Flows.{KnowsManaged}
 
 -- a register of the account that is the resource manager's is known as that
-pub is_managed_at : (r : Register) (g : Register) (o : Option ResetEntry) (n : ℕ) (b : Bool) (v : Place) → is_managed g ≡ true → Stands o n r v → v ≡ managed_of g → is_same_by r g b ≡ true
+pub is_managed_at : (r : WatchedRegister) (g : WatchedRegister) (o : Option ResetEntry) (n : ℕ) (b : Bool) (v : Place) → is_managed g ≡ true → Stands o n r v → v ≡ managed_of g
+    → is_same_by r g b ≡ true
 is_managed_at Bandwidth Bandwidth o n b v h x e = refl
 is_managed_at Bandwidth ChannelsHigh o n b v h x e = (let f = managed o n Bandwidth v x refl in cc)
 is_managed_at Bandwidth ChannelsLow o n b v h x e = (let f = managed o n Bandwidth v x refl in cc)
@@ -46,7 +62,7 @@ is_managed_at (Input k) (Output j) o n b v h x e = cc
 is_managed_at (Input k) (Input j) o n b v h x e = cc
 
 -- and one that is known as that is it
-pub is_that : (r : Register) (g : Register) (o : Option ResetEntry) (n : ℕ) (b : Bool) (v : Place) → is_managed g ≡ true → Stands o n r v → is_same_by r g b ≡ true → v ≡ managed_of g
+pub is_that : (r : WatchedRegister) (g : WatchedRegister) (o : Option ResetEntry) (n : ℕ) (b : Bool) (v : Place) → is_managed g ≡ true → Stands o n r v → is_same_by r g b ≡ true → v ≡ managed_of g
 is_that Bandwidth Bandwidth o n b v h x e = managed o n Bandwidth v x refl
 is_that Bandwidth ChannelsHigh o n b v h x e = cc
 is_that Bandwidth ChannelsLow o n b v h x e = cc
@@ -76,7 +92,7 @@ is_that (Input k) (Input j) o n b v h x e = cc
 -- ---- what is kept by each entry
 
 -- what holds of what is known and of the word
-left_if : (b : Bool) (P : Known → ℕ → Type 0) (gl : Glimpse) (g : Register) (k : Known) (l m : Account) → ((w : ℕ) → P (all_known w) w) → is_managed g ≡ true → IsThere l.latest (managed_of g)
+left_if : (b : Bool) (P : Known → ℕ → Type 0) (gl : Glimpse) (g : WatchedRegister) (k : Known) (l m : Account) → ((w : ℕ) → P (all_known w) w) → is_managed g ≡ true → IsThere l.latest (managed_of g)
     → is_same_by gl.at.register g (gl.at.node == 0) ≡ b → Sees l m gl → P k (word_of l (managed_of g)) → P (unwrap_or (if b then Some gl.left else None) k) (word_of m (managed_of g))
 left_if true P gl g k l m all h there e x p =
     let same : x.place ≡ managed_of g = is_that gl.at.register g l.latest gl.at.node (gl.at.node == 0) x.place h x.stands e in
@@ -88,14 +104,14 @@ left_if false P gl g k l m all h there e x p =
     let Q : ℕ → Type 0 = λ w. P k w in
     subst Q (sym (x.others (managed_of g) there other)) p
 
-left_managed : (o : Option Glimpse) (P : Known → ℕ → Type 0) (g : Register) (k : Known) (l m : Account) (r : ResetEntry) → ((w : ℕ) → P (all_known w) w) → is_managed g ≡ true
+left_managed : (o : Option Glimpse) (P : Known → ℕ → Type 0) (g : WatchedRegister) (k : Known) (l m : Account) (r : ResetEntry) → ((w : ℕ) → P (all_known w) w) → is_managed g ≡ true
     → IsThere l.latest (managed_of g) → l.latest ≡ Some r → Seen l m o → P k (word_of l (managed_of g))
     → P (unwrap_or (left_by o (record { node = 0; register = g })) k) (word_of m (managed_of g))
 left_managed None P g k l m r all h there e x p = let Q : ℕ → Type 0 = λ w. P k w in subst Q (sym (x r e (managed_of g))) p
 left_managed (Some gl) P g k l m r all h there e x p = left_if (is_same_by gl.at.register g (gl.at.node == 0)) P gl g k l m all h there refl x p
 
 -- of an entry that is no bus reset
-entry_managed : (e : Entry) (P : Known → ℕ → Type 0) (g : Register) (k : Known) (s : State) (l m : Account) (r : ResetEntry) → ((w : ℕ) → P (all_known w) w) → is_managed g ≡ true
+entry_managed : (e : Entry) (P : Known → ℕ → Type 0) (g : WatchedRegister) (k : Known) (s : State) (l m : Account) (r : ResetEntry) → ((w : ℕ) → P (all_known w) w) → is_managed g ≡ true
     → IsThere l.latest (managed_of g) → l.latest ≡ Some r → SeenIn e s l m → P k (word_of l (managed_of g))
     → ((q : ResetEntry) → e ≡ Reset q → P (fixed (record { node = 0; register = g })) (word_of m (managed_of g)))
     → P (unwrap_or (left s e (record { node = 0; register = g })) k) (word_of m (managed_of g))
@@ -142,7 +158,7 @@ reset_managed_knows r l k h w e = record {
   low = λ at a b c. open_at r l 32 at a b;
 }
 
-place_zero : (g : Register) → is_managed g ≡ true → IsPlace (record { node = 0; register = g })
+place_zero : (g : WatchedRegister) → is_managed g ≡ true → IsPlace (record { node = 0; register = g })
 place_zero Bandwidth h = record { node = omega arith; number = tt }
 place_zero ChannelsHigh h = record { node = omega arith; number = tt }
 place_zero ChannelsLow h = record { node = omega arith; number = tt }
@@ -150,7 +166,8 @@ place_zero (Output k) h = cc
 place_zero (Input k) h = cc
 
 -- what is known of one of them after an entry
-one_step : (P : Known → ℕ → Type 0) (g : Register) (t : Timed) (s : State) (l m : Account) (r : ResetEntry) → ((w : ℕ) → P (all_known w) w) → is_managed g ≡ true → IsThere l.latest (managed_of g)
+one_step : (P : Known → ℕ → Type 0) (g : WatchedRegister) (t : Timed) (s : State) (l m : Account) (r : ResetEntry) → ((w : ℕ) → P (all_known w) w) → is_managed g ≡ true
+    → IsThere l.latest (managed_of g)
     → l.latest ≡ Some r → Whole s → SeenIn t.what s l m → P (known_of s (record { node = 0; register = g })) (word_of l (managed_of g))
     → ((q : ResetEntry) → t.what ≡ Reset q → P (fixed (record { node = 0; register = g })) (word_of m (managed_of g)))
     → P (known_of (after s t) (record { node = 0; register = g })) (word_of m (managed_of g))

@@ -1,6 +1,24 @@
 -- No swap leaves more units than there are.
 use Rattle.fw_watch_laws.proofs.Common.{◌≡◌, refl, ap, ◌∙◌, subst, ℕ, ◌-◌, ◌≤◌, nat_lt, Bool, true, false, List, Option, Some, None, arith, ⊤, nat_tests, Swap, ResetEntry, Timed, Account, total}
-use Rattle.fw_watch_laws.proofs.Common.{Place, word_of, place_at, Register, Bandwidth, ChannelsHigh, ChannelsLow, Output, Input, is_managed, Said, Answer, State, Made, made, IsOrderly, offset_of}
+use Rattle.fw_watch_laws.proofs.Common.{
+  Place,
+  word_of,
+  place_at,
+  WatchedRegister,
+  Bandwidth,
+  ChannelsHigh,
+  ChannelsLow,
+  Output,
+  Input,
+  is_managed,
+  Said,
+  Answer,
+  State,
+  Made,
+  made,
+  IsOrderly,
+  offset_of,
+}
 use Rattle.fw_watch_laws.proofs.Common.{HasNone}
 use Rattle.fw_model_account.specs.Moves.{after}
 use Rattle.fw_watch.specs.Swaps.{many_remarks}
@@ -15,13 +33,13 @@ use Rattle.fw_watch_laws.proofs.Swaps.{IsAccountSwap}
 use Rattle.fw_watch_laws.proofs.AtManager.{silent}
 
 -- the register of the account is the one that it is told as
-pub managed_in : (o : Option ResetEntry) (n : ℕ) (r : Register) (v : Place) → is_managed r ≡ true → place_at o n (offset_of r) ≡ Some v → v ≡ managed_of r
+pub managed_in : (o : Option ResetEntry) (n : ℕ) (r : WatchedRegister) (v : Place) → is_managed r ≡ true → place_at o n (offset_of r) ≡ Some v → v ≡ managed_of r
 managed_in None n r v m e = cc
 managed_in (Some q) n r v m e = (managed_place r q n v m e).1
 
-pub managed_is : (l m : Account) (a : Answer) (swap : Swap) (r : Register) (i : IsAccountSwap l m a swap) → a.at.register ≡ r → is_managed r ≡ true → i.register ≡ managed_of r
+pub managed_is : (l m : Account) (a : Answer) (swap : Swap) (r : WatchedRegister) (i : IsAccountSwap l m a swap) → a.at.register ≡ r → is_managed r ≡ true → i.register ≡ managed_of r
 managed_is l m a swap r i e h =
-    let P : Register → Type 0 = λ x. place_at l.latest a.at.node (offset_of x) ≡ Some i.register in
+    let P : WatchedRegister → Type 0 = λ x. place_at l.latest a.at.node (offset_of x) ≡ Some i.register in
     managed_in l.latest a.at.node r i.register h (subst P e i.place)
 
 few_none : (q : Said → Bool) (m : Made) → m.new ≤ 4915 → IsNone q (many_remarks m)
@@ -42,7 +60,7 @@ left_after l m a swap i e =
     let w : 4915 - total (after i.controller x.plug x.move l).allocations ≡ swap.new = subst P (managed_is l m a swap Bandwidth i e refl) x.is.later in
     omega (arith, w)
 
-none_odd : (r : Register) (l m : Account) (a : Answer) (swap : Swap) (cycle : ℕ) (u : State) → IsAccountSwap l m a swap → a.at.register ≡ r
+none_odd : (r : WatchedRegister) (l m : Account) (a : Answer) (swap : Swap) (cycle : ℕ) (u : State) → IsAccountSwap l m a swap → a.at.register ≡ r
     → NoneOdd (λ (s : Said). is_too_many s.remark) r u (made cycle a swap)
 none_odd Bandwidth l m a swap cycle u i e =
     (few_none (λ (s : Said). is_too_many s.remark) (made cycle a swap) (left_after l m a swap i e), units_free _ u (made cycle a swap) (free OfUnits refl))
@@ -53,5 +71,5 @@ none_odd (Input k) l m a swap cycle u i e = more_free _ (made cycle a swap) (fre
 
 pub none_too_many : (entries : List Timed) → IsOrderly entries → HasNone is_too_many entries
 none_too_many entries o =
-    silent (λ (s : Said). is_too_many s.remark) entries (λ front l. ⊤) o of_swaps (λ front rest t l m y p. tt) tt
-    (λ front rest t l m a swap u y p i e. none_odd a.at.register l m a swap t.cycle u i refl)
+    silent (λ (s : Said). is_too_many s.remark) entries (λ prefix l. ⊤) o of_swaps (λ prefix rest t l m y p. tt) tt
+    (λ prefix rest t l m a swap u y p i e. none_odd a.at.register l m a swap t.cycle u i refl)

@@ -1,10 +1,10 @@
 -- A request of a procedure that stands in `watch` is the one that is outstanding in the account, if one is at the same node.
 use Rattle.fw_watch_laws.proofs.Common.{◌≡◌, refl, ap, sym, ◌∙◌, ℕ, zero, suc, ◌==◌, ◌&&◌, not, Bool, true, false, List, [], ◌∷◌, ◌++◌, length, if◌then◌else◌, Option, Some, None, arith, get_or}
 use Rattle.fw_watch_laws.proofs.Common.{true≢false, All, filter, eq-eqb, eqb-true, All-filter, same_Some, update, Procedure, label_code, Head, ResetEntry, device_of_id, Account, Operation, Reads}
-use Rattle.fw_watch_laws.proofs.Common.{Locks, Request, asked, Register, register_at, Asking, Read, Asked, lock_of, is_of, without_same, asked_at_register, with_request}
+use Rattle.fw_watch_laws.proofs.Common.{Locks, Request, asked, WatchedRegister, register_at, Asking, Read, Asked, lock_of, is_of, without_same, asked_at_register, with_request}
 use Rattle.std.proofs.Common.{drop}
 use Rattle.std.proofs.lemmas.List.Elements.{All-append, All-drop, filter_passes}
-use Rattle.fw_watch_known.specs.Standing.{latest}
+use Rattle.fw_watch_requests.specs.Standing.{latest}
 
 -- no two node IDs are of one device
 abbrev pub IsApart : Option ResetEntry → Type 0
@@ -15,7 +15,7 @@ abbrev pub asking_of : Operation → Asking
 asking_of Reads = Read
 asking_of (Locks function bytes) = lock_of function bytes
 
--- a request that stands is this one
+-- an outstanding request is this one
 pub record IsSame (r : Request) (q : Asked) : Type 0 where
   pub register : register_at r.address ≡ Some q.register
   pub asking : q.asking ≡ asking_of r.operation
@@ -33,7 +33,7 @@ ended_matched l m c q e f h d r label device out target =
     none_here true o x e = cc
     none_here false o x e = e
 
--- a request that stands beside a new one of a procedure is of another node, or to another
+-- an outstanding request beside a new one of a procedure is of another node, or to another
 pub other_matched : (b : Bool) (l : Account) (h : Head) (address c : ℕ) (operation : Operation) (q : Asked) (d : ℕ) (r : Request) → (d == c) ≡ b → IsApart l.latest
     → h.tl ≡ label_code Procedure → device_of_id l.latest h.source ≡ Some c → is_of h q ≡ false → IsMatched l q
     → q.label ≡ label_code Procedure → device_of_id l.latest q.source ≡ Some d
@@ -81,8 +81,8 @@ one_more P xs q a p = latest_if (length (xs ++ q ∷ []) == 257) (xs ++ q ∷ []
     latest_if true ys y = All-drop P 1 ys y
     latest_if false ys y = y
 
-pub more_matched : (m : Account) (xs : List Asked) (h : Head) (o : Option Register) (asking : Asking) → All (IsMatched m) xs
-    → ((r : Register) → o ≡ Some r → IsMatched m (record { source = h.source; destination = h.destination; label = h.tl; register = r; asking = asking }))
+pub more_matched : (m : Account) (xs : List Asked) (h : Head) (o : Option WatchedRegister) (asking : Asking) → All (IsMatched m) xs
+    → ((r : WatchedRegister) → o ≡ Some r → IsMatched m (record { source = h.source; destination = h.destination; label = h.tl; register = r; asking = asking }))
     → All (IsMatched m) (with_request (asked_at_register h o asking) xs)
 more_matched m xs h None asking a f = a
 more_matched m xs h (Some r) asking a f = one_more (IsMatched m) xs _ a (f r refl)

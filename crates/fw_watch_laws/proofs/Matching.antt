@@ -1,16 +1,16 @@
--- Requests that stand and requests that are outstanding, after a packet.
+-- Requests that are outstanding and requests that are outstanding, after a packet.
 use Rattle.fw_watch_laws.proofs.Common.{◌≡◌, refl, ap, sym, ◌∙◌, subst, ℕ, ◌==◌, not, Bool, true, false, List, if◌then◌else◌, Option, Some, None, is_none, ◌&&◌, get_or, All, eqb-true, eq-eqb}
 use Rattle.fw_watch_laws.proofs.Common.{All-filter, same_Some, update, PlugAt, Procedure, label_code, Head, Packet, WriteQuadlet, WriteBlock, WriteReply, ReadQuadlet, ReadBlock, ReadQuadletReply}
 use Rattle.fw_watch_laws.proofs.Common.{ReadBlockReply, CycleStart, LockRequest, LockReply, device_of_id, Account, Operation, Reads, Locks, Request, Move, AllocateChannel, AllocateUnits, ConnectFirst}
 use Rattle.fw_watch_laws.proofs.Common.{ConnectOverlaid, ConnectInput, DisconnectInput, DisconnectOutput, ReleaseUnits, ReleaseChannel, Place, register_of, move_at, asked_by, Reply, ReadReply, Locked}
 use Rattle.fw_watch_laws.proofs.Common.{ended, is_swapped, replied, is_reply_to, quadlet_at, register_at, Asking, Read, Asked, lock_of, answers, without_same, without_answered, asked_at_register}
-use Rattle.fw_watch_laws.proofs.Common.{with_request, standing_behind}
+use Rattle.fw_watch_laws.proofs.Common.{with_request, standing_following}
 use Rattle.fw_model_account.specs.Moves.{after}
 use Rattle.fw_model_account.specs.Packets.{asked as asked_in, moved}
 use Rattle.fw_model_account.specs.Packets.{swapped, replied_to, answered as answered_in, after_packet}
 use Rattle.fw_watch_laws.proofs.Matches.{IsApart, IsMatched, asking_of, ended_matched, other_matched, new_matched, within, more_matched}
 
--- the requests that stand are matched
+-- the outstanding requests are matched
 abbrev pub AllMatched : Account → List Asked → Type 0
 AllMatched l xs = All (IsMatched l) xs
 
@@ -133,8 +133,8 @@ left_all l read h xs a = All-filter (λ q. not (answers read h q)) (IsMatched l)
 -- ---- packets
 
 -- they are matched after a packet, if the account goes on
-pub packet_matched : (p : Packet) (l m : Account) (xs : List Asked) → IsApart l.latest → AllMatched l xs → after_packet p l ≡ Some m → AllMatched m (standing_behind p xs)
-unfolding standing_behind
+pub packet_matched : (p : Packet) (l m : Account) (xs : List Asked) → IsApart l.latest → AllMatched l xs → after_packet p l ≡ Some m → AllMatched m (standing_following p xs)
+unfolding standing_following
 packet_matched (WriteQuadlet h offset value) l m xs i a e = let P : Account → Type 0 = λ x. AllMatched x (without_same h xs) in subst P (same_Some l m e) (same_matched l h xs a)
 packet_matched (WriteBlock h offset bytes) l m xs i a e = let P : Account → Type 0 = λ x. AllMatched x (without_same h xs) in subst P (same_Some l m e) (same_matched l h xs a)
 packet_matched (WriteReply h rcode) l m xs i a e = let P : Account → Type 0 = λ x. AllMatched x xs in subst P (same_Some l m e) a

@@ -1,10 +1,10 @@
--- Requests that stand in a list.
+-- Requests that are outstanding in a list.
 use Rattle.fw_watch_laws.proofs.Common.{◌≡◌, refl, ap, ◌∙◌, inl, inr, ◌⊎◌, ℕ, suc, ◌+◌, ◌<◌, not, nat_lt, Bool, true, false, List, [], ◌∷◌, ◌++◌, length, if◌then◌else◌, Some, arith, get_or, ◌==◌}
 use Rattle.fw_watch_laws.proofs.Common.{filter, nat_tests, Head, Asked, answers, answered}
 use Rattle.std.proofs.Common.{drop, length-append}
 use Rattle.std.specs.List.{position, position_or_len}
 use Rattle.std.proofs.lemmas.Option.{slice_get-get_or}
-use Rattle.fw_watch_known.specs.Standing.{asked_at, latest}
+use Rattle.fw_watch_requests.specs.Standing.{asked_at, latest}
 
 -- a request is in the list
 abbrev pub IsMember : Asked → List Asked → Type 0

@@ -1,7 +1,7 @@
 -- No swap changes more of a plug than a connection.
 use Rattle.fw_watch_laws.proofs.Common.{◌≡◌, refl, ap, sym, ◌∙◌, subst, inl, inr, ℕ, ◌<◌, ◌≤◌, ◌||◌, nat_lt, Bool, true, false, List, Option, Some, arith, ⊤, cases_Bool, nat_tests, Swap, PlugAt}
 use Rattle.fw_watch_laws.proofs.Common.{Settings, ResetEntry, Timed, Account, Move, AllocateChannel, AllocateUnits, ConnectFirst, ConnectOverlaid, ConnectInput, DisconnectInput, DisconnectOutput}
-use Rattle.fw_watch_laws.proofs.Common.{ReleaseUnits, ReleaseChannel, Place, OutputPlug, InputPlug, word_of, place_at, register_of_move, IsSound, Register, Bandwidth, ChannelsHigh, ChannelsLow}
+use Rattle.fw_watch_laws.proofs.Common.{ReleaseUnits, ReleaseChannel, Place, OutputPlug, InputPlug, word_of, place_at, register_of_move, IsSound, WatchedRegister, Bandwidth, ChannelsHigh, ChannelsLow}
 use Rattle.fw_watch_laws.proofs.Common.{Output, Input, Said, Answer, State, Made, made, IsNumber, IsOrderly, offset_of, HasNone}
 use Rattle.fw_terms.proofs.Tables.{update_plug_same}
 use Rattle.fw_plug.specs.Words.{FitsRegister, OutFields, InFields, out_word, in_word}
@@ -151,7 +151,7 @@ input_plug (ReleaseUnits ch u) p q e = cc
 input_plug (ReleaseChannel ch) p q e = cc
 
 -- each swap at a plug is a move of it
-swap_moves : (r : Register) (l m : Account) (a : Answer) (swap : Swap) (v : Place) (i : IsAccountSwap l m a swap) → i.register ≡ v
+swap_moves : (r : WatchedRegister) (l m : Account) (a : Answer) (swap : Swap) (v : Place) (i : IsAccountSwap l m a swap) → i.register ≡ v
     → (register_of_move i.move.plug i.move.move ≡ v → is_move r (word_of l v) (word_of (after i.controller i.move.plug i.move.move l) v) ≡ true)
     → is_move r swap.argument swap.new ≡ true
 swap_moves r l m a swap v i e f =
@@ -163,8 +163,8 @@ swap_moves r l m a swap v i e f =
 output_swap : (l m : Account) (a : Answer) (swap : Swap) (k : ℕ) → IsSound l → IsAccountSwap l m a swap → a.at.register ≡ Output k → is_move (Output k) swap.argument swap.new ≡ true
 output_swap l m a swap k s i e =
     let x = i.move in
-    let P : Register → Type 0 = λ r. place_at l.latest a.at.node (offset_of r) ≡ Some i.register in
-    let N : Register → Type 0 = λ r. IsNumber r in
+    let P : WatchedRegister → Type 0 = λ r. place_at l.latest a.at.node (offset_of r) ≡ Some i.register in
+    let N : WatchedRegister → Type 0 = λ r. IsNumber r in
     let y = output_place l.latest a.at.node k i.register (subst N e i.number) (subst P e i.place) in
     swap_moves (Output k) l m a swap (OutputPlug y.0) i y.1
     (λ f. (let same : x.plug ≡ y.0 = output_plug x.move x.plug y.0 f in
@@ -174,8 +174,8 @@ output_swap l m a swap k s i e =
 input_swap : (l m : Account) (a : Answer) (swap : Swap) (k : ℕ) → IsSound l → IsAccountSwap l m a swap → a.at.register ≡ Input k → is_move (Input k) swap.argument swap.new ≡ true
 input_swap l m a swap k s i e =
     let x = i.move in
-    let P : Register → Type 0 = λ r. place_at l.latest a.at.node (offset_of r) ≡ Some i.register in
-    let N : Register → Type 0 = λ r. IsNumber r in
+    let P : WatchedRegister → Type 0 = λ r. place_at l.latest a.at.node (offset_of r) ≡ Some i.register in
+    let N : WatchedRegister → Type 0 = λ r. IsNumber r in
     let y = input_place l.latest a.at.node k i.register (subst N e i.number) (subst P e i.place) in
     swap_moves (Input k) l m a swap (InputPlug y.0) i y.1
     (λ f. (let same : x.plug ≡ y.0 = input_plug x.move x.plug y.0 f in
@@ -191,17 +191,17 @@ free k n x e = is_more_by x.remark ∙ ap is_of_more e ∙ n
 of_swaps : IsOfSwaps (λ (s : Said). is_more s.remark)
 of_swaps = record { reset = free OfReset refl; word = free OfWord refl; swap = free OfSwap refl; channel = free OfChannel refl }
 
-none_odd : (r : Register) (l m : Account) (a : Answer) (swap : Swap) (cycle : ℕ) (u : State) → IsSound l → IsAccountSwap l m a swap → a.at.register ≡ r
+none_odd : (r : WatchedRegister) (l m : Account) (a : Answer) (swap : Swap) (cycle : ℕ) (u : State) → IsSound l → IsAccountSwap l m a swap → a.at.register ≡ r
     → NoneOdd (λ (s : Said). is_more s.remark) r u (made cycle a swap)
 none_odd Bandwidth l m a swap cycle u s i e = (many_free _ (made cycle a swap) (free OfMany refl), units_free _ u (made cycle a swap) (free OfUnits refl))
 none_odd ChannelsHigh l m a swap cycle u s i e = (new_free _ u (made cycle a swap) 0 (free OfNew refl), several_free _ (made cycle a swap) (free OfSeveral refl))
 none_odd ChannelsLow l m a swap cycle u s i e = (new_free _ u (made cycle a swap) 32 (free OfNew refl), several_free _ (made cycle a swap) (free OfSeveral refl))
 none_odd (Output k) l m a swap cycle u s i e =
-    move_none _ (made cycle a swap) (ap (λ (r : Register). is_move r swap.argument swap.new) e ∙ output_swap l m a swap k s i e)
+    move_none _ (made cycle a swap) (ap (λ (r : WatchedRegister). is_move r swap.argument swap.new) e ∙ output_swap l m a swap k s i e)
 none_odd (Input k) l m a swap cycle u s i e =
-    move_none _ (made cycle a swap) (ap (λ (r : Register). is_move r swap.argument swap.new) e ∙ input_swap l m a swap k s i e)
+    move_none _ (made cycle a swap) (ap (λ (r : WatchedRegister). is_move r swap.argument swap.new) e ∙ input_swap l m a swap k s i e)
 
 pub none_more : (entries : List Timed) → IsOrderly entries → HasNone is_more entries
 none_more entries o =
-    silent (λ (s : Said). is_more s.remark) entries (λ front l. ⊤) o of_swaps (λ front rest t l m y p. tt) tt
-    (λ front rest t l m a swap u y p i e. none_odd a.at.register l m a swap t.cycle u y.sound i refl)
+    silent (λ (s : Said). is_more s.remark) entries (λ prefix l. ⊤) o of_swaps (λ prefix rest t l m y p. tt) tt
+    (λ prefix rest t l m a swap u y p i e. none_odd a.at.register l m a swap t.cycle u y.sound i refl)

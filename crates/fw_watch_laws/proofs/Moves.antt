@@ -1,6 +1,6 @@
 -- What entries change in the rows of channels.
 use Rattle.fw_watch_laws.proofs.Common.{◌≡◌, refl, ap, ◌∙◌, ℕ, ◌-◌, ◌==◌, ◌&&◌, ◌||◌, not, nat_le, nat_lt, Bool, true, false, length, if◌then◌else◌, Option, Some, None, eq-eqb, Swap, Known, At}
-use Rattle.fw_watch_laws.proofs.Common.{Register, Bandwidth, ChannelsHigh, ChannelsLow, Output, Input, nothing_known, all_known, bit_of, Answer, State, Made, judged, judged_counts, known_of}
+use Rattle.fw_watch_laws.proofs.Common.{WatchedRegister, Bandwidth, ChannelsHigh, ChannelsLow, Output, Input, nothing_known, all_known, bit_of, Answer, State, Made, judged, judged_counts, known_of}
 use Rattle.fw_watch_laws.proofs.Common.{with_known, with_known_plug, holder_of, with_holder, swapped_by, swapped, made, after_made, after_found, after_shown_by, IsPlace, is_same_by, word_left}
 use Rattle.fw_watch_laws.proofs.Common.{known_left}
 use Rattle.fw_watch_remarks.specs.Knowing.{differ, is_forgotten, channel_of}
@@ -13,7 +13,7 @@ use Rattle.fw_watch_laws.proofs.Turns.{Turns, stay, turn_as, turn_both, or_false
 abbrev pub Step : ℕ → Bool → State → State → Type 0
 Step k b s t = Turns k b s.channels t.channels
 
-put_by : (r : Register) (n k : ℕ) (s : State) (now : Known)
+put_by : (r : WatchedRegister) (n k : ℕ) (s : State) (now : Known)
     → Step k (changes r (known_of s (record { node = n; register = r })) now k) s (with_known s (record { node = n; register = r }) now)
 unfolding with_known with_known_plug known_of
 put_by Bandwidth n k s now = stay k s.channels
@@ -55,7 +55,7 @@ same_option (Some j) = eq-eqb j j refl
 plug_none : (o : Option ℕ) (k : ℕ) → false ≡ plug_changes o o k
 plug_none o k = rw (same_option o) refl
 
-pub same_changes : (r : Register) (x : Known) (k : ℕ) → false ≡ changes r x x k
+pub same_changes : (r : WatchedRegister) (x : Known) (k : ℕ) → false ≡ changes r x x k
 same_changes Bandwidth x k = refl
 same_changes ChannelsHigh x k = half_none 0 k x
 same_changes ChannelsLow x k = half_none 32 k x
@@ -69,7 +69,7 @@ unfolding with_holder
 holder_moves None m first k s = stay k s.channels
 holder_moves (Some holder) m first k s = dues_turn 32 k first m.old m.new (record { holder = holder; since = m.cycle }) s.plugs s.channels
 
-by_moves : (r : Register) (m : Made) (k : ℕ) (s : State) → Step k false s (swapped_by r m s)
+by_moves : (r : WatchedRegister) (m : Made) (k : ℕ) (s : State) → Step k false s (swapped_by r m s)
 by_moves Bandwidth m k s = stay k s.channels
 by_moves ChannelsHigh m k s = holder_moves (holder_of m.by) m 0 k s
 by_moves ChannelsLow m k s = holder_moves (holder_of m.by) m 32 k s
@@ -85,7 +85,7 @@ swapped_moves k s m =
     (turn_both k b false s.channels t.channels (swapped s m).channels (put_moves k s m.at (all_known m.new)) (by_moves m.at.register m k t))
 
 -- what is known after a word that was judged is that word
-same_place : (r : Register) (n : ℕ) → is_same_by r r (n == n) ≡ true
+same_place : (r : WatchedRegister) (n : ℕ) → is_same_by r r (n == n) ≡ true
 same_place Bandwidth n = refl
 same_place ChannelsHigh n = refl
 same_place ChannelsLow n = refl

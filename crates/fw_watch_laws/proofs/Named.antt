@@ -1,6 +1,6 @@
 -- If the account has a register, `watch` has one.
 use Rattle.fw_watch_laws.proofs.Common.{◌≡◌, refl, ap, sym, ◌∙◌, ℕ, ◌+◌, ◌-◌, ◌*◌, ◌%◌, ◌<◌, ◌≤◌, ◌==◌, ◌&&◌, nat_le, nat_lt, Bool, true, false, if◌then◌else◌, Option, Some, None, slice_get, arith}
-use Rattle.fw_watch_laws.proofs.Common.{eqb-true, nat_tests, same_Some, ResetEntry, NodeRow, first_id, Place, BandwidthAvailable, ChannelsAvailable, place_at, register_of, is_node, Register}
+use Rattle.fw_watch_laws.proofs.Common.{eqb-true, nat_tests, same_Some, ResetEntry, NodeRow, first_id, Place, BandwidthAvailable, ChannelsAvailable, place_at, register_of, is_node, WatchedRegister}
 use Rattle.fw_watch_laws.proofs.Common.{Bandwidth, ChannelsHigh, ChannelsLow, Output, Input, register_at, node_of, IsNumber, offset_of}
 use Rattle.std.proofs.Common.{◌/◌}
 use Rattle.std.specs.Option.{option_or}
@@ -13,7 +13,7 @@ use Rattle.fw_watch_remarks.specs.Registers.{plug_number, output_or, input_of, p
 
 -- an offset is that of a register
 pub record IsOffset (offset : ℕ) : Type 0 where
-  pub register : Register
+  pub register : WatchedRegister
   pub number : IsNumber register
   pub is : offset ≡ offset_of register
 
@@ -81,7 +81,7 @@ no_output address h =
     rw t refl
 
 -- none of the resource manager's
-not_managed : (address : ℕ) (o : Option Register) → OPCR ≤ address → plug_at address ≡ o → register_at address ≡ o
+not_managed : (address : ℕ) (o : Option WatchedRegister) → OPCR ≤ address → plug_at address ≡ o → register_at address ≡ o
 unfolding register_at
 not_managed address o h e =
     let a : (address == BANDWIDTH_AVAILABLE) ≡ false = grind (arith, nat_tests, h) in
@@ -89,7 +89,7 @@ not_managed address o h e =
     let c : (address == CHANNELS_AVAILABLE_LO) ≡ false = grind (arith, nat_tests, h) in
     rw (a, b, c) e
 
-pub at_address : (g : Register) → IsNumber g → register_at (first_address + offset_of g) ≡ Some g
+pub at_address : (g : WatchedRegister) → IsNumber g → register_at (first_address + offset_of g) ≡ Some g
 unfolding register_at
 at_address Bandwidth h = refl
 at_address ChannelsHigh h = refl
@@ -108,7 +108,7 @@ at_address (Input k) h =
 
 -- the address is that of a register of `watch`, at a node of the bus
 pub record IsNamed (id address : ℕ) : Type 0 where
-  pub register : Register
+  pub register : WatchedRegister
   pub at : register_at address ≡ Some register
   pub node : ℕ
   pub node_is : node_of id ≡ Some node

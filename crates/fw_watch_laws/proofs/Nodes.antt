@@ -1,6 +1,27 @@
 -- There are at most 63 nodes, so what entries show is of registers that there are.
 use Rattle.fw_watch_laws.proofs.Common.{◌≡◌, refl, ap, sym, subst, ℕ, ◌+◌, ◌<◌, ◌≤◌, ◌==◌, ◌&&◌, not, nat_le, nat_lt, Bool, true, false, List, [], ◌∷◌, ◌++◌, length, if◌then◌else◌, Option, Some, None}
-use Rattle.fw_watch_laws.proofs.Common.{IfSome, arith, All, NodeRow, EventEntry, Entry, Reset, Async, Iso, Event, Outcome, Shown, End, Timed, Fits, InOrder, At, Register, register_at, is_managed}
+use Rattle.fw_watch_laws.proofs.Common.{
+  IfSome,
+  arith,
+  All,
+  NodeRow,
+  EventEntry,
+  Entry,
+  Reset,
+  Async,
+  Iso,
+  Event,
+  Outcome,
+  Shown,
+  End,
+  Timed,
+  Fits,
+  InOrder,
+  At,
+  WatchedRegister,
+  register_at,
+  is_managed,
+}
 use Rattle.fw_watch_laws.proofs.Common.{Answer, Channel, Second, State, answer_of, no_state, reset_state, ended_second, is_manager, manager_by, node_of_device, buried, after_death, Ignore, Refuse}
 use Rattle.fw_watch_laws.proofs.Common.{Follow, heed, with_packet, after_packet, shown_at, after_shown, after_event, after_what, packet_of, after, known_from, known, IsNumber, IsPlace, Glimpse}
 use Rattle.fw_watch_laws.proofs.Common.{glimpse_by, answer_glimpse, word_glimpse, glimpse}
@@ -64,8 +85,8 @@ few_from last s [] rest h w = w
 few_from last s (t ∷ ts) rest h w = few_from t.cycle (after s t) ts rest h.3 (few_step s t h.1.entry w)
 
 -- after the first entries of a log there are at most 63
-pub few_known : (front rest : List Timed) → InOrder 0 (front ++ rest) → Few (known front)
-few_known front rest h = few_from 0 no_state front rest h (record { count = omega arith; nodes = omega arith })
+pub few_known : (prefix rest : List Timed) → InOrder 0 (prefix ++ rest) → Few (known prefix)
+few_known prefix rest h = few_from 0 no_state prefix rest h (record { count = omega arith; nodes = omega arith })
 
 -- ---- what entries show
 
@@ -100,7 +121,7 @@ place_if : (b : Bool) (a : At) → IsPlace a → IfSome (if b then None else Som
 place_if true a p = tt
 place_if false a p = p
 
-place_at : (s : State) (node : Option ℕ) (o : Option Register) → IfSome node (λ n. n < 63) → IfSome o IsNumber → IfSome (shown_at_node s node o) IsPlace
+place_at : (s : State) (node : Option ℕ) (o : Option WatchedRegister) → IfSome node (λ n. n < 63) → IfSome o IsNumber → IfSome (shown_at_node s node o) IsPlace
 place_at s None o h n = tt
 place_at s (Some node) None h n = tt
 place_at s (Some node) (Some r) h n =

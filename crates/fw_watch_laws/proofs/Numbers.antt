@@ -1,8 +1,8 @@
--- The requests that stand are at registers that there are.
+-- The outstanding requests are at registers that there are.
 use Rattle.fw_watch_laws.proofs.Common.{◌≡◌, refl, ℕ, zero, suc, ◌+◌, ◌-◌, ◌%◌, ◌<◌, ◌==◌, ◌&&◌, not, nat_le, nat_lt, Bool, true, false, List, [], ◌∷◌, ◌++◌, length, if◌then◌else◌, Option, Some, None}
 use Rattle.fw_watch_laws.proofs.Common.{IfSome, slice_get, arith, All, All-filter, Head, Packet, WriteQuadlet, WriteBlock, WriteReply, ReadQuadlet, ReadBlock, ReadQuadletReply, ReadBlockReply}
-use Rattle.fw_watch_laws.proofs.Common.{CycleStart, LockRequest, LockReply, Register, Bandwidth, ChannelsHigh, ChannelsLow, register_at, Asking, Read, Asked, Answer, lock_of, asked_at_register}
-use Rattle.fw_watch_laws.proofs.Common.{answers, is_of, is_from, without_answered, without_same, without_source, with_request, standing_behind, answered, node_of, old_word, lock_answer, answer_of}
+use Rattle.fw_watch_laws.proofs.Common.{CycleStart, LockRequest, LockReply, WatchedRegister, Bandwidth, ChannelsHigh, ChannelsLow, register_at, Asking, Read, Asked, Answer, lock_of, asked_at_register}
+use Rattle.fw_watch_laws.proofs.Common.{answers, is_of, is_from, without_answered, without_same, without_source, with_request, standing_following, answered, node_of, old_word, lock_answer, answer_of}
 use Rattle.fw_watch_laws.proofs.Common.{IsNumber}
 use Rattle.std.proofs.Common.{◌/◌}
 use Rattle.std.proofs.Common.{drop}
@@ -10,8 +10,8 @@ use Rattle.std.specs.List.{position}
 use Rattle.std.proofs.lemmas.List.Elements.{All-append, All-drop}
 use Rattle.fw_csr.specs.declared.offset.TheConstants.{BANDWIDTH_AVAILABLE, CHANNELS_AVAILABLE_HI, CHANNELS_AVAILABLE_LO, OPCR, IPCR}
 use Rattle.fw_watch_remarks.specs.Registers.{plug_number, output_or, input_of, plug_at}
-use Rattle.fw_watch_known.specs.Standing.{asked}
-use Rattle.fw_watch_known.specs.Standing.{asked_at, answer_of_node, read_answer}
+use Rattle.fw_watch_requests.specs.Standing.{asked}
+use Rattle.fw_watch_requests.specs.Standing.{asked_at, answer_of_node, read_answer}
 
 -- the register of a request is one that there is
 abbrev pub IsAt : Asked → Type 0
@@ -37,11 +37,11 @@ input_within : (o : Option ℕ) → IfSome o (λ k. k < 31) → IfSome (input_of
 input_within None h = tt
 input_within (Some n) h = h
 
-output_within : (o : Option ℕ) (rest : Option Register) → IfSome o (λ k. k < 31) → IfSome rest IsNumber → IfSome (output_or o rest) IsNumber
+output_within : (o : Option ℕ) (rest : Option WatchedRegister) → IfSome o (λ k. k < 31) → IfSome rest IsNumber → IfSome (output_or o rest) IsNumber
 output_within None rest h g = g
 output_within (Some n) rest h g = h
 
-either : (b : Bool) (x y : Option Register) → IfSome x IsNumber → IfSome y IsNumber → IfSome (if b then x else y) IsNumber
+either : (b : Bool) (x y : Option WatchedRegister) → IfSome x IsNumber → IfSome y IsNumber → IfSome (if b then x else y) IsNumber
 either true x y h g = h
 either false x y h g = g
 
@@ -53,7 +53,7 @@ register_number offset =
     (either (offset == CHANNELS_AVAILABLE_LO) (Some ChannelsLow) (plug_at offset) tt
     (output_within (plug_number OPCR offset) (input_of (plug_number IPCR offset)) (plug_within OPCR offset) (input_within (plug_number IPCR offset) (plug_within IPCR offset)))))
 
-asked_within : (h : Head) (o : Option Register) (asking : Asking) → IfSome o IsNumber → IfSome (asked_at_register h o asking) IsAt
+asked_within : (h : Head) (o : Option WatchedRegister) (asking : Asking) → IfSome o IsNumber → IfSome (asked_at_register h o asking) IsAt
 asked_within h None asking n = tt
 asked_within h (Some r) asking n = n
 
@@ -82,8 +82,8 @@ unfolding without_source
 source_within source list a = All-filter (λ q. not (is_from source q)) IsAt list a
 
 -- the requests after a packet are at registers that there are
-pub standing_within : (p : Packet) (list : List Asked) → All IsAt list → All IsAt (standing_behind p list)
-unfolding standing_behind
+pub standing_within : (p : Packet) (list : List Asked) → All IsAt list → All IsAt (standing_following p list)
+unfolding standing_following
 standing_within (WriteQuadlet h offset value) list a = same_within h list a
 standing_within (WriteBlock h offset bytes) list a = same_within h list a
 standing_within (WriteReply h rcode) list a = a

@@ -1,6 +1,21 @@
 -- Where a watched register stands, and which register of the account that is.
 use Rattle.fw_watch_laws.proofs.Common.{◌≡◌, refl, ap, sym, ◌∙◌, subst, ℕ, ◌+◌, ◌-◌, ◌*◌, ◌%◌, ◌<◌, ◌==◌, ◌&&◌, ◌||◌, nat_le, nat_lt, Bool, true, false, if◌then◌else◌, Option, Some, None, slice_get}
-use Rattle.fw_watch_laws.proofs.Common.{arith, eqb-true, same_Some, ResetEntry, NodeRow, first_id, Place, BandwidthAvailable, ChannelsAvailable, place_at, register_of, is_node, Register, Bandwidth}
+use Rattle.fw_watch_laws.proofs.Common.{
+  arith,
+  eqb-true,
+  same_Some,
+  ResetEntry,
+  NodeRow,
+  first_id,
+  Place,
+  BandwidthAvailable,
+  ChannelsAvailable,
+  place_at,
+  register_of,
+  is_node,
+  WatchedRegister,
+  Bandwidth,
+}
 use Rattle.fw_watch_laws.proofs.Common.{ChannelsHigh, ChannelsLow, Output, Input, register_at, is_managed, node_of, IsNumber, offset_of}
 use Rattle.std.proofs.Common.{◌/◌}
 use Rattle.std.specs.Option.{option_or}
@@ -20,29 +35,29 @@ number_at : (first address k : ℕ) → plug_number first address ≡ Some k →
 unfolding plug_number
 number_at first address k e = number_if (nat_le first address && nat_lt address (first + 124) && ((address - first) % 4 == 0)) first address k refl e
 
-input_at : (o : Option ℕ) (address : ℕ) (r : Register) → plug_number IPCR address ≡ o → input_of o ≡ Some r → address ≡ first_address + offset_of r
+input_at : (o : Option ℕ) (address : ℕ) (r : WatchedRegister) → plug_number IPCR address ≡ o → input_of o ≡ Some r → address ≡ first_address + offset_of r
 input_at None address r e f = cc
 input_at (Some k) address r e f =
-    let P : Register → Type 0 = λ x. address ≡ first_address + offset_of x in
+    let P : WatchedRegister → Type 0 = λ x. address ≡ first_address + offset_of x in
     let a = number_at IPCR address k e in
     subst P (same_Some (Input k) r f) (omega (arith, a))
 
-plug_at_offset : (o : Option ℕ) (address : ℕ) (r : Register) → plug_number OPCR address ≡ o → output_or o (input_of (plug_number IPCR address)) ≡ Some r → address ≡ first_address + offset_of r
+plug_at_offset : (o : Option ℕ) (address : ℕ) (r : WatchedRegister) → plug_number OPCR address ≡ o → output_or o (input_of (plug_number IPCR address)) ≡ Some r → address ≡ first_address + offset_of r
 plug_at_offset None address r e f = input_at (plug_number IPCR address) address r refl f
 plug_at_offset (Some k) address r e f =
-    let P : Register → Type 0 = λ x. address ≡ first_address + offset_of x in
+    let P : WatchedRegister → Type 0 = λ x. address ≡ first_address + offset_of x in
     let a = number_at OPCR address k e in
     subst P (same_Some (Output k) r f) (omega (arith, a))
 
-fixed_at : (b : Bool) (x r : Register) (rest : Option Register) (address first : ℕ) → (address == first) ≡ b → first ≡ first_address + offset_of x
+fixed_at : (b : Bool) (x r : WatchedRegister) (rest : Option WatchedRegister) (address first : ℕ) → (address == first) ≡ b → first ≡ first_address + offset_of x
     → (if b then Some x else rest) ≡ Some r → (rest ≡ Some r → address ≡ first_address + offset_of r) → address ≡ first_address + offset_of r
 fixed_at false x r rest address first e at f g = g f
 fixed_at true x r rest address first e at f g =
-    let P : Register → Type 0 = λ y. address ≡ first_address + offset_of y in
+    let P : WatchedRegister → Type 0 = λ y. address ≡ first_address + offset_of y in
     subst P (same_Some x r f) (eqb-true address first e ∙ at)
 
 -- the register that stands at an address stands at its offset
-pub offset_at : (address : ℕ) (r : Register) → register_at address ≡ Some r → address ≡ first_address + offset_of r
+pub offset_at : (address : ℕ) (r : WatchedRegister) → register_at address ≡ Some r → address ≡ first_address + offset_of r
 unfolding register_at
 offset_at address r e =
     fixed_at (address == BANDWIDTH_AVAILABLE) Bandwidth r _ address BANDWIDTH_AVAILABLE refl refl e
@@ -61,7 +76,7 @@ or_last : (x e : Bool) → e ≡ true → (x || e) ≡ true
 or_last true e f = refl
 or_last false e f = f
 
-pub watched : (r : Register) → IsNumber r → is_watched (offset_of r) ≡ true
+pub watched : (r : WatchedRegister) → IsNumber r → is_watched (offset_of r) ≡ true
 watched Bandwidth h = refl
 watched ChannelsHigh h = refl
 watched ChannelsLow h = refl
@@ -71,7 +86,7 @@ watched (Input k) h = or_last _ (is_plug_offset first_input (offset_of (Input k)
 -- ---- the registers of the account
 
 -- the one that stands at an address of a node stands at its offset there
-pub place_of : (latest : Option ResetEntry) (id address node : ℕ) (r : Register) (v : Place) → node_of id ≡ Some node → address ≡ first_address + offset_of r
+pub place_of : (latest : Option ResetEntry) (id address node : ℕ) (r : WatchedRegister) (v : Place) → node_of id ≡ Some node → address ≡ first_address + offset_of r
     → register_of latest id address ≡ Some v → place_at latest node (offset_of r) ≡ Some v
 place_of latest id address node r v n a e = at_id (nat_le 0xFFC0 id) refl n
   where
@@ -90,7 +105,7 @@ place_of latest id address node r v n a e = at_id (nat_le 0xFFC0 id) refl n
     at_id false f g = cc
 
 -- a managed register is the manager's
-abbrev pub managed_of : Register → Place
+abbrev pub managed_of : WatchedRegister → Place
 managed_of Bandwidth = BandwidthAvailable
 managed_of ChannelsHigh = ChannelsAvailable 0
 managed_of ChannelsLow = ChannelsAvailable 32
@@ -113,7 +128,7 @@ no_plug_28 : (o : Option NodeRow) → plug_register o 0x228 ≡ None
 no_plug_28 None = refl
 no_plug_28 (Some row) = refl
 
-pub managed_place : (reg : Register) (r : ResetEntry) (n : ℕ) (v : Place) → is_managed reg ≡ true → place_at (Some r) n (offset_of reg) ≡ Some v
+pub managed_place : (reg : WatchedRegister) (r : ResetEntry) (n : ℕ) (v : Place) → is_managed reg ≡ true → place_at (Some r) n (offset_of reg) ≡ Some v
     → (is_node n r.manager ≡ true) × (v ≡ managed_of reg)
 managed_place Bandwidth r n v m e = at_manager (is_node n r.manager) BandwidthAvailable v (plug_register (slice_get r.nodes n) 0x220) (no_plug_20 (slice_get r.nodes n)) e
 managed_place ChannelsHigh r n v m e = at_manager (is_node n r.manager) (ChannelsAvailable 0) v (plug_register (slice_get r.nodes n) 0x224) (no_plug_24 (slice_get r.nodes n)) e

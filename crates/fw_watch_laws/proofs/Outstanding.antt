@@ -6,7 +6,7 @@ use Rattle.fw_model_account.specs.Moves.{after}
 use Rattle.fw_model_account.specs.Decode.{IsMove}
 use Rattle.fw_model_account.specs.Packets.{moved, swapped, replied_to, answered, after_reply}
 use Rattle.fw_model_account.proofs.Decoded.{move_at_is}
-use Rattle.fw_watch_known.specs.declared.asked.Asking.TheVariants.{Lock}
+use Rattle.fw_watch_requests.specs.declared.asked.Asking.TheVariants.{Lock}
 use Rattle.fw_watch_laws.proofs.Matches.{asking_of}
 
 -- a response with the label of procedures is to the outstanding request of its requester, and the account goes on

@@ -1,12 +1,28 @@
 -- What a packet shows of a register is the account's word.
 use Rattle.fw_watch_laws.proofs.Common.{◌≡◌, ◌≢◌, refl, ap, sym, ◌∙◌, subst, ℕ, ◌==◌, Bool, true, false, if◌then◌else◌, Option, Some, None, true≢false, eqb-true, eq-eqb, same_Some, Procedure}
-use Rattle.fw_watch_laws.proofs.Common.{label_code, Head, Packet, ReadQuadletReply, device_of_id, Account, Request, ReadReply, Place, word_of, place_at, looked_packet, ShowsWords, Register, all_known}
+use Rattle.fw_watch_laws.proofs.Common.{
+  label_code,
+  Head,
+  Packet,
+  ReadQuadletReply,
+  device_of_id,
+  Account,
+  Request,
+  ReadReply,
+  Place,
+  word_of,
+  place_at,
+  looked_packet,
+  ShowsWords,
+  WatchedRegister,
+  all_known,
+}
 use Rattle.fw_watch_laws.proofs.Common.{Asking, Read, SwapOf, Asked, Answer, State, is_read, node_of, made_by, heed, IsNumber, glimpse_by, offset_of}
 use Rattle.std.proofs.Common.{option_map}
 use Rattle.fw_model_account.specs.Packets.{answered as answered_to, after_packet}
 use Rattle.fw_model_account.specs.Words.{word_at}
 use Rattle.fw_model_audit.specs.Looked.{Replies}
-use Rattle.fw_watch_known.specs.declared.asked.Asking.TheVariants.{Lock}
+use Rattle.fw_watch_requests.specs.declared.asked.Asking.TheVariants.{Lock}
 use Rattle.fw_watch_laws.proofs.Answered.{IsReadAnswer}
 use Rattle.fw_watch_laws.proofs.Matches.{IsSame}
 use Rattle.fw_watch_laws.proofs.Offsets.{place_of}
@@ -31,7 +47,7 @@ pub record Shows (l : Account) (a : Answer) (value : ℕ) : Type 0 where
 pub placed_stands : (l : Account) (r : Request) (q : Asked) (a : Answer) (o : Option ℕ) (y : IsPlaced l r q o) → r.target ≡ q.destination → node_of q.destination ≡ Some a.at.node
     → a.at.register ≡ q.register → Stands l.latest a.at.node a.at.register y.register
 placed_stands l r q a o y target node register =
-    let R : Register → Type 0 = λ z. Stands l.latest a.at.node z y.register in
+    let R : WatchedRegister → Type 0 = λ z. Stands l.latest a.at.node z y.register in
     subst R (sym register)
     (record { number = y.number; place = place_of l.latest r.target r.address a.at.node q.register y.register (ap node_of target ∙ node) y.address y.named })
 

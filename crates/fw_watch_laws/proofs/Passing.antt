@@ -17,45 +17,45 @@ use Rattle.fw_watch_laws.specs.Orderly.{IsLabelledIn}
 use Rattle.fw_watch_laws.proofs.Agrees.{Agrees, agrees_none, agrees_step}
 
 -- an entry after others of a log that has no fault, over the account of these
-pub record Passes (entries front rest : List Timed) (t : Timed) (l m : Account) : Type 0 where
-  pub parts : entries ≡ front ++ t ∷ rest
-  pub account : account_of (entries_of front) ≡ Some l
+pub record Passes (entries prefix rest : List Timed) (t : Timed) (l m : Account) : Type 0 where
+  pub parts : entries ≡ prefix ++ t ∷ rest
+  pub account : account_of (entries_of prefix) ≡ Some l
   pub fits : Fits t.what
   pub labelled : IsLabelledIn t.what
   pub sound : IsSound l
   pub words : ShowsWords l (looked t.what)
   pub next : next_account l t.what ≡ Some m
-  pub agrees : Agrees (known front) l
+  pub agrees : Agrees (known prefix) l
 
 -- so far it has passed
-pub record HasPassed (front : List Timed) (l : Account) : Type 0 where
-  pub account : account_of (entries_of front) ≡ Some l
+pub record HasPassed (prefix : List Timed) (l : Account) : Type 0 where
+  pub account : account_of (entries_of prefix) ≡ Some l
   pub sound : IsSound l
-  pub agrees : Agrees (known front) l
+  pub agrees : Agrees (known prefix) l
 
-push_entries : (front rest : List Timed) (t : Timed) → entries_of (front ++ t ∷ rest) ≡ entries_of front ++ t.what ∷ entries_of rest
-push_entries front rest t = map-append (λ (x : Timed). x.what) front (t ∷ rest)
+push_entries : (prefix rest : List Timed) (t : Timed) → entries_of (prefix ++ t ∷ rest) ≡ entries_of prefix ++ t.what ∷ entries_of rest
+push_entries prefix rest t = map-append (λ (x : Timed). x.what) prefix (t ∷ rest)
 
 -- an entry passes
-pub passes : (entries front ts : List Timed) (t : Timed) (l : Account) → IsAudited (entries_of entries) → entries ≡ front ++ t ∷ ts → Fits t.what → IsLabelledIn t.what → HasPassed front l
-    → (m : Account) × Passes entries front ts t l m
-passes entries front ts t l a e f b p =
-    let x = a (entries_of front) (entries_of ts) t.what (ap entries_of e ∙ push_entries front ts t) in
+pub passes : (entries prefix ts : List Timed) (t : Timed) (l : Account) → IsAudited (entries_of entries) → entries ≡ prefix ++ t ∷ ts → Fits t.what → IsLabelledIn t.what → HasPassed prefix l
+    → (m : Account) × Passes entries prefix ts t l m
+passes entries prefix ts t l a e f b p =
+    let x = a (entries_of prefix) (entries_of ts) t.what (ap entries_of e ∙ push_entries prefix ts t) in
     let same : x.0 ≡ l = same_Some x.0 l (sym x.1 ∙ p.account) in
     let P : Account → Type 0 = λ k. HasNoFault k (looked t.what) in
     let y = (no_fault l t.what p.sound).0 (subst P same x.2) in
     (y.0.0, record { parts = e; account = p.account; fits = f; labelled = b; sound = p.sound; words = y.1; next = y.0.1; agrees = p.agrees })
 
-pub known_push : (front : List Timed) (t : Timed) → known (front ++ t ∷ []) ≡ after (known front) t
-known_push front t = known_from_more no_state front (t ∷ [])
+pub known_push : (prefix : List Timed) (t : Timed) → known (prefix ++ t ∷ []) ≡ after (known prefix) t
+known_push prefix t = known_from_more no_state prefix (t ∷ [])
 
-pub passed : (entries front ts : List Timed) (t : Timed) (l m : Account) → Passes entries front ts t l m → HasPassed (front ++ t ∷ []) m
-passed entries front ts t l m p =
+pub passed : (entries prefix ts : List Timed) (t : Timed) (l m : Account) → Passes entries prefix ts t l m → HasPassed (prefix ++ t ∷ []) m
+passed entries prefix ts t l m p =
     let P : State → Type 0 = λ s. Agrees s m in
     record {
-      account = ap account_of (push_entries front [] t) ∙ account_of-push (entries_of front) t.what ∙ ap (λ (o : Option Account). next_of o t.what) p.account ∙ p.next;
+      account = ap account_of (push_entries prefix [] t) ∙ account_of-push (entries_of prefix) t.what ∙ ap (λ (o : Option Account). next_of o t.what) p.account ∙ p.next;
       sound = next_keeps l m t.what p.fits p.sound p.next;
-      agrees = subst P (sym (known_push front t)) (agrees_step t l m (known front) p.fits p.labelled p.next p.agrees);
+      agrees = subst P (sym (known_push prefix t)) (agrees_step t l m (known prefix) p.fits p.labelled p.next p.agrees);
     }
 
 -- ---- nothing is told
@@ -69,18 +69,18 @@ both_none q xs ys e f = filter-append q xs ys ∙ ap (λ (zs : List Said). zs ++
 
 -- what holds of each prefix and is kept by each entry, and of which nothing is told, is told of nowhere
 pub none_from : (q : Said → Bool) (entries : List Timed) (P : List Timed → Account → Type 0) → IsAudited (entries_of entries)
-    → ((front rest : List Timed) (t : Timed) (l m : Account) → Passes entries front rest t l m → P front l → P (front ++ t ∷ []) m)
-    → ((front rest : List Timed) (t : Timed) (l m : Account) → Passes entries front rest t l m → P front l → IsNone q (remarks (known front) t))
-    → (last : ℕ) (front ts : List Timed) (l : Account) → InOrder last ts → All (λ t. IsLabelledIn t.what) ts → entries ≡ front ++ ts → HasPassed front l → P front l
-    → IsNone q (remarks_from (known front) ts)
-none_from q entries P a step quiet last front [] l o b e h p = refl
-none_from q entries P a step quiet last front (t ∷ ts) l o b e h p =
-    let x = passes entries front ts t l a e o.1.entry (All-head (λ (y : Timed). IsLabelledIn y.what) t ts b) h in
-    let later : IsNone q (remarks_from (known (front ++ t ∷ [])) ts) =
-    none_from q entries P a step quiet t.cycle (front ++ t ∷ []) ts x.0 o.3 (All-tail (λ (y : Timed). IsLabelledIn y.what) t ts b)
-    (e ∙ sym (append_assoc front (t ∷ []) ts)) (passed entries front ts t l x.0 x.1) (step front ts t l x.0 x.1 p) in
+    → ((prefix rest : List Timed) (t : Timed) (l m : Account) → Passes entries prefix rest t l m → P prefix l → P (prefix ++ t ∷ []) m)
+    → ((prefix rest : List Timed) (t : Timed) (l m : Account) → Passes entries prefix rest t l m → P prefix l → IsNone q (remarks (known prefix) t))
+    → (last : ℕ) (prefix ts : List Timed) (l : Account) → InOrder last ts → All (λ t. IsLabelledIn t.what) ts → entries ≡ prefix ++ ts → HasPassed prefix l → P prefix l
+    → IsNone q (remarks_from (known prefix) ts)
+none_from q entries P a step quiet last prefix [] l o b e h p = refl
+none_from q entries P a step quiet last prefix (t ∷ ts) l o b e h p =
+    let x = passes entries prefix ts t l a e o.1.entry (All-head (λ (y : Timed). IsLabelledIn y.what) t ts b) h in
+    let later : IsNone q (remarks_from (known (prefix ++ t ∷ [])) ts) =
+    none_from q entries P a step quiet t.cycle (prefix ++ t ∷ []) ts x.0 o.3 (All-tail (λ (y : Timed). IsLabelledIn y.what) t ts b)
+    (e ∙ sym (append_assoc prefix (t ∷ []) ts)) (passed entries prefix ts t l x.0 x.1) (step prefix ts t l x.0 x.1 p) in
     let Q : State → Type 0 = λ s. IsNone q (remarks_from s ts) in
-    both_none q (remarks (known front) t) (remarks_from (after (known front) t) ts) (quiet front ts t l x.0 x.1 p) (subst Q (known_push front t) later)
+    both_none q (remarks (known prefix) t) (remarks_from (after (known prefix) t) ts) (quiet prefix ts t l x.0 x.1 p) (subst Q (known_push prefix t) later)
 
 none_first : (b : Bool) (x : Said) (xs : List Said) (rest : Bool) → (if b then x ∷ xs else xs) ≡ [] → (xs ≡ [] → rest ≡ false) → (b || rest) ≡ false
 none_first true x xs rest e f = cc
@@ -95,7 +95,7 @@ none_passed = record { account = refl; sound = starts_sound; agrees = agrees_non
 
 -- of a log
 pub none_in : (q : Said → Bool) (entries : List Timed) (P : List Timed → Account → Type 0) → IsOrderly entries
-    → ((front rest : List Timed) (t : Timed) (l m : Account) → Passes entries front rest t l m → P front l → P (front ++ t ∷ []) m)
-    → ((front rest : List Timed) (t : Timed) (l m : Account) → Passes entries front rest t l m → P front l → IsNone q (remarks (known front) t))
+    → ((prefix rest : List Timed) (t : Timed) (l m : Account) → Passes entries prefix rest t l m → P prefix l → P (prefix ++ t ∷ []) m)
+    → ((prefix rest : List Timed) (t : Timed) (l m : Account) → Passes entries prefix rest t l m → P prefix l → IsNone q (remarks (known prefix) t))
     → P [] no_account → list_any q (all_remarks entries) ≡ false
 none_in q entries P o step quiet p = none_any q (all_remarks entries) (none_from q entries P o.audited step quiet 0 [] entries no_account o.order o.labels refl none_passed p)

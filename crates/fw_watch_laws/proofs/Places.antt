@@ -1,5 +1,5 @@
 -- What is known of a register after one that was put.
-use Rattle.fw_watch_laws.proofs.Common.{◌≡◌, ◌≢◌, refl, ℕ, ◌+◌, ◌*◌, ◌<◌, ◌==◌, ◌&&◌, Bool, true, false, List, length, if◌then◌else◌, Some, None, unwrap_or, arith, get_or, Known, At, Register}
+use Rattle.fw_watch_laws.proofs.Common.{◌≡◌, ◌≢◌, refl, ℕ, ◌+◌, ◌*◌, ◌<◌, ◌==◌, ◌&&◌, Bool, true, false, List, length, if◌then◌else◌, Some, None, unwrap_or, arith, get_or, Known, At, WatchedRegister}
 use Rattle.fw_watch_laws.proofs.Common.{Bandwidth, ChannelsHigh, ChannelsLow, Output, Input, nothing_known, State, known_of, with_known, with_known_plug, IsNumber, IsPlace, is_same_by}
 use Rattle.std.proofs.Common.{set}
 use Rattle.std.proofs.lemmas.List.{get_or-set_other}
@@ -18,11 +18,11 @@ same_plug n m a b e = grind (arith, e)
 other_plug : (n m a b : ℕ) → a < 62 → b < 62 → ((n == m) && (a == b)) ≡ false → m * 62 + b ≢ n * 62 + a
 other_plug n m a b h g e = λ f. grind (arith, e, f, h, g)
 
-place : ℕ → Register → At
+place : ℕ → WatchedRegister → At
 place n r = record { node = n; register = r }
 
 -- what is known after one that was put: of the same register that, of another what was known
-put_by : (s : State) (n : ℕ) (r : Register) (m : ℕ) (q : Register) (k : Known) → IsNumber r → m < 63 → IsNumber q → length s.plugs ≡ 3906
+put_by : (s : State) (n : ℕ) (r : WatchedRegister) (m : ℕ) (q : WatchedRegister) (k : Known) → IsNumber r → m < 63 → IsNumber q → length s.plugs ≡ 3906
     → known_of (with_known s (place n r) k) (place m q) ≡ (if is_same_by r q (n == m) then k else known_of s (place m q))
 unfolding known_of with_known with_known_plug place
 put_by s n Bandwidth m Bandwidth k a h b l = refl

@@ -1,7 +1,33 @@
 -- What swaps, isochronous packets and time tell nothing of.
-use Rattle.fw_watch_laws.proofs.Common.{◌≡◌, refl, ℕ, zero, suc, ◌+◌, ◌==◌, ◌&&◌, ◌<◌, ◌≤◌, nat_lt, arith, Bool, true, false, List, [], ◌∷◌, ◌++◌, if◌then◌else◌, Option, Some, None, Swap, Register}
+use Rattle.fw_watch_laws.proofs.Common.{
+  ◌≡◌,
+  refl,
+  ℕ,
+  zero,
+  suc,
+  ◌+◌,
+  ◌==◌,
+  ◌&&◌,
+  ◌<◌,
+  ◌≤◌,
+  nat_lt,
+  arith,
+  Bool,
+  true,
+  false,
+  List,
+  [],
+  ◌∷◌,
+  ◌++◌,
+  if◌then◌else◌,
+  Option,
+  Some,
+  None,
+  Swap,
+  WatchedRegister,
+}
 use Rattle.fw_watch_laws.proofs.Common.{Bandwidth, ChannelsHigh, ChannelsLow, Output, Input, UnitsInSecond, NewInSecond, bit_of, Said, said, Answer, State, Made, channel_at, held_remarks, made}
-use Rattle.fw_watch_remarks.specs.declared.remark.Remark.TheVariants.{Units, Takes, Returns, Plug, TooMany, Several, MoreThanMove, Sends, Held, TwoSenders, NotTaken, OtherPlug}
+use Rattle.fw_watch_remarks.specs.declared.remark.Remark.TheVariants.{Units, Takes, Returns, Plug, TooMany, Several, MoreThanMove, Sends, UnusedChannel, TwoSenders, NotTaken, OtherPlug}
 use Rattle.fw_watch_known.specs.declared.channels.Late.{Late}
 use Rattle.fw_watch_known.specs.declared.hear.Heard.{Heard}
 use Rattle.fw_watch_known.specs.declared.hear.Packet.{Packet}
@@ -64,7 +90,7 @@ pub more_free : (q : Said → Bool) (m : Made) → IsFree q OfMore → IsNone q 
 more_free q m f = one_unless q (is_move m.at.register m.old m.new) (said m.cycle (MoreThanMove m.by m.at m.old m.new)) (f _ refl)
 
 -- what is odd in a swap is not told, by its register
-abbrev pub NoneOdd : (Said → Bool) → Register → State → Made → Type 0
+abbrev pub NoneOdd : (Said → Bool) → WatchedRegister → State → Made → Type 0
 NoneOdd q Bandwidth s m = IsNone q (many_remarks m) × IsNone q (new_units_remarks s m)
 NoneOdd q ChannelsHigh s m = NoneNew q s m 0 × IsNone q (several_remarks m)
 NoneOdd q ChannelsLow s m = NoneNew q s m 32 × IsNone q (several_remarks m)
@@ -97,7 +123,7 @@ plug_none : (q : Said → Bool) (m : Made) → IsFree q OfSwap → IsNone q (mor
 unfolding plug_remarks
 plug_none q m f g = one_more q (said m.cycle (Plug m.by m.at m.old m.new)) (more_remarks m) (f _ refl) g
 
-by_none : (r : Register) (q : Said → Bool) (s : State) (m : Made) → IsFree q OfSwap → NoneOdd q r s m → IsNone q (remarks_by r s m)
+by_none : (r : WatchedRegister) (q : Said → Bool) (s : State) (m : Made) → IsFree q OfSwap → NoneOdd q r s m → IsNone q (remarks_by r s m)
 by_none Bandwidth q s m f o = units_none q s m f o.0 o.1
 by_none ChannelsHigh q s m f o = channels_none q s m 0 f o.0 o.1
 by_none ChannelsLow q s m f o = channels_none q s m 32 f o.0 o.1
@@ -141,7 +167,7 @@ heard_none q s p f =
 
 late_none : (q : Said → Bool) (o : Option Late) → IsFree q OfChannel → IsNone q (late_remarks o)
 late_none q None f = refl
-late_none q (Some late) f = one_if q true (said (late.due.since + 8000) (Held late.due.holder late.channel)) (f _ refl)
+late_none q (Some late) f = one_if q true (said (late.due.since + 8000) (UnusedChannel late.due.holder late.channel)) (f _ refl)
 
 pub held_none : (q : Said → Bool) (n cycle : ℕ) (s : State) → IsFree q OfChannel → IsNone q (held_remarks n cycle s)
 unfolding held_remarks

@@ -1,7 +1,7 @@
 -- What remarks are told of.
 use Rattle.fw_watch_laws.proofs.Common.{◌≡◌, Bool, false, Unseen, UnitsInSecond, NewInSecond, Said}
 use Rattle.fw_watch_remarks.specs.declared.remark.Remark.{Remark}
-use Rattle.fw_watch_remarks.specs.declared.remark.Remark.TheVariants.{Reset, Units, Takes, Returns, Plug, Sends, Held, NotManager}
+use Rattle.fw_watch_remarks.specs.declared.remark.Remark.TheVariants.{Reset, Units, Takes, Returns, Plug, Sends, UnusedChannel, NotManager}
 use Rattle.fw_watch_remarks.specs.declared.remark.Remark.TheVariants.{TooMany, Several, MoreThanMove, TwoSenders, NotTaken, OtherPlug}
 
 -- bus resets, words, swaps that are not followed, swaps and what is odd in them, and channels
@@ -26,7 +26,7 @@ kind_of (Returns by channel) = OfSwap
 kind_of (Plug by at old new) = OfSwap
 kind_of (Unseen at known found) = OfWord
 kind_of (Sends node channel) = OfChannel
-kind_of (Held node channel) = OfChannel
+kind_of (UnusedChannel node channel) = OfChannel
 kind_of (NotManager by at manager) = OfRefused
 kind_of (TooMany by left) = OfMany
 kind_of (UnitsInSecond by epoch taken held) = OfUnits

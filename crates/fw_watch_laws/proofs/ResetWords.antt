@@ -1,6 +1,6 @@
 -- After a bus reset the words of the account have the bits that it fixes.
 use Rattle.fw_watch_laws.proofs.Common.{◌≡◌, refl, ap, ◌∙◌, subst, ℕ, ◌+◌, ◌*◌, ◌^◌, ◌<◌, Bool, true, false, Some, arith, Settings, ResetEntry, Account, after_reset, IsSound, Place, OutputPlug}
-use Rattle.fw_watch_laws.proofs.Common.{InputPlug, word_of, Register, Bandwidth, ChannelsHigh, ChannelsLow, Output, Input, all_known, differing, fixed, offset_of}
+use Rattle.fw_watch_laws.proofs.Common.{InputPlug, word_of, WatchedRegister, Bandwidth, ChannelsHigh, ChannelsLow, Output, Input, all_known, differing, fixed, offset_of}
 use Rattle.std.proofs.Common.{cond, bit_and}
 use Rattle.std.specs.Int.Bits.{xor_self, xor_zero_l}
 use Rattle.fw_plug.specs.Words.{FitsRegister, out_word, in_word}
@@ -34,7 +34,7 @@ input_differs channel w h e =
     let same : w ≡ 2 ^ 31 + channel * 2 ^ 16 = e ∙ omega arith in
     ap (differing reset_plug) same ∙ plug_differs (channel * 2 ^ 16) (omega (arith, h))
 
-pub reset_differs : (g : Register) (n : ℕ) (r : ResetEntry) (l : Account) (v : Place) → IsSound (after_reset r l) → Stands (Some r) n g v
+pub reset_differs : (g : WatchedRegister) (n : ℕ) (r : ResetEntry) (l : Account) (v : Place) → IsSound (after_reset r l) → Stands (Some r) n g v
     → differing (fixed (record { node = n; register = g })) (word_of (after_reset r l) v) ≡ 0
 reset_differs Bandwidth n r l v s x =
     ap (λ (y : Place). differing (all_known 4915) (word_of (after_reset r l) y)) (managed (Some r) n Bandwidth v x refl)

@@ -1,6 +1,20 @@
 -- Two registers of `watch` are one exactly if they are one of the account.
 use Rattle.fw_watch_laws.proofs.Common.{◌≡◌, refl, ap, sym, ◌∙◌, ℕ, ◌+◌, ◌==◌, ◌&&◌, Bool, true, Option, Some, arith, eqb-true, eq-eqb, same_Some, PlugAt, ResetEntry, first_id, device_of_id, Place}
-use Rattle.fw_watch_laws.proofs.Common.{BandwidthAvailable, ChannelsAvailable, OutputPlug, InputPlug, place_at, Register, Bandwidth, ChannelsHigh, ChannelsLow, Output, Input, is_managed, IsNumber}
+use Rattle.fw_watch_laws.proofs.Common.{
+  BandwidthAvailable,
+  ChannelsAvailable,
+  OutputPlug,
+  InputPlug,
+  place_at,
+  WatchedRegister,
+  Bandwidth,
+  ChannelsHigh,
+  ChannelsLow,
+  Output,
+  Input,
+  is_managed,
+  IsNumber,
+}
 use Rattle.fw_watch_laws.proofs.Common.{is_same_by, offset_of}
 use Rattle.fw_terms.specs.Tables.{at_plug}
 use Rattle.fw_log_entry.specs.Network.{row_of_node}
@@ -11,7 +25,7 @@ use Rattle.fw_watch_laws.proofs.Many.{managed_in}
 use Rattle.fw_watch_laws.proofs.PlugPlaces.{IsPlugOf, output_place, input_place}
 
 -- the register of the account at which one of `watch` stands
-pub record Stands (o : Option ResetEntry) (n : ℕ) (r : Register) (v : Place) : Type 0 where
+pub record Stands (o : Option ResetEntry) (n : ℕ) (r : WatchedRegister) (v : Place) : Type 0 where
   pub number : IsNumber r
   pub place : place_at o n (offset_of r) ≡ Some v
 
@@ -31,7 +45,7 @@ one_plug o n m k j p q apart x y e =
 both_same : (n m k j : ℕ) → n ≡ m → k ≡ j → ((n == m) && (k == j)) ≡ true
 both_same n m k j e f = rw (eq-eqb n m e, eq-eqb k j f) refl
 
-pub managed : (o : Option ResetEntry) (n : ℕ) (r : Register) (v : Place) → Stands o n r v → is_managed r ≡ true → v ≡ managed_of r
+pub managed : (o : Option ResetEntry) (n : ℕ) (r : WatchedRegister) (v : Place) → Stands o n r v → is_managed r ≡ true → v ≡ managed_of r
 managed o n r v x h = managed_in o n r v h x.place
 
 -- the halves are two
@@ -45,7 +59,7 @@ pub two_halves : ChannelsAvailable 0 ≡ ChannelsAvailable 32 → ⊥
 two_halves e = let g = ap base_of e in omega (arith, g)
 
 -- if they are one of the account
-pub same_place : (r : Register) (q : Register) (o : Option ResetEntry) (n m : ℕ) (v : Place) → IsApart o → Stands o n r v → Stands o m q v → is_same_by r q (n == m) ≡ true
+pub same_place : (r : WatchedRegister) (q : WatchedRegister) (o : Option ResetEntry) (n m : ℕ) (v : Place) → IsApart o → Stands o n r v → Stands o m q v → is_same_by r q (n == m) ≡ true
 same_place Bandwidth Bandwidth o n m v a x y = refl
 same_place Bandwidth ChannelsHigh o n m v a x y = (let e = managed o n Bandwidth v x refl in let f = managed o m ChannelsHigh v y refl in cc)
 same_place Bandwidth ChannelsLow o n m v a x y = (let e = managed o n Bandwidth v x refl in let f = managed o m ChannelsLow v y refl in cc)
@@ -101,13 +115,13 @@ both_true : (a b : Bool) → (a && b) ≡ true → (a ≡ true) × (b ≡ true)
 both_true true true e = (refl, refl)
 both_true a b e = cc
 
-plug_one : (o : Option ResetEntry) (n m k j : ℕ) (f : ℕ → Register) (v w : Place) → ((n == m) && (k == j)) ≡ true → Stands o n (f k) v → Stands o m (f j) w → v ≡ w
+plug_one : (o : Option ResetEntry) (n m k j : ℕ) (f : ℕ → WatchedRegister) (v w : Place) → ((n == m) && (k == j)) ≡ true → Stands o n (f k) v → Stands o m (f j) w → v ≡ w
 plug_one o n m k j f v w e x y =
     let b = both_true (n == m) (k == j) e in
     same_Some v w
     (sym x.place ∙ ap (λ (i : ℕ). place_at o i (offset_of (f k))) (eqb-true n m b.0) ∙ ap (λ (i : ℕ). place_at o m (offset_of (f i))) (eqb-true k j b.1) ∙ y.place)
 
-pub one_place : (r : Register) (q : Register) (o : Option ResetEntry) (n m : ℕ) (v w : Place) → is_same_by r q (n == m) ≡ true → Stands o n r v → Stands o m q w → v ≡ w
+pub one_place : (r : WatchedRegister) (q : WatchedRegister) (o : Option ResetEntry) (n m : ℕ) (v w : Place) → is_same_by r q (n == m) ≡ true → Stands o n r v → Stands o m q w → v ≡ w
 one_place Bandwidth Bandwidth o n m v w e x y = managed o n Bandwidth v x refl ∙ sym (managed o m Bandwidth w y refl)
 one_place Bandwidth ChannelsHigh o n m v w e x y = cc
 one_place Bandwidth ChannelsLow o n m v w e x y = cc

@@ -1,6 +1,24 @@
 -- What an entry makes of the second, and of the epoch.
 use Rattle.fw_watch_laws.proofs.Common.{◌≡◌, refl, ap, sym, ◌∙◌, ℕ, ◌==◌, Bool, true, false, List, if◌then◌else◌, Option, Some, None, is_none, Swap, Entry, Reset, Async, Iso, Event, Outcome, Shown}
-use Rattle.fw_watch_laws.proofs.Common.{End, Timed, At, Register, Bandwidth, ChannelsHigh, ChannelsLow, Output, Input, nothing_known, all_known, Answer, Channel, Second, State, Made, after_heard}
+use Rattle.fw_watch_laws.proofs.Common.{
+  End,
+  Timed,
+  At,
+  WatchedRegister,
+  Bandwidth,
+  ChannelsHigh,
+  ChannelsLow,
+  Output,
+  Input,
+  nothing_known,
+  all_known,
+  Answer,
+  Channel,
+  Second,
+  State,
+  Made,
+  after_heard,
+}
 use Rattle.fw_watch_laws.proofs.Common.{judged, answer_of, with_known, reset_state, ticked_second, ended_second, node_of_device, buried, after_death, holder_of, with_holder, swapped_by, swapped, Heed}
 use Rattle.fw_watch_laws.proofs.Common.{Ignore, Refuse, Follow, made, after_made, after_found, with_manager, after_shown_by, after_followed, heed, after_heeded, after_answer, after_answered}
 use Rattle.fw_watch_laws.proofs.Common.{with_packet, after_packet, shown_at, after_word, after_shown, after_event, after_what, packet_of, ticked, after}
@@ -12,7 +30,7 @@ use Rattle.fw_watch_laws.proofs.Silent.{put_second, judged_second, manager_secon
 -- ---- swaps
 
 -- a swap that was made counts units
-abbrev pub made_second : Option Swap → Register → Second → Second
+abbrev pub made_second : Option Swap → WatchedRegister → Second → Second
 made_second None r d = d
 made_second (Some swap) Bandwidth d = counted_second swap.argument swap.new d
 made_second (Some swap) ChannelsHigh d = d
@@ -55,7 +73,7 @@ unfolding with_holder
 holder_second None m first s = refl
 holder_second (Some holder) m first s = refl
 
-by_second : (r : Register) (cycle : ℕ) (a : Answer) (swap : Swap) (s : State) → (swapped_by r (made cycle a swap) s).second ≡ made_second (Some swap) r s.second
+by_second : (r : WatchedRegister) (cycle : ℕ) (a : Answer) (swap : Swap) (s : State) → (swapped_by r (made cycle a swap) s).second ≡ made_second (Some swap) r s.second
 by_second Bandwidth cycle a swap s = refl
 by_second ChannelsHigh cycle a swap s = holder_second (holder_of a.by) (made cycle a swap) 0 s
 by_second ChannelsLow cycle a swap s = holder_second (holder_of a.by) (made cycle a swap) 32 s

@@ -1,7 +1,20 @@
 -- No swap changes more than one channel.
 use Rattle.fw_watch_laws.proofs.Common.{◌≡◌, ◌≢◌, refl, ap, sym, ◌∙◌, subst, inl, inr, ℕ, zero, suc, ◌+◌, ◌-◌, ◌<◌, ◌≤◌, ◌==◌, nat_lt, Bool, true, false, List, Option, None, arith, ⊤, nat_tests, Swap}
 use Rattle.fw_watch_laws.proofs.Common.{update, PlugAt, flag, Timed, Account, Allocation, Move, AllocateChannel, AllocateUnits, ConnectFirst, ConnectOverlaid, ConnectInput, DisconnectInput}
-use Rattle.fw_watch_laws.proofs.Common.{DisconnectOutput, ReleaseUnits, ReleaseChannel, ChannelsAvailable, word_of, register_of_move, Register, Bandwidth, ChannelsHigh, ChannelsLow, Output, Input}
+use Rattle.fw_watch_laws.proofs.Common.{
+  DisconnectOutput,
+  ReleaseUnits,
+  ReleaseChannel,
+  ChannelsAvailable,
+  word_of,
+  register_of_move,
+  WatchedRegister,
+  Bandwidth,
+  ChannelsHigh,
+  ChannelsLow,
+  Output,
+  Input,
+}
 use Rattle.fw_watch_laws.proofs.Common.{bit_of, Said, Answer, State, Made, made, IsOrderly, HasNone}
 use Rattle.std.proofs.lemmas.Bool.{cases_eq}
 use Rattle.fw_model_account.specs.Account.{is_open}
@@ -121,7 +134,7 @@ one_channel l m a swap cycle base i e =
     let d = swap_differs l m a swap base i e in
     one_none _ (made cycle a swap) d.0 d.1
 
-none_odd : (r : Register) (l m : Account) (a : Answer) (swap : Swap) (cycle : ℕ) (u : State) → IsAccountSwap l m a swap → a.at.register ≡ r
+none_odd : (r : WatchedRegister) (l m : Account) (a : Answer) (swap : Swap) (cycle : ℕ) (u : State) → IsAccountSwap l m a swap → a.at.register ≡ r
     → NoneOdd (λ (s : Said). is_several s.remark) r u (made cycle a swap)
 none_odd Bandwidth l m a swap cycle u i e = (many_free _ (made cycle a swap) (free OfMany refl), units_free _ u (made cycle a swap) (free OfUnits refl))
 none_odd ChannelsHigh l m a swap cycle u i e =
@@ -133,5 +146,5 @@ none_odd (Input k) l m a swap cycle u i e = more_free _ (made cycle a swap) (fre
 
 pub none_several : (entries : List Timed) → IsOrderly entries → HasNone is_several entries
 none_several entries o =
-    silent (λ (s : Said). is_several s.remark) entries (λ front l. ⊤) o of_swaps (λ front rest t l m y p. tt) tt
-    (λ front rest t l m a swap u y p i e. none_odd a.at.register l m a swap t.cycle u i refl)
+    silent (λ (s : Said). is_several s.remark) entries (λ prefix l. ⊤) o of_swaps (λ prefix rest t l m y p. tt) tt
+    (λ prefix rest t l m a swap u y p i e. none_odd a.at.register l m a swap t.cycle u i refl)

@@ -1,7 +1,22 @@
 -- What a shown word shows of a register is the account's word, and events change none.
 use Rattle.fw_watch_laws.proofs.Common.{◌≡◌, refl, ap, sym, ◌∙◌, ℕ, ◌+◌, ◌<◌, ◌==◌, ◌&&◌, not, nat_lt, Bool, true, false, List, length, if◌then◌else◌, Option, Some, None, is_some, arith, same_Some}
 use Rattle.fw_watch_laws.proofs.Common.{NodeRow, EventEntry, ResetEntry, first_id, Account, after_second, after_withholding, IsSound, Place, BandwidthAvailable, ChannelsAvailable, OutputPlug}
-use Rattle.fw_watch_laws.proofs.Common.{InputPlug, word_of, place_at, ShowsWords, Register, register_at, is_managed, all_known, State, node_of_device, is_manager, shown_at, IsNumber, word_glimpse}
+use Rattle.fw_watch_laws.proofs.Common.{
+  InputPlug,
+  word_of,
+  place_at,
+  ShowsWords,
+  WatchedRegister,
+  register_at,
+  is_managed,
+  all_known,
+  State,
+  node_of_device,
+  is_manager,
+  shown_at,
+  IsNumber,
+  word_glimpse,
+}
 use Rattle.fw_watch_laws.proofs.Common.{offset_of}
 use Rattle.std.specs.List.{position_or_len}
 use Rattle.std.proofs.lemmas.Option.{cond_some}
@@ -51,7 +66,7 @@ shown_place (Some r) s w node v b n e =
     below true k f = refl
     below false k f = cc
 
-shown_by : (b : Bool) (s : State) (l : Account) (w : ShownEntry) (node : ℕ) (g : Register) → IsOnBus l.latest s → ShowsWords l (ShowsEntry w) → node_of_device w.device s.nodes ≡ Some node
+shown_by : (b : Bool) (s : State) (l : Account) (w : ShownEntry) (node : ℕ) (g : WatchedRegister) → IsOnBus l.latest s → ShowsWords l (ShowsEntry w) → node_of_device w.device s.nodes ≡ Some node
     → register_at (REGISTER_SPACE + w.offset) ≡ Some g → Seen l l (word_glimpse (if b then None else Some (record { node = node; register = g })) w.word)
 shown_by true s l w node g b h n at = λ r e v. refl
 shown_by false s l w node g b h n at =
@@ -67,7 +82,7 @@ shown_by false s l w node g b h n at =
       others = λ v t u. refl;
     }
 
-shown_if : (o : Option ℕ) (g : Option Register) (s : State) (l : Account) (w : ShownEntry) → IsOnBus l.latest s → ShowsWords l (ShowsEntry w) → node_of_device w.device s.nodes ≡ o
+shown_if : (o : Option ℕ) (g : Option WatchedRegister) (s : State) (l : Account) (w : ShownEntry) → IsOnBus l.latest s → ShowsWords l (ShowsEntry w) → node_of_device w.device s.nodes ≡ o
     → register_at (REGISTER_SPACE + w.offset) ≡ g → Seen l l (word_glimpse (shown_at_node s o g) w.word)
 shown_if None g s l w b h n at = λ r e v. refl
 shown_if (Some node) None s l w b h n at = λ r e v. refl

@@ -1,6 +1,25 @@
 -- An entry tells nothing of swaps if each swap that it has made is followed, and nothing in it is odd.
 use Rattle.fw_watch_laws.proofs.Common.{◌≡◌, refl, ap, sym, ◌∙◌, subst, ℕ, ◌==◌, Bool, false, List, Option, Some, None, Swap, Packet, Entry, Reset, Async, Iso, Event, Outcome, Shown, End, Timed}
-use Rattle.fw_watch_laws.proofs.Common.{Known, At, Register, Bandwidth, ChannelsHigh, ChannelsLow, Output, Input, Unseen, all_known, differing, Said, said, Answer, Channel, Second, State, judged}
+use Rattle.fw_watch_laws.proofs.Common.{
+  Known,
+  At,
+  WatchedRegister,
+  Bandwidth,
+  ChannelsHigh,
+  ChannelsLow,
+  Output,
+  Input,
+  Unseen,
+  all_known,
+  differing,
+  Said,
+  said,
+  Answer,
+  Channel,
+  Second,
+  State,
+  judged,
+}
 use Rattle.fw_watch_laws.proofs.Common.{answer_of, known_of, with_known, with_known_plug, Heed, Ignore, Refuse, Follow, heed, made, with_manager, with_packet, held_remarks, judge_remarks, shown_at}
 use Rattle.fw_watch_laws.proofs.Common.{packet_of, ticked, remarks}
 use Rattle.fw_watch_remarks.specs.declared.remark.Remark.TheVariants.{Reset as ResetRemark}
@@ -21,7 +40,7 @@ pub record IsOfSwaps (q : Said → Bool) : Type 0 where
 
 -- ---- the second stays as words are judged
 
-pub put_second : (r : Register) (s : State) (n : ℕ) (k : Known) → (with_known s (record { node = n; register = r }) k).second ≡ s.second
+pub put_second : (r : WatchedRegister) (s : State) (n : ℕ) (k : Known) → (with_known s (record { node = n; register = r }) k).second ≡ s.second
 unfolding with_known with_known_plug
 put_second Bandwidth s n k = refl
 put_second ChannelsHigh s n k = refl

@@ -1,22 +1,22 @@
 -- The outstanding request of a controller, if it is at a watched register, stands in `watch`.
 use Rattle.fw_watch_laws.proofs.Common.{◌≡◌, ◌≢◌, refl, ap, sym, ◌∙◌, subst, ℕ, ◌<◌, ◌==◌, ◌&&◌, not, Bool, true, false, List, [], ◌∷◌, ◌++◌, length, if◌then◌else◌, Option, Some, None, arith}
-use Rattle.fw_watch_laws.proofs.Common.{true≢false, filter, eqb-true, eq-eqb, nat_tests, same_Some, Procedure, label_code, Head, ResetEntry, device_of_id, Account, Operation, Request, Register}
+use Rattle.fw_watch_laws.proofs.Common.{true≢false, filter, eqb-true, eq-eqb, nat_tests, same_Some, Procedure, label_code, Head, ResetEntry, device_of_id, Account, Operation, Request, WatchedRegister}
 use Rattle.fw_watch_laws.proofs.Common.{register_at, Asking, Asked, is_of, answers, is_read, without_same, without_answered, asked_at_register, with_request}
 use Rattle.std.proofs.lemmas.List.Sums.{length-filter}
 use Rattle.std.proofs.lemmas.List.Sums.{count_by-le-length}
 use Rattle.fw_model_account.specs.Packets.{asked as asked_in}
-use Rattle.fw_watch_known.specs.Standing.{alike, latest}
+use Rattle.fw_watch_requests.specs.Standing.{alike, latest}
 use Rattle.fw_watch_laws.proofs.Matches.{IsApart, asking_of}
 use Rattle.fw_watch_laws.proofs.Matching.{IsEnded}
 use Rattle.fw_watch_laws.proofs.Members.{IsMember, member_filter, member_more, member_last, latest_all}
 
 -- a request of the account, of the node with this ID, as it stands in `watch`
-abbrev pub asked_of : ℕ → Request → Register → Asked
+abbrev pub asked_of : ℕ → Request → WatchedRegister → Asked
 asked_of id r g = record { source = id; destination = r.target; label = label_code Procedure; register = g; asking = asking_of r.operation }
 
 -- each that is outstanding stands
 abbrev pub AllStand : Account → List Asked → Type 0
-AllStand l xs = (c id : ℕ) (r : Request) (g : Register) → l.outstanding c ≡ Some r → device_of_id l.latest id ≡ Some c → register_at r.address ≡ Some g → IsMember (asked_of id r g) xs
+AllStand l xs = (c id : ℕ) (r : Request) (g : WatchedRegister) → l.outstanding c ≡ Some r → device_of_id l.latest id ≡ Some c → register_at r.address ≡ Some g → IsMember (asked_of id r g) xs
 
 -- ---- what is taken out is another
 
@@ -33,11 +33,11 @@ first_false false b c e = refl
 unlike : (n k : ℕ) → n ≢ k → (n == k) ≡ false
 unlike n k h = grind (arith, nat_tests, h)
 
-pub other_label : (h : Head) (id : ℕ) (r : Request) (g : Register) → h.tl ≢ label_code Procedure → not (is_of h (asked_of id r g)) ≡ true
+pub other_label : (h : Head) (id : ℕ) (r : Request) (g : WatchedRegister) → h.tl ≢ label_code Procedure → not (is_of h (asked_of id r g)) ≡ true
 unfolding is_of
 other_label h id r g n = ap not (and_false (id == h.source) (r.target == h.destination) (label_code Procedure == h.tl) (unlike (label_code Procedure) h.tl (λ e. n (sym e))))
 
-pub other_source : (h : Head) (id : ℕ) (r : Request) (g : Register) → id ≢ h.source → not (is_of h (asked_of id r g)) ≡ true
+pub other_source : (h : Head) (id : ℕ) (r : Request) (g : WatchedRegister) → id ≢ h.source → not (is_of h (asked_of id r g)) ≡ true
 unfolding is_of
 other_source h id r g n = ap not (first_false (id == h.source) (r.target == h.destination) (label_code Procedure == h.tl) (unlike id h.source n))
 
@@ -51,12 +51,12 @@ four_first : (a b c d : Bool) → a ≡ false → (a && b && c && d) ≡ false
 four_first true b c d e = cc
 four_first false b c d e = refl
 
-pub unanswered_label : (read : Bool) (h : Head) (id : ℕ) (r : Request) (g : Register) → h.tl ≢ label_code Procedure → not (answers read h (asked_of id r g)) ≡ true
+pub unanswered_label : (read : Bool) (h : Head) (id : ℕ) (r : Request) (g : WatchedRegister) → h.tl ≢ label_code Procedure → not (answers read h (asked_of id r g)) ≡ true
 unfolding answers
 unanswered_label read h id r g n =
     ap not (four_false (id == h.destination) (r.target == h.source) (label_code Procedure == h.tl) (alike (is_read (asking_of r.operation)) read) (unlike (label_code Procedure) h.tl (λ e. n (sym e))))
 
-pub unanswered_source : (read : Bool) (h : Head) (id : ℕ) (r : Request) (g : Register) → id ≢ h.destination → not (answers read h (asked_of id r g)) ≡ true
+pub unanswered_source : (read : Bool) (h : Head) (id : ℕ) (r : Request) (g : WatchedRegister) → id ≢ h.destination → not (answers read h (asked_of id r g)) ≡ true
 unfolding answers
 unanswered_source read h id r g n =
     ap not (four_first (id == h.destination) (r.target == h.source) (label_code Procedure == h.tl) (alike (is_read (asking_of r.operation)) read) (unlike id h.destination n))
@@ -71,16 +71,16 @@ few_left : (h : Head) (xs : List Asked) → length xs < 256 → length (without_
 unfolding without_same
 few_left h xs l = let n = length-filter (λ (q : Asked). not (is_of h q)) xs in let k = count_by-le-length (λ (q : Asked). not (is_of h q)) xs in omega (arith, n, k, l)
 
-more_stands : (o : Option Register) (h : Head) (asking : Asking) (q : Asked) (xs : List Asked) → length xs < 256 → IsMember q xs → IsMember q (with_request (asked_at_register h o asking) xs)
+more_stands : (o : Option WatchedRegister) (h : Head) (asking : Asking) (q : Asked) (xs : List Asked) → length xs < 256 → IsMember q xs → IsMember q (with_request (asked_at_register h o asking) xs)
 more_stands None h asking q xs l m = m
 more_stands (Some g) h asking q xs l m = latest_all q _ xs l (member_more q xs _ m)
 
-new_stands : (o : Option Register) (h : Head) (asking : Asking) (g : Register) (xs : List Asked) → length xs < 256 → o ≡ Some g
+new_stands : (o : Option WatchedRegister) (h : Head) (asking : Asking) (g : WatchedRegister) (xs : List Asked) → length xs < 256 → o ≡ Some g
     → IsMember (record { source = h.source; destination = h.destination; label = h.tl; register = g; asking = asking }) (with_request (asked_at_register h o asking) xs)
 new_stands None h asking g xs l e = cc
 new_stands (Some k) h asking g xs l e =
     let q : Asked = record { source = h.source; destination = h.destination; label = h.tl; register = k; asking = asking } in
-    let P : Register → Type 0 = λ y. IsMember (record { source = h.source; destination = h.destination; label = h.tl; register = y; asking = asking }) (latest (xs ++ q ∷ [])) in
+    let P : WatchedRegister → Type 0 = λ y. IsMember (record { source = h.source; destination = h.destination; label = h.tl; register = y; asking = asking }) (latest (xs ++ q ∷ [])) in
     subst P (same_Some k g e) (latest_all q q xs l (member_last q xs))
 
 pub other_request : (l : Account) (h : Head) (address : ℕ) (asking : Asking) (xs : List Asked) → length xs < 256 → h.tl ≢ label_code Procedure → AllStand l xs
@@ -89,7 +89,7 @@ other_request l h address asking xs few n a c id r g o d at =
     more_stands (register_at address) h asking (asked_of id r g) (without_same h xs) (few_left h xs few) (same_label_stands l h xs n a c id r g o d at)
 
 -- a new request with the label of procedures
-own_if : (b : Bool) (l : Account) (h : Head) (address k : ℕ) (operation : Operation) (asking : Asking) (xs : List Asked) (c id : ℕ) (r : Request) (g : Register) → (c == k) ≡ b → length xs < 256
+own_if : (b : Bool) (l : Account) (h : Head) (address k : ℕ) (operation : Operation) (asking : Asking) (xs : List Asked) (c id : ℕ) (r : Request) (g : WatchedRegister) → (c == k) ≡ b → length xs < 256
     → IsApart l.latest → h.tl ≡ label_code Procedure → device_of_id l.latest h.source ≡ Some k → asking ≡ asking_of operation → AllStand l xs
     → (if b then Some (record { target = h.destination; address = address; operation = operation }) else l.outstanding c) ≡ Some r → device_of_id l.latest id ≡ Some c → register_at r.address ≡ Some g
     → IsMember (asked_of id r g) (with_request (asked_at_register h (register_at address) asking) (without_same h xs))
@@ -119,7 +119,7 @@ own_request l h address k operation asking xs few apart tl device asks a c id r 
 
 -- if the request of a controller ends, and those of others stay
 pub ended_stands : (l m : Account) (k : ℕ) (xs ys : List Asked) → IsEnded l m k
-    → ((c id : ℕ) (r : Request) (g : Register) → c ≢ k → device_of_id l.latest id ≡ Some c → IsMember (asked_of id r g) xs → IsMember (asked_of id r g) ys) → AllStand l xs → AllStand m ys
+    → ((c id : ℕ) (r : Request) (g : WatchedRegister) → c ≢ k → device_of_id l.latest id ≡ Some c → IsMember (asked_of id r g) xs → IsMember (asked_of id r g) ys) → AllStand l xs → AllStand m ys
 ended_stands l m k xs ys i keeps a c id r g out d at =
     still (c == k) refl (ap (λ (t : ℕ → Option Request). t c) (sym i.outstanding) ∙ out)
   where

@@ -2,8 +2,8 @@
 use Rattle.fw_watch_laws.proofs.Common.{◌≡◌, ◌≢◌, refl, ap, sym, ◌∙◌, subst, ℕ, ◌+◌, ◌<◌, ◌==◌, not, Bool, true, false, List, length, if◌then◌else◌, Option, Some, None, is_none, get_or, slice_get}
 use Rattle.fw_watch_laws.proofs.Common.{eqb-true, eq-eqb, same_Some, Procedure, label_code, Head, Packet, WriteQuadlet, WriteBlock, WriteReply, ReadQuadlet, ReadBlock, ReadQuadletReply}
 use Rattle.fw_watch_laws.proofs.Common.{ReadBlockReply, CycleStart, LockRequest, LockReply, NodeRow, ResetEntry, device_of_id, Account, Operation, Reads, Locks, Request, asked_by, Reply, ReadReply}
-use Rattle.fw_watch_laws.proofs.Common.{Locked, Register, register_at, Asking, Read, Asked, lock_of, asked_at_register, is_from, with_request, without_same, without_answered, without_source}
-use Rattle.fw_watch_laws.proofs.Common.{standing_behind, node_of_device}
+use Rattle.fw_watch_laws.proofs.Common.{Locked, WatchedRegister, register_at, Asking, Read, Asked, lock_of, asked_at_register, is_from, with_request, without_same, without_answered, without_source}
+use Rattle.fw_watch_laws.proofs.Common.{standing_following, node_of_device}
 use Rattle.std.proofs.lemmas.List.Quantifiers.{position-Some}
 use Rattle.std.proofs.lemmas.Option.{slice_get-get_or}
 use Rattle.fw_log_entry.specs.Network.{row_of_node}
@@ -52,8 +52,8 @@ reply_if true read h reply l m xs e a next = reply_device (device_of_id l.latest
 reply_if false read h reply l m xs e a next = same_stands l m (without_answered read h xs) next (unanswered_stands l read h xs (label_differs h.tl e) a)
 
 pub packet_stands : (p : Packet) (l m : Account) (xs : List Asked) → length xs < 256 → IsApart l.latest → IsApartOf p → AllStand l xs → after_packet p l ≡ Some m
-    → AllStand m (standing_behind p xs)
-unfolding standing_behind
+    → AllStand m (standing_following p xs)
+unfolding standing_following
 packet_stands (WriteQuadlet h offset value) l m xs few i n a e = same_stands l m (without_same h xs) e (same_label_stands l h xs n a)
 packet_stands (WriteBlock h offset bytes) l m xs few i n a e = same_stands l m (without_same h xs) e (same_label_stands l h xs n a)
 packet_stands (WriteReply h rcode) l m xs few i n a e = same_stands l m xs e a
@@ -84,7 +84,7 @@ device_there o nodes device node r e f at =
     device_at_id o node row here ∙ ap (λ (k : ℕ). Some k) (row_is true row device x.1)
 
 -- the requests of another node stay
-source_stays : (l : Account) (source k : ℕ) (xs : List Asked) (c id : ℕ) (r : Request) (g : Register) → device_of_id l.latest source ≡ Some k → c ≢ k → device_of_id l.latest id ≡ Some c
+source_stays : (l : Account) (source k : ℕ) (xs : List Asked) (c id : ℕ) (r : Request) (g : WatchedRegister) → device_of_id l.latest source ≡ Some k → c ≢ k → device_of_id l.latest id ≡ Some c
     → IsMember (asked_of id r g) xs → IsMember (asked_of id r g) (without_source source xs)
 unfolding without_source
 source_stays l source k xs c id r g at n d m =
@@ -95,7 +95,7 @@ source_stays l source k xs c id r g at n d m =
     no true e = absurd (n (same_Some c k (sym d ∙ ap (device_of_id l.latest) (eqb-true id source e) ∙ at)))
     no false e = refl
 
--- the requests that stand after a death
+-- the outstanding requests after a death
 abbrev pub standing_after : Option ℕ → List Asked → List Asked
 standing_after None xs = xs
 standing_after (Some node) xs = without_source (0xFFC0 + node) xs

@@ -1,7 +1,7 @@
 -- Which answers there are: to reads, and to locks; those that have made a swap are to locks.
 use Rattle.fw_watch_laws.proofs.Common.{◌≡◌, refl, sym, ◌∙◌, subst, inl, inr, ◌⊎◌, ℕ, ◌==◌, Bool, true, false, List, if◌then◌else◌, Some, None, eqb-true, Swap, Head, Packet, WriteQuadlet, WriteBlock}
 use Rattle.fw_watch_laws.proofs.Common.{WriteReply, ReadQuadlet, ReadBlock, ReadQuadletReply, ReadBlockReply, CycleStart, LockRequest, LockReply, Asked, Answer, answered, lock_answer, answer_of}
-use Rattle.fw_watch_known.specs.Standing.{read_answer}
+use Rattle.fw_watch_requests.specs.Standing.{read_answer}
 use Rattle.fw_watch_laws.proofs.Answered.{IsMade, made_is, read_makes_none, IsReadAnswer, IsLockAnswer, read_by, lock_by_request}
 
 read_if : (b : Bool) (h : Head) (rcode value : ℕ) (xs : List Asked) (a : Answer) → (rcode == 0) ≡ b → (if b then read_answer (answered true h xs) value else None) ≡ Some a

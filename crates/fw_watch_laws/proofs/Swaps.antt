@@ -1,7 +1,7 @@
 -- A swap that an answer has made is a move of the account, at the register of the answer.
 use Rattle.fw_watch_laws.proofs.Common.{◌≡◌, refl, ap, sym, ◌∙◌, subst, ℕ, ◌+◌, ◌<◌, ◌==◌, Bool, true, false, List, if◌then◌else◌, Option, Some, IfSome, All, eq-eqb, Swap, Procedure, label_code, Head}
 use Rattle.fw_watch_laws.proofs.Common.{Packet, LockReply, Entry, Async, Timed, device_of_id, Account, Request, Reply, Locked, replied, next_account, IsSound, Place, place_at, register_of, word_of}
-use Rattle.fw_watch_laws.proofs.Common.{looked_packet, ShowsWords, Register, register_at, Asked, Answer, answer_of, node_of, known, IsNumber, offset_of}
+use Rattle.fw_watch_laws.proofs.Common.{looked_packet, ShowsWords, WatchedRegister, register_at, Asked, Answer, answer_of, node_of, known, IsNumber, offset_of}
 use Rattle.fw_model_account.specs.Packets.{after_packet}
 use Rattle.fw_model_account.specs.Words.{first_address}
 use Rattle.fw_model_account.proofs.Packets.{device_below}
@@ -18,7 +18,7 @@ use Rattle.fw_watch_laws.proofs.Passing.{Passes}
 
 -- ---- responses with the label of procedures
 
--- the register at which the outstanding request is that a response to a request that stands is to
+-- the register at which the outstanding request is that a response to an outstanding request is to
 pub record IsPlaced (l : Account) (r : Request) (q : Asked) (o : Option ℕ) : Type 0 where
   pub register : Place
   pub named : register_of l.latest r.target r.address ≡ Some register
@@ -27,10 +27,10 @@ pub record IsPlaced (l : Account) (r : Request) (q : Asked) (o : Option ℕ) : T
   pub word : o ≡ Some (word_of l register)
   pub quadlet : IsQuadlet r.operation
 
-pub number_of : (address : ℕ) (r : Register) → register_at address ≡ Some r → IsNumber r
-number_of address r e = let P : Option Register → Type 0 = λ o. IfSome o IsNumber in subst P e (register_number address)
+pub number_of : (address : ℕ) (r : WatchedRegister) → register_at address ≡ Some r → IsNumber r
+number_of address r e = let P : Option WatchedRegister → Type 0 = λ o. IfSome o IsNumber in subst P e (register_number address)
 
--- it is the request that stands
+-- it is the outstanding request
 pub same_request : (l m : Account) (h : Head) (reply : Reply) (read : Bool) (xs : List Asked) (q : Asked) (r : IsReplyTo l m h reply) → AllMatched l xs → IsIn read h xs q
     → q.label ≡ label_code Procedure → IsSame r.request q
 same_request l m h reply read xs q r a i label =
@@ -83,8 +83,8 @@ lock_in l m xs a swap p x s matched own w n =
     (looked_if (h.tl == label_code Procedure) l (Replies (record { requester = h.destination; responder = h.source; rcode = 0; reply = reply; word = quadlet_in k.bytes }))
     (eq-eqb h.tl (label_code Procedure) tl) w) in
     let node : node_of r.request.target ≡ Some a.at.node = ap node_of (r.target ∙ sym k.standing.is.destination) ∙ k.of.node in
-    let R : Register → Type 0 = λ z. place_at l.latest a.at.node (offset_of z) ≡ Some y.register in
-    let S : Register → Type 0 = λ z. IsNumber z in
+    let R : WatchedRegister → Type 0 = λ z. place_at l.latest a.at.node (offset_of z) ≡ Some y.register in
+    let S : WatchedRegister → Type 0 = λ z. IsNumber z in
     record {
       controller = r.controller;
       below = device_below l.latest h.destination r.controller s.range r.device;
@@ -96,11 +96,11 @@ lock_in l m xs a swap p x s matched own w n =
     }
 
 -- a swap of an entry that passes
-pub swap_in : (entries front rest : List Timed) (t : Timed) (l m : Account) (p : Packet) (a : Answer) (swap : Swap) → Passes entries front rest t l m → t.what ≡ Async p
-    → answer_of (known front).standing p ≡ Some a → a.swap ≡ Some swap → IsAccountSwap l m a swap
-swap_in entries front rest t l m p a swap y e f g =
-    let x : IsSwapAnswer (known front).standing p a swap = swap_answer p (known front).standing a swap f g in
+pub swap_in : (entries prefix rest : List Timed) (t : Timed) (l m : Account) (p : Packet) (a : Answer) (swap : Swap) → Passes entries prefix rest t l m → t.what ≡ Async p
+    → answer_of (known prefix).standing p ≡ Some a → a.swap ≡ Some swap → IsAccountSwap l m a swap
+swap_in entries prefix rest t l m p a swap y e f g =
+    let x : IsSwapAnswer (known prefix).standing p a swap = swap_answer p (known prefix).standing a swap f g in
     let P : Entry → Type 0 = λ z. ShowsWords l (looked z) in
     let Q : Packet → Type 0 = λ z. ShowsWords l (looked_packet z) in
-    lock_in l m (known front).standing a swap p x y.sound y.agrees.matched y.agrees.own (subst Q x.lock.packet (subst P e y.words))
+    lock_in l m (known prefix).standing a swap p x y.sound y.agrees.matched y.agrees.own (subst Q x.lock.packet (subst P e y.words))
     (ap (λ (z : Packet). after_packet z l) (sym x.lock.packet) ∙ ap (next_account l) (sym e) ∙ y.next)

@@ -1,7 +1,7 @@
 -- In the second after a bus reset nothing is told as taken that was not held before it.
 use Rattle.fw_watch_laws.proofs.Common.{◌≡◌, ◌≢◌, refl, ap, sym, ◌∙◌, subst, inl, inr, ℕ, ◌+◌, ◌-◌, ◌<◌, ◌≤◌, ◌==◌, ◌&&◌, not, nat_lt, Bool, true, false, [], ◌∷◌, if◌then◌else◌, Some, None, arith}
 use Rattle.fw_watch_laws.proofs.Common.{true≢false, eq-eqb, nat_tests, PlugAt, Swap, Account, total, Move, AllocateChannel, AllocateUnits, ConnectFirst, ConnectOverlaid, ConnectInput, DisconnectInput}
-use Rattle.fw_watch_laws.proofs.Common.{DisconnectOutput, ReleaseUnits, ReleaseChannel, register_of_move, IsSound, Place, BandwidthAvailable, ChannelsAvailable, word_of, Managed, Register}
+use Rattle.fw_watch_laws.proofs.Common.{DisconnectOutput, ReleaseUnits, ReleaseChannel, register_of_move, IsSound, Place, BandwidthAvailable, ChannelsAvailable, word_of, Managed, WatchedRegister}
 use Rattle.fw_watch_laws.proofs.Common.{ChannelsHigh, ChannelsLow, UnitsInSecond, NewInSecond, bit_of, Said, said, Answer, Second, State, Made, made}
 use Rattle.std.proofs.lemmas.Bool.{cases_eq}
 use Rattle.fw_model_account.specs.Account.{Flow}
@@ -154,11 +154,11 @@ pub high_quiet : (q : Said → Bool) (u : State) (a : Answer) (swap : Swap) (cyc
     → WordsHeld u.second.before l → NoneNew q u (made cycle a swap) 0
 high_quiet q u a swap cycle l m c v r i e held at h o n =
     none_if q (is_new u.second.before a.at.register at) (said cycle (NewInSecond a.by (0 + at) (epoch_of u)))
-    (ap (λ (g : Register). is_new u.second.before g at) r ∙ high_new u.second.before l m c v swap at i e h o n held)
+    (ap (λ (g : WatchedRegister). is_new u.second.before g at) r ∙ high_new u.second.before l m c v swap at i e h o n held)
 
 pub low_quiet : (q : Said → Bool) (u : State) (a : Answer) (swap : Swap) (cycle : ℕ) (l m : Account) (c : ℕ) (v : Place) → a.at.register ≡ ChannelsLow → IsSwapMove l m c v swap
     → v ≡ ChannelsAvailable 32
     → WordsHeld u.second.before l → NoneNew q u (made cycle a swap) 32
 low_quiet q u a swap cycle l m c v r i e held at h o n =
     none_if q (is_new u.second.before a.at.register at) (said cycle (NewInSecond a.by (32 + at) (epoch_of u)))
-    (ap (λ (g : Register). is_new u.second.before g at) r ∙ low_new u.second.before l m c v swap at i e h o n held)
+    (ap (λ (g : WatchedRegister). is_new u.second.before g at) r ∙ low_new u.second.before l m c v swap at i e h o n held)

@@ -1,6 +1,25 @@
 -- What an entry counts.
 use Rattle.fw_watch_laws.proofs.Common.{◌≡◌, refl, ap, ◌∙◌, ℕ, ◌==◌, Bool, true, false, List, if◌then◌else◌, Option, Some, None, Swap, Packet, EventEntry, Entry, Reset, Async, Iso, Event, Outcome}
-use Rattle.fw_watch_laws.proofs.Common.{Shown, End, Timed, Known, At, Register, Bandwidth, ChannelsHigh, ChannelsLow, Output, Input, nothing_known, all_known, Answer, Channel, Second, State, Made}
+use Rattle.fw_watch_laws.proofs.Common.{
+  Shown,
+  End,
+  Timed,
+  Known,
+  At,
+  WatchedRegister,
+  Bandwidth,
+  ChannelsHigh,
+  ChannelsLow,
+  Output,
+  Input,
+  nothing_known,
+  all_known,
+  Answer,
+  Channel,
+  Second,
+  State,
+  Made,
+}
 use Rattle.fw_watch_laws.proofs.Common.{after_heard, judged, judged_counts, answer_of, known_of, with_known, with_known_plug, reset_state, ended_second, node_of_device, buried, after_death, holder_of}
 use Rattle.fw_watch_laws.proofs.Common.{with_holder, swapped_by, swapped, Heed, Ignore, Refuse, Follow, made, after_made, after_found, with_manager, after_shown_by, after_followed, heed, after_heeded}
 use Rattle.fw_watch_laws.proofs.Common.{after_answer, after_answered, with_packet, after_packet, shown_at, after_word, after_shown, after_event, after_what, after, Glimpse, glimpse_by, answer_glimpse}
@@ -12,7 +31,7 @@ use Rattle.fw_watch_laws.proofs.Frames.{manager_only, manager_known, aside, tick
 
 -- ---- what counts nothing
 
-put_counts : (r : Register) (s : State) (n : ℕ) (k : Known) → (with_known s (record { node = n; register = r }) k).counts ≡ s.counts
+put_counts : (r : WatchedRegister) (s : State) (n : ℕ) (k : Known) → (with_known s (record { node = n; register = r }) k).counts ≡ s.counts
 unfolding with_known with_known_plug
 put_counts Bandwidth s n k = refl
 put_counts ChannelsHigh s n k = refl
@@ -25,7 +44,7 @@ unfolding with_holder
 holder_counts None m first s = refl
 holder_counts (Some holder) m first s = refl
 
-by_counts : (r : Register) (m : Made) (s : State) → (swapped_by r m s).counts ≡ s.counts
+by_counts : (r : WatchedRegister) (m : Made) (s : State) → (swapped_by r m s).counts ≡ s.counts
 by_counts Bandwidth m s = refl
 by_counts ChannelsHigh m s = holder_counts (holder_of m.by) m 0 s
 by_counts ChannelsLow m s = holder_counts (holder_of m.by) m 32 s

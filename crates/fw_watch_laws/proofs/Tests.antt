@@ -1,7 +1,7 @@
 -- Each test passes what is told of one kind.
 use Rattle.fw_watch_laws.proofs.Common.{◌≡◌, refl, Bool, true, false, Unseen, UnitsInSecond, NewInSecond}
 use Rattle.fw_watch_remarks.specs.declared.remark.Remark.{Remark}
-use Rattle.fw_watch_remarks.specs.declared.remark.Remark.TheVariants.{Reset, Units, Takes, Returns, Plug, Sends, Held, NotManager}
+use Rattle.fw_watch_remarks.specs.declared.remark.Remark.TheVariants.{Reset, Units, Takes, Returns, Plug, Sends, UnusedChannel, NotManager}
 use Rattle.fw_watch_remarks.specs.declared.remark.Remark.TheVariants.{TooMany, Several, MoreThanMove, TwoSenders, NotTaken, OtherPlug}
 use Rattle.fw_watch_laws.specs.ChangedUnseen.{tells_unseen}
 use Rattle.fw_watch_laws.specs.Orderly.{is_not_manager, is_too_many, is_several, is_more, is_new_in_second}
@@ -19,7 +19,7 @@ tells_unseen_by (Returns by channel) = refl
 tells_unseen_by (Plug by at old new) = refl
 tells_unseen_by (Unseen at known found) = refl
 tells_unseen_by (Sends node channel) = refl
-tells_unseen_by (Held node channel) = refl
+tells_unseen_by (UnusedChannel node channel) = refl
 tells_unseen_by (NotManager by at manager) = refl
 tells_unseen_by (TooMany by left) = refl
 tells_unseen_by (UnitsInSecond by epoch taken held) = refl
@@ -42,7 +42,7 @@ is_not_manager_by (Returns by channel) = refl
 is_not_manager_by (Plug by at old new) = refl
 is_not_manager_by (Unseen at known found) = refl
 is_not_manager_by (Sends node channel) = refl
-is_not_manager_by (Held node channel) = refl
+is_not_manager_by (UnusedChannel node channel) = refl
 is_not_manager_by (NotManager by at manager) = refl
 is_not_manager_by (TooMany by left) = refl
 is_not_manager_by (UnitsInSecond by epoch taken held) = refl
@@ -65,7 +65,7 @@ is_too_many_by (Returns by channel) = refl
 is_too_many_by (Plug by at old new) = refl
 is_too_many_by (Unseen at known found) = refl
 is_too_many_by (Sends node channel) = refl
-is_too_many_by (Held node channel) = refl
+is_too_many_by (UnusedChannel node channel) = refl
 is_too_many_by (NotManager by at manager) = refl
 is_too_many_by (TooMany by left) = refl
 is_too_many_by (UnitsInSecond by epoch taken held) = refl
@@ -88,7 +88,7 @@ is_several_by (Returns by channel) = refl
 is_several_by (Plug by at old new) = refl
 is_several_by (Unseen at known found) = refl
 is_several_by (Sends node channel) = refl
-is_several_by (Held node channel) = refl
+is_several_by (UnusedChannel node channel) = refl
 is_several_by (NotManager by at manager) = refl
 is_several_by (TooMany by left) = refl
 is_several_by (UnitsInSecond by epoch taken held) = refl
@@ -111,7 +111,7 @@ is_more_by (Returns by channel) = refl
 is_more_by (Plug by at old new) = refl
 is_more_by (Unseen at known found) = refl
 is_more_by (Sends node channel) = refl
-is_more_by (Held node channel) = refl
+is_more_by (UnusedChannel node channel) = refl
 is_more_by (NotManager by at manager) = refl
 is_more_by (TooMany by left) = refl
 is_more_by (UnitsInSecond by epoch taken held) = refl
@@ -135,7 +135,7 @@ is_new_in_second_by (Returns by channel) = refl
 is_new_in_second_by (Plug by at old new) = refl
 is_new_in_second_by (Unseen at known found) = refl
 is_new_in_second_by (Sends node channel) = refl
-is_new_in_second_by (Held node channel) = refl
+is_new_in_second_by (UnusedChannel node channel) = refl
 is_new_in_second_by (NotManager by at manager) = refl
 is_new_in_second_by (TooMany by left) = refl
 is_new_in_second_by (UnitsInSecond by epoch taken held) = refl

@@ -1,6 +1,6 @@
 -- How time passes in a log: cycles, bus resets and seconds.
 use Rattle.fw_watch_laws.proofs.Common.{◌≡◌, refl, ap, sym, inl, inr, ◌⊎◌, ℕ, ◌+◌, ◌-◌, ◌^◌, ◌≤◌, ◌==◌, nat_lt, Bool, true, false, List, [], ◌∷◌, ◌++◌, if◌then◌else◌, Option, Some, None, is_some}
-use Rattle.fw_watch_laws.proofs.Common.{arith, nat_tests, same_Some, Swap, EventEntry, Timed, InOrder, Account, after_second, after_withholding, Managed, Register, Bandwidth, ChannelsHigh}
+use Rattle.fw_watch_laws.proofs.Common.{arith, nat_tests, same_Some, Swap, EventEntry, Timed, InOrder, Account, after_second, after_withholding, Managed, WatchedRegister, Bandwidth, ChannelsHigh}
 use Rattle.fw_watch_laws.proofs.Common.{ChannelsLow, Output, Input, Answer, Second, State, ticked_second, ended_second, Heed, Ignore, Refuse, Follow, heed}
 use Rattle.fw_log_entry.specs.declared.codes.event.TheConstants as Events
 use Rattle.fw_model_account.specs.Events.{after_death}
@@ -18,17 +18,17 @@ abbrev pub last_cycle : ℕ → List Timed → ℕ
 last_cycle c [] = c
 last_cycle c (t ∷ ts) = last_cycle t.cycle ts
 
-pub in_time : (last : ℕ) (front rest : List Timed) (t : Timed) → InOrder last (front ++ t ∷ rest) → last_cycle last front ≤ t.cycle
+pub in_time : (last : ℕ) (prefix rest : List Timed) (t : Timed) → InOrder last (prefix ++ t ∷ rest) → last_cycle last prefix ≤ t.cycle
 in_time last [] rest t h = h.0
-in_time last (u ∷ front) rest t h = in_time u.cycle front rest t h.3
+in_time last (u ∷ prefix) rest t h = in_time u.cycle prefix rest t h.3
 
-pub last_cycle_push : (c : ℕ) (front : List Timed) (t : Timed) → last_cycle c (front ++ t ∷ []) ≡ t.cycle
+pub last_cycle_push : (c : ℕ) (prefix : List Timed) (t : Timed) → last_cycle c (prefix ++ t ∷ []) ≡ t.cycle
 last_cycle_push c [] t = refl
-last_cycle_push c (u ∷ front) t = last_cycle_push u.cycle front t
+last_cycle_push c (u ∷ prefix) t = last_cycle_push u.cycle prefix t
 
-pub last_reset_push : (c : Option ℕ) (front : List Timed) (t : Timed) → last_reset c (front ++ t ∷ []) ≡ reset_cycle (last_reset c front) t.cycle t.what
+pub last_reset_push : (c : Option ℕ) (prefix : List Timed) (t : Timed) → last_reset c (prefix ++ t ∷ []) ≡ reset_cycle (last_reset c prefix) t.cycle t.what
 last_reset_push c [] t = refl
-last_reset_push c (u ∷ front) t = last_reset_push (reset_cycle c u.cycle u.what) front t
+last_reset_push c (u ∷ prefix) t = last_reset_push (reset_cycle c u.cycle u.what) prefix t
 
 -- ---- the time of an entry
 
@@ -61,7 +61,7 @@ counted_if : (b : Bool) (d : Second) (x y : ℕ) → Lasts d (if b then record d
 counted_if true d x y = record { since = refl; before = refl }
 counted_if false d x y = record { since = refl; before = refl }
 
-made_lasts : (o : Option Swap) (r : Register) (d : Second) → Lasts d (made_second o r d)
+made_lasts : (o : Option Swap) (r : WatchedRegister) (d : Second) → Lasts d (made_second o r d)
 unfolding counted_second
 made_lasts None r d = record { since = refl; before = refl }
 made_lasts (Some swap) Bandwidth d = counted_if (nat_lt swap.new swap.argument) d _ _

@@ -4,7 +4,7 @@ use Rattle.fw_watch_laws.proofs.Common.{None, list_any, eqb-true, cases_Bool, In
 use Rattle.std.proofs.lemmas.List.{get_or-replicate, append-nil}
 use Rattle.fw_cip.specs.declared.packet.IsoPacket.{IsoPacket}
 use Rattle.fw_watch_known.specs.declared.hear.Packet.{Packet}
-use Rattle.fw_watch_known.specs.Heard.{other_sender, heard_on, heard, sender_behind, channel_behind}
+use Rattle.fw_watch_known.specs.Heard.{other_sender, heard_on, heard, sender_after, channel_after}
 use Rattle.fw_watch.specs.Hearing.{heard_remarks}
 use Rattle.fw_watch.proofs.WatchLaws.{known_from_more}
 use Rattle.fw_watch_laws.specs.TwoSenders.{IsPacket, moves, stays, is_two, TwoTold}
@@ -37,7 +37,7 @@ heard_two s p k e h =
 
 iso_two : (s : State) (t : Timed) (p : IsoPacket) (k : ℕ) → Fine s → k < 64 → t.what ≡ Iso p → p.channel ≡ k → IsNoted (after s t) k
     → ((IsNoted s k) × (moves s t.what k ≡ false)) ⊎ IsTold s t k
-unfolding channel_behind
+unfolding channel_after
 iso_two s t p k f h e on n =
     elim (heard_two (ticked t.cycle s) (packet_of t.cycle p) k on (sym (ap (λ (c : Channel). c.noted.two) (iso_after s t p k f h e on)) ∙ n)) [
       | inl y ↦ inl (sym (ap (λ (c : Channel). c.noted.two) (ticked_row s t.cycle k)) ∙ y, ap (λ (x : Entry). moves s x k) e)
@@ -55,16 +55,16 @@ two_step s t k f h n = elim (split k t.what) [
 record ToldFrom (s : State) (ts : List Timed) (k : ℕ) : Type 0 where
   pub before : List Timed
   pub entry : Timed
-  pub behind : List Timed
-  pub parts : ts ≡ before ++ entry ∷ behind
+  pub following : List Timed
+  pub parts : ts ≡ before ++ entry ∷ following
   pub told : list_any (is_two k) (remarks (known_from s before) entry) ≡ true
-  pub since : stays (known_from s (before ++ entry ∷ [])) behind k ≡ true
+  pub since : stays (known_from s (before ++ entry ∷ [])) following k ≡ true
 
 told_later : (s : State) (t : Timed) (ts : List Timed) (k : ℕ) → ToldFrom (after s t) ts k → ToldFrom s (t ∷ ts) k
 told_later s t ts k h = record {
   before = t ∷ h.before;
   entry = h.entry;
-  behind = h.behind;
+  following = h.following;
   parts = ap (λ (xs : List Timed). t ∷ xs) h.parts;
   told = h.told;
   since = h.since;
@@ -79,7 +79,7 @@ told_from last s [] rest k h f l n = inl (n, refl)
 told_from last s (t ∷ ts) rest k h f l n = elim (told_from t.cycle (after s t) ts rest k h.3 (fine_step s t h.1.entry f) l n) [
   | inl y ↦ elim (two_step s t k f l y.0) [
     | inl z ↦ inl (z.0, stays_more s t ts k z.1 y.1)
-    | inr m ↦ inr (record { before = []; entry = t; behind = ts; parts = refl; told = m; since = y.1 })
+    | inr m ↦ inr (record { before = []; entry = t; following = ts; parts = refl; told = m; since = y.1 })
   ]
   | inr m ↦ inr (told_later s t ts k m)
 ]
@@ -94,19 +94,19 @@ first_if : (b : Bool) (y a : ℕ) → (y == a) ≡ b → (Some y ≡ Some a) ⊎
 first_if true y a e = inl (ap Some (eqb-true y a e))
 first_if false y a e = inr refl
 
-first_sent : (b : Bool) (o : Option ℕ) (a : ℕ) → (Some (sender_behind a o) ≡ Some a) ⊎ ((b || is_some (if b then None else other_sender a o)) ≡ true)
+first_sent : (b : Bool) (o : Option ℕ) (a : ℕ) → (Some (sender_after a o) ≡ Some a) ⊎ ((b || is_some (if b then None else other_sender a o)) ≡ true)
 first_sent b None a = inl refl
 first_sent true (Some y) a = inr refl
 first_sent false (Some y) a = first_if (y == a) y a refl
 
-behind_first : (c : Channel) (s : State) (p : Packet) → IsSent (channel_behind p.sid (heard_on c s p) c) p.sid
-unfolding channel_behind
-behind_first c s p = first_sent c.noted.two c.sender p.sid
+after_first : (c : Channel) (s : State) (p : Packet) → IsSent (channel_after p.sid (heard_on c s p) c) p.sid
+unfolding channel_after
+after_first c s p = first_sent c.noted.two c.sender p.sid
 
-behind_still : (c : Channel) (s : State) (p : Packet) (a : ℕ) → IsSent c a → IsSent (channel_behind p.sid (heard_on c s p) c) a
-unfolding channel_behind
-behind_still c s p a h = elim h [
-  | inl y ↦ inl (ap (λ (o : Option ℕ). Some (sender_behind p.sid o)) y)
+after_still : (c : Channel) (s : State) (p : Packet) (a : ℕ) → IsSent c a → IsSent (channel_after p.sid (heard_on c s p) c) a
+unfolding channel_after
+after_still c s p a h = elim h [
+  | inl y ↦ inl (ap (λ (o : Option ℕ). Some (sender_after p.sid o)) y)
   | inr n ↦ inr (ap (λ (b : Bool). b || is_some (heard_on c s p).first) n)
 ]
 
@@ -114,9 +114,9 @@ last_two : (b : Bool) (a c : ℕ) → (a == c) ≡ false → (b || is_some (if b
 last_two true a c e = refl
 last_two false a c e = rw e refl
 
-behind_last : (c : Channel) (s : State) (p : Packet) (a : ℕ) → (a == p.sid) ≡ false → IsSent c a → (channel_behind p.sid (heard_on c s p) c).noted.two ≡ true
-unfolding channel_behind
-behind_last c s p a e h = elim h [
+following_last : (c : Channel) (s : State) (p : Packet) (a : ℕ) → (a == p.sid) ≡ false → IsSent c a → (channel_after p.sid (heard_on c s p) c).noted.two ≡ true
+unfolding channel_after
+following_last c s p a e h = elim h [
   | inl y ↦ ap (λ (o : Option ℕ). c.noted.two || is_some (if c.noted.two then None else other_sender p.sid o)) y ∙ last_two c.noted.two a p.sid e
   | inr n ↦ ap (λ (b : Bool). b || is_some (heard_on c s p).first) n
 ]
@@ -136,7 +136,7 @@ sent_step s t k a f h m x =
     let P : Channel → Type 0 = λ c. IsSent c a in
     elim (split k t.what) [
       | inl y ↦ subst P (sym (iso_after s t y.0 k f h y.1 y.2))
-          (behind_still (row (ticked t.cycle s) k) (ticked t.cycle s) (packet_of t.cycle y.0) a (same_sent (row s k) (row (ticked t.cycle s) k) a (ticked_row s t.cycle k) x))
+          (after_still (row (ticked t.cycle s) k) (ticked t.cycle s) (packet_of t.cycle y.0) a (same_sent (row s k) (row (ticked t.cycle s) k) a (ticked_row s t.cycle k) x))
       | inr o ↦ other_sent (moves s t.what k) (row s k) (row (after s t) k) a m (step_moves k s t o (seen_of s t f) f.whole.plugs).row x
     ]
 
@@ -159,7 +159,7 @@ packet_first : (s : State) (t : Timed) (k a : ℕ) → Fine s → k < 64 → IsP
 packet_first s t k a f h p =
     let P : Channel → Type 0 = λ c. IsSent c a in
     let Q : ℕ → Type 0 = λ x. IsSent (iso_row s t p.packet k) x in
-    subst P (sym (iso_after s t p.packet k f h p.iso p.on)) (subst Q p.sender (behind_first (row (ticked t.cycle s) k) (ticked t.cycle s) (packet_of t.cycle p.packet)))
+    subst P (sym (iso_after s t p.packet k f h p.iso p.on)) (subst Q p.sender (after_first (row (ticked t.cycle s) k) (ticked t.cycle s) (packet_of t.cycle p.packet)))
 
 apart : (a b c : ℕ) → a ≢ b → c ≡ b → (a == c) ≡ false
 apart a b c n e = elim (cases_Bool (a == c)) [ inl y ↦ absurd (n (eqb-true a c y ∙ e)) | inr m ↦ m ]
@@ -167,7 +167,7 @@ apart a b c n e = elim (cases_Bool (a == c)) [ inl y ↦ absurd (n (eqb-true a c
 packet_last : (s : State) (t : Timed) (k a b : ℕ) → Fine s → k < 64 → IsPacket t k b → a ≢ b → IsSent (row s k) a → IsNoted (after s t) k
 packet_last s t k a b f h p n x =
     ap (λ (c : Channel). c.noted.two) (iso_after s t p.packet k f h p.iso p.on)
-    ∙ behind_last (row (ticked t.cycle s) k) (ticked t.cycle s) (packet_of t.cycle p.packet) a (apart a b p.packet.cip.sid n p.sender)
+    ∙ following_last (row (ticked t.cycle s) k) (ticked t.cycle s) (packet_of t.cycle p.packet) a (apart a b p.packet.cip.sid n p.sender)
     (same_sent (row s k) (row (ticked t.cycle s) k) a (ticked_row s t.cycle k) x)
 
 none_noted : (k : ℕ) → k < 64 → (row no_state k).noted.two ≡ false
@@ -187,17 +187,17 @@ noted_last l s p q mid k a b o f h x y n m =
 told_of : (entries : List Timed) (k : ℕ) → k < 64 → ((IsNoted no_state k) × (stays no_state entries k ≡ true)) ⊎ ToldFrom no_state entries k → TwoTold entries k
 told_of entries k h e = elim e [
   | inl y ↦ (let n = none_noted k h in cc)
-  | inr t ↦ record { before = t.before; entry = t.entry; behind = t.behind; parts = t.parts; told = t.told; since = t.since }
+  | inr t ↦ record { before = t.before; entry = t.entry; following = t.following; parts = t.parts; told = t.told; since = t.since }
 ]
 
-pub two_told : (front mid : List Timed) (p q : Timed) (channel a b : ℕ) → InOrder 0 (front ++ p ∷ (mid ++ q ∷ [])) → channel < 64 → IsPacket p channel a → IsPacket q channel b
-    → a ≢ b → stays (known (front ++ p ∷ [])) mid channel ≡ true → TwoTold (front ++ p ∷ (mid ++ q ∷ [])) channel
-two_told front mid p q k a b o h x y n m =
+pub two_told : (prefix mid : List Timed) (p q : Timed) (channel a b : ℕ) → InOrder 0 (prefix ++ p ∷ (mid ++ q ∷ [])) → channel < 64 → IsPacket p channel a → IsPacket q channel b
+    → a ≢ b → stays (known (prefix ++ p ∷ [])) mid channel ≡ true → TwoTold (prefix ++ p ∷ (mid ++ q ∷ [])) channel
+two_told prefix mid p q k a b o h x y n m =
     let more : List Timed = p ∷ (mid ++ q ∷ []) in
-    let rest = order_rest 0 front more o in
-    let still : stays (after (known front) p) mid k ≡ true = sym (ap (λ (s : State). stays s mid k) (known_from_more no_state front (p ∷ []))) ∙ m in
-    let noted : IsNoted (known (front ++ more)) k =
-    ap (λ (s : State). (row s k).noted.two) (known_from_more no_state front more)
-    ∙ noted_last rest.0 (known front) p q mid k a b rest.1 (fine_from 0 no_state front more o fine_none) h x y n still in
+    let rest = order_rest 0 prefix more o in
+    let still : stays (after (known prefix) p) mid k ≡ true = sym (ap (λ (s : State). stays s mid k) (known_from_more no_state prefix (p ∷ []))) ∙ m in
+    let noted : IsNoted (known (prefix ++ more)) k =
+    ap (λ (s : State). (row s k).noted.two) (known_from_more no_state prefix more)
+    ∙ noted_last rest.0 (known prefix) p q mid k a b rest.1 (fine_from 0 no_state prefix more o fine_none) h x y n still in
     let P : List Timed → Type 0 = λ xs. InOrder 0 xs in
-    told_of (front ++ more) k h (told_from 0 no_state (front ++ more) [] k (subst P (sym (append-nil (front ++ more))) o) fine_none h noted)
+    told_of (prefix ++ more) k h (told_from 0 no_state (prefix ++ more) [] k (subst P (sym (append-nil (prefix ++ more))) o) fine_none h noted)

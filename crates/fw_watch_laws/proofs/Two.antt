@@ -7,7 +7,7 @@ use Rattle.std.proofs.lemmas.Grind.{get_or-set_at}
 use Rattle.std.proofs.lemmas.List.Folds.{list_any-append}
 use Rattle.fw_cip.specs.declared.packet.IsoPacket.{IsoPacket}
 use Rattle.fw_watch_known.specs.declared.hear.Packet.{Packet}
-use Rattle.fw_watch_known.specs.Heard.{heard_on, heard, channel_behind}
+use Rattle.fw_watch_known.specs.Heard.{heard_on, heard, channel_after}
 use Rattle.fw_watch.specs.Hearing.{start_remarks, two_remarks, wrong_remarks, heard_remarks}
 use Rattle.fw_watch.specs.Steps.{what_remarks}
 use Rattle.fw_watch_laws.specs.TwoSenders.{is_two}
@@ -30,13 +30,13 @@ row s k = channel_at s.channels k
 -- the state in which a packet is heard, and the packet
 abbrev pub iso_row : State → Timed → IsoPacket → ℕ → Channel
 iso_row s t p k =
-    channel_behind p.cip.sid (heard_on (row (ticked t.cycle s) k) (ticked t.cycle s) (packet_of t.cycle p)) (row (ticked t.cycle s) k)
+    channel_after p.cip.sid (heard_on (row (ticked t.cycle s) k) (ticked t.cycle s) (packet_of t.cycle p)) (row (ticked t.cycle s) k)
 
 iso_what : (cycle k : ℕ) (p : IsoPacket) (s : State) → k < length s.channels → p.channel ≡ k
-    → channel_at (after_what cycle (Iso p) s).channels k ≡ channel_behind p.cip.sid (heard_on (row s k) s (packet_of cycle p)) (row s k)
+    → channel_at (after_what cycle (Iso p) s).channels k ≡ channel_after p.cip.sid (heard_on (row s k) s (packet_of cycle p)) (row s k)
 unfolding after_what after_heard heard
 iso_what cycle k p s h e =
-    let v : ℕ → Channel = λ j. channel_behind p.cip.sid (heard_on (row s j) s (packet_of cycle p)) (row s j) in
+    let v : ℕ → Channel = λ j. channel_after p.cip.sid (heard_on (row s j) s (packet_of cycle p)) (row s j) in
     get_or-set_at s.channels p.channel k (v p.channel) fresh (sym e) (omega (arith, h, e)) ∙ ap v e
 
 iso_size : (cycle : ℕ) (p : IsoPacket) (s : State) → length (after_what cycle (Iso p) s).channels ≡ length s.channels

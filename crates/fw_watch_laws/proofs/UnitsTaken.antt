@@ -1,6 +1,24 @@
 -- The units that `watch` counts in a second are those that the account has allocated.
 use Rattle.fw_watch_laws.proofs.Common.{◌≡◌, ◌≢◌, refl, ap, sym, ◌∙◌, subst, inl, inr, ◌⊎◌, ℕ, ◌≤◌, ◌==◌, Bool, true, false, Option, Some, None, is_none, arith, same_Some, Swap, Packet, ResetEntry}
-use Rattle.fw_watch_laws.proofs.Common.{Entry, Reset, Async, Iso, Event, Outcome, Shown, End, Account, next_account, BandwidthAvailable, word_of, Known, Managed, Register, Bandwidth, ChannelsHigh}
+use Rattle.fw_watch_laws.proofs.Common.{
+  Entry,
+  Reset,
+  Async,
+  Iso,
+  Event,
+  Outcome,
+  Shown,
+  End,
+  Account,
+  next_account,
+  BandwidthAvailable,
+  word_of,
+  Known,
+  Managed,
+  WatchedRegister,
+  Bandwidth,
+  ChannelsHigh,
+}
 use Rattle.fw_watch_laws.proofs.Common.{ChannelsLow, Output, Input, all_known, Answer, Second, State, answer_of, ticked_second, ended_second, Heed, Ignore, Refuse, Follow, heed, word_left, known_left}
 use Rattle.fw_watch_laws.proofs.Common.{glimpse_by, answer_glimpse, is_same_by}
 use Rattle.fw_log_entry.specs.declared.codes.event.TheConstants as Events
@@ -35,7 +53,7 @@ at_bandwidth (Some swap) d l m w x h e f i =
     let P : ℕ → Type 0 = λ y. InSecond (counted_second swap.argument swap.new d) y in
     subst P e (counted_in swap.argument swap.new d (subst (λ (y : ℕ). y ≤ 4915) (sym e) h) (word_same l m d w swap.argument (sym (f swap refl)) i))
 
-other_register : (o : Option Swap) (r : Register) (d : Second) → (r ≡ Bandwidth → ⊥) → made_second o r d ≡ d
+other_register : (o : Option Swap) (r : WatchedRegister) (d : Second) → (r ≡ Bandwidth → ⊥) → made_second o r d ≡ d
 other_register None r d n = refl
 other_register (Some swap) Bandwidth d n = absurd (n refl)
 other_register (Some swap) ChannelsHigh d n = refl
@@ -43,17 +61,17 @@ other_register (Some swap) ChannelsLow d n = refl
 other_register (Some swap) (Output k) d n = refl
 other_register (Some swap) (Input k) d n = refl
 
-decide : (r : Register) → (r ≡ Bandwidth) ⊎ (r ≡ Bandwidth → ⊥)
+decide : (r : WatchedRegister) → (r ≡ Bandwidth) ⊎ (r ≡ Bandwidth → ⊥)
 decide Bandwidth = inl refl
 decide ChannelsHigh = inr (λ e. cc)
 decide ChannelsLow = inr (λ e. cc)
 decide (Output k) = inr (λ e. cc)
 decide (Input k) = inr (λ e. cc)
 
-same_as : (r : Register) → r ≡ Bandwidth → is_same_by r Bandwidth true ≡ true
-same_as r e = ap (λ (x : Register). is_same_by x Bandwidth true) e
+same_as : (r : WatchedRegister) → r ≡ Bandwidth → is_same_by r Bandwidth true ≡ true
+same_as r e = ap (λ (x : WatchedRegister). is_same_by x Bandwidth true) e
 
-only_bandwidth : (r : Register) → is_same_by r Bandwidth true ≡ true → r ≡ Bandwidth
+only_bandwidth : (r : WatchedRegister) → is_same_by r Bandwidth true ≡ true → r ≡ Bandwidth
 only_bandwidth Bandwidth e = refl
 only_bandwidth ChannelsHigh e = cc
 only_bandwidth ChannelsLow e = cc
@@ -69,7 +87,7 @@ found_units w a d l m x f e i =
           let place : x.place ≡ BandwidthAvailable = is_that a.at.register Bandwidth l.latest a.at.node true x.place refl x.stands (same_as a.at.register at) in
           let before : w ≡ word_of l BandwidthAvailable = found ∙ ap (word_of l) place in
           let after : word_left w a.swap ≡ word_of m BandwidthAvailable = left_word a.found a.swap w (word_of m x.place) e x.word ∙ ap (word_of m) place in
-          let P : Register → Type 0 = λ r. InSecond (made_second a.swap r d) (word_of m BandwidthAvailable) in
+          let P : WatchedRegister → Type 0 = λ r. InSecond (made_second a.swap r d) (word_of m BandwidthAvailable) in
           subst P (sym at)
           (at_bandwidth a.swap d l m w (word_of m BandwidthAvailable) (units_word l m) after (λ swap s. before ∙ f swap s at) (word_same l m d (word_of l BandwidthAvailable) w before i)))
       | inr other ↦ (

@@ -1,6 +1,26 @@
 -- Which remarks tell that a word changed unseen.
 use Rattle.fw_watch_laws.proofs.Common.{◌≡◌, refl, ap, ◌∙◌, subst, ℕ, ◌==◌, Bool, true, false, List, [], ◌∷◌, ◌++◌, if◌then◌else◌, Option, Some, None, IfSome, filter, Swap, Entry, Reset, Async, Iso}
-use Rattle.fw_watch_laws.proofs.Common.{Event, Outcome, Shown, End, Timed, InOrder, Known, At, Register, Bandwidth, ChannelsHigh, ChannelsLow, Output, Input, Unseen, differing, Said, said, Answer}
+use Rattle.fw_watch_laws.proofs.Common.{
+  Event,
+  Outcome,
+  Shown,
+  End,
+  Timed,
+  InOrder,
+  Known,
+  At,
+  WatchedRegister,
+  Bandwidth,
+  ChannelsHigh,
+  ChannelsLow,
+  Output,
+  Input,
+  Unseen,
+  differing,
+  Said,
+  said,
+  Answer,
+}
 use Rattle.fw_watch_laws.proofs.Common.{Channel, Second, State, Made, judged, answer_of, known_of, Heed, Ignore, Refuse, Follow, judge_remarks, held_remarks, made, with_manager, heed, with_packet}
 use Rattle.fw_watch_laws.proofs.Common.{shown_at, packet_of, ticked, remarks, known, IsPlace, Glimpse, glimpse_by, answer_glimpse, word_glimpse, glimpse}
 use Rattle.std.proofs.lemmas.List.{append-nil}
@@ -21,7 +41,7 @@ use Rattle.fw_watch_laws.proofs.Quiet.{NoneOdd, many_free, units_free, new_free,
 free : (k : Kind) → is_of_word k ≡ false → IsFree is_unseen k
 free k n x e = tells_unseen_by x.remark ∙ ap is_of_word e ∙ n
 
-odd_by : (r : Register) (s : State) (m : Made) → NoneOdd is_unseen r s m
+odd_by : (r : WatchedRegister) (s : State) (m : Made) → NoneOdd is_unseen r s m
 odd_by Bandwidth s m = (many_free is_unseen m (free OfMany refl), units_free is_unseen s m (free OfUnits refl))
 odd_by ChannelsHigh s m = (new_free is_unseen s m 0 (free OfNew refl), several_free is_unseen m (free OfSeveral refl))
 odd_by ChannelsLow s m = (new_free is_unseen s m 32 (free OfNew refl), several_free is_unseen m (free OfSeveral refl))
@@ -108,21 +128,21 @@ step_unseen s t =
     ∙ ap (λ (x : State). filter is_unseen (what_remarks t.cycle t.what x)) o.2 ∙ what_unseen t.cycle t.what s o.0 o.1
 
 -- what is known in the state is what was last known
-found_last : (front : List Timed) (cycle : ℕ) (at : At) (o : Option ℕ) → IsPlace at → found_by (known front) cycle at o ≡ found_due front cycle at o
+found_last : (prefix : List Timed) (cycle : ℕ) (at : At) (o : Option ℕ) → IsPlace at → found_by (known prefix) cycle at o ≡ found_due prefix cycle at o
 unfolding found_by judge_remarks
-found_last front cycle at None p = refl
-found_last front cycle at (Some found) p = ap (λ (k : Known). if differing k found == 0 then [] else said cycle (Unseen at k found) ∷ []) (kept front at p)
+found_last prefix cycle at None p = refl
+found_last prefix cycle at (Some found) p = ap (λ (k : Known). if differing k found == 0 then [] else said cycle (Unseen at k found) ∷ []) (kept prefix at p)
 
-seen_last : (front : List Timed) (cycle : ℕ) (o : Option Glimpse) → IfSome o IsSeen → seen_by (known front) cycle o ≡ glimpse_due front cycle o
+seen_last : (prefix : List Timed) (cycle : ℕ) (o : Option Glimpse) → IfSome o IsSeen → seen_by (known prefix) cycle o ≡ glimpse_due prefix cycle o
 unfolding seen_by
-seen_last front cycle None p = refl
-seen_last front cycle (Some g) p = found_last front cycle g.at g.found p
+seen_last prefix cycle None p = refl
+seen_last prefix cycle (Some g) p = found_last prefix cycle g.at g.found p
 
-pub told_of : (front rest : List Timed) (t : Timed) → InOrder 0 (front ++ t ∷ rest) → filter is_unseen (remarks (known front) t) ≡ unseen_due front t
+pub told_of : (prefix rest : List Timed) (t : Timed) → InOrder 0 (prefix ++ t ∷ rest) → filter is_unseen (remarks (known prefix) t) ≡ unseen_due prefix t
 unfolding unseen_due
-told_of front rest t h =
-    step_unseen (known front) t
-    ∙ seen_last front t.cycle (glimpse (known front) t.what) (glimpse_seen (known front) t.what (few_known front (t ∷ rest) h) (whole_known front).standing)
+told_of prefix rest t h =
+    step_unseen (known prefix) t
+    ∙ seen_last prefix t.cycle (glimpse (known prefix) t.what) (glimpse_seen (known prefix) t.what (few_known prefix (t ∷ rest) h) (whole_known prefix).standing)
 
-pub told : (entries front rest : List Timed) (t : Timed) → InOrder 0 entries → entries ≡ front ++ t ∷ rest → filter is_unseen (remarks (known front) t) ≡ unseen_due front t
-told entries front rest t h e = told_of front rest t (subst (InOrder 0) e h)
+pub told : (entries prefix rest : List Timed) (t : Timed) → InOrder 0 entries → entries ≡ prefix ++ t ∷ rest → filter is_unseen (remarks (known prefix) t) ≡ unseen_due prefix t
+told entries prefix rest t h e = told_of prefix rest t (subst (InOrder 0) e h)

@@ -20,15 +20,15 @@ is_unseen s = tells_unseen s.remark
 
 -- a word that is found changed unseen if it differs, in a bit that is known, from what was last known of its register
 abbrev pub found_due : List Timed → ℕ → At → Option ℕ → List Said
-found_due front cycle at None = []
-found_due front cycle at (Some found) =
-    if differing (last_known front at) found == 0 then [] else said cycle (Unseen at (last_known front at) found) ∷ []
+found_due prefix cycle at None = []
+found_due prefix cycle at (Some found) =
+    if differing (last_known prefix at) found == 0 then [] else said cycle (Unseen at (last_known prefix at) found) ∷ []
 
 -- of what an entry shows
 abbrev pub glimpse_due : List Timed → ℕ → Option Glimpse → List Said
-glimpse_due front cycle None = []
-glimpse_due front cycle (Some g) = found_due front cycle g.at g.found
+glimpse_due prefix cycle None = []
+glimpse_due prefix cycle (Some g) = found_due prefix cycle g.at g.found
 
 -- what is to be told of an entry after others: the word that it shows of a register, if that changed unseen
 unfoldable pub unseen_due : List Timed → Timed → List Said
-unseen_due front t = glimpse_due front t.cycle (glimpse (known front) t.what)
+unseen_due prefix t = glimpse_due prefix t.cycle (glimpse (known prefix) t.what)

@@ -6,12 +6,12 @@ use Rattle.fw_log_entry.specs.declared.entry.Entry.TheVariants.{Reset, Async, Is
 use Rattle.fw_log_entry.specs.declared.entry.Timed.{Timed}
 use Rattle.fw_watch_remarks.specs.declared.known.Known.{Known}
 use Rattle.fw_watch_remarks.specs.declared.register.At.{At}
-use Rattle.fw_watch_remarks.specs.declared.register.Register.{Register}
-use Rattle.fw_watch_remarks.specs.declared.register.Register.TheVariants.{Bandwidth, ChannelsHigh, ChannelsLow, Output, Input}
+use Rattle.fw_watch_remarks.specs.declared.register.WatchedRegister.{WatchedRegister}
+use Rattle.fw_watch_remarks.specs.declared.register.WatchedRegister.TheVariants.{Bandwidth, ChannelsHigh, ChannelsLow, Output, Input}
 use Rattle.fw_watch_remarks.specs.Knowing.{nothing_known, all_known, reset_managed, after_reset}
-use Rattle.fw_watch_known.specs.declared.asked.Answer.{Answer}
+use Rattle.fw_watch_requests.specs.declared.asked.Answer.{Answer}
 use Rattle.fw_watch_known.specs.declared.state.State.{State}
-use Rattle.fw_watch_known.specs.Standing.{answer_of}
+use Rattle.fw_watch_requests.specs.Standing.{answer_of}
 use Rattle.fw_watch_known.specs.States.{known_by, no_state}
 use Rattle.fw_watch.specs.declared.answer.Heed.{Heed}
 use Rattle.fw_watch.specs.declared.answer.Heed.TheVariants.{Ignore, Refuse, Follow}
@@ -21,7 +21,7 @@ use Rattle.fw_watch.specs.Steps.{after, shown_at}
 -- ---- registers
 
 -- a plug's number is one of 31
-abbrev pub IsNumber : Register → Type 0
+abbrev pub IsNumber : WatchedRegister → Type 0
 IsNumber Bandwidth = ⊤
 IsNumber ChannelsHigh = ⊤
 IsNumber ChannelsLow = ⊤
@@ -34,7 +34,7 @@ pub record IsPlace (at : At) : Type 0 where
   pub number : IsNumber at.register
 
 -- two registers are one, of the same node or of different ones; of the resource manager's there is one each, whichever node it is
-abbrev pub is_same_by : Register → Register → Bool → Bool
+abbrev pub is_same_by : WatchedRegister → WatchedRegister → Bool → Bool
 is_same_by Bandwidth Bandwidth node = true
 is_same_by ChannelsHigh ChannelsHigh node = true
 is_same_by ChannelsLow ChannelsLow node = true

@@ -18,12 +18,12 @@ use Rattle.fw_model_account.specs.Fold.{account_of, entries_of}
 use Rattle.fw_model_audit.specs.Audited.{IsAudited}
 use Rattle.fw_watch_remarks.specs.declared.remark.Remark.{Remark}
 use Rattle.fw_watch_remarks.specs.declared.remark.Remark.TheVariants.{NotManager, TooMany, UnitsInSecond, NewInSecond, Several, MoreThanMove}
-use Rattle.fw_watch_remarks.specs.declared.register.Register.{Register}
-use Rattle.fw_watch_remarks.specs.declared.register.Register.TheVariants.{Bandwidth, ChannelsHigh, ChannelsLow, Output, Input}
+use Rattle.fw_watch_remarks.specs.declared.register.WatchedRegister.{WatchedRegister}
+use Rattle.fw_watch_remarks.specs.declared.register.WatchedRegister.TheVariants.{Bandwidth, ChannelsHigh, ChannelsLow, Output, Input}
 use Rattle.fw_watch_remarks.specs.Registers.{register_at}
 use Rattle.fw_watch_remarks.specs.Remarks.{Said}
-use Rattle.fw_watch_known.specs.declared.asked.Answer.{Answer}
-use Rattle.fw_watch_known.specs.Standing.{answer_of}
+use Rattle.fw_watch_requests.specs.declared.asked.Answer.{Answer}
+use Rattle.fw_watch_requests.specs.Standing.{answer_of}
 use Rattle.fw_watch.specs.Watched.{known, all_remarks}
 
 -- a lock at a watched register has the label of procedures
@@ -79,7 +79,7 @@ pub record IsOrderly (entries : List Timed) : Type 0 where
   pub labels : All (λ t. IsLabelledIn t.what) entries
 
 -- the offset at which a register stands
-abbrev pub offset_of : Register → ℕ
+abbrev pub offset_of : WatchedRegister → ℕ
 offset_of Bandwidth = BANDWIDTH_AVAILABLE
 offset_of ChannelsHigh = CHANNELS_AVAILABLE_HI
 offset_of ChannelsLow = CHANNELS_AVAILABLE_LO
@@ -89,11 +89,11 @@ offset_of (Input number) = IPCR + 4 * number
 -- What `watch` sees of such a log is the account's: answers to others than procedures, which an audit does not look at, show its words; no write and no
 -- block read takes the place of a request of a procedure; and fewer than 256 requests at watched registers stand at a time, so that none is forgotten.
 pub record ShowsAccount (entries : List Timed) : Type 0 where
-  pub reads : (front rest : List Timed) (t : Timed) (h : Head) (value : ℕ) (a : Answer) (l : Account) → entries ≡ front ++ t ∷ rest
-      → account_of (entries_of front) ≡ Some l → t.what ≡ Async (ReadQuadletReply h 0 value) → h.tl ≢ label_code Procedure
-      → answer_of (known front).standing (ReadQuadletReply h 0 value) ≡ Some a → word_at l a.at.node (offset_of a.at.register) ≡ Some value
+  pub reads : (prefix rest : List Timed) (t : Timed) (h : Head) (value : ℕ) (a : Answer) (l : Account) → entries ≡ prefix ++ t ∷ rest
+      → account_of (entries_of prefix) ≡ Some l → t.what ≡ Async (ReadQuadletReply h 0 value) → h.tl ≢ label_code Procedure
+      → answer_of (known prefix).standing (ReadQuadletReply h 0 value) ≡ Some a → word_at l a.at.node (offset_of a.at.register) ≡ Some value
   pub others : All (λ t. IsApartIn t.what) entries
-  pub few : (front rest : List Timed) → entries ≡ front ++ rest → length (known front).standing < 256
+  pub few : (prefix rest : List Timed) → entries ≡ prefix ++ rest → length (known prefix).standing < 256
 
 -- the cycle of the latest bus reset
 abbrev pub reset_cycle : Option ℕ → ℕ → Entry → Option ℕ
@@ -113,9 +113,9 @@ last_reset since (t ∷ ts) = last_reset (reset_cycle since t.cycle t.what) ts
 -- a bus reset that comes while the second of the account runs comes within 8000 cycles of the one before it
 abbrev pub HasTimelyResets : List Timed → Type 0
 HasTimelyResets entries =
-    (front rest : List Timed) (cycle : ℕ) (r : ResetEntry) (l : Account) → entries ≡ front ++ (record { cycle = cycle; what = Reset r }) ∷ rest → account_of (entries_of front) ≡ Some l
+    (prefix rest : List Timed) (cycle : ℕ) (r : ResetEntry) (l : Account) → entries ≡ prefix ++ (record { cycle = cycle; what = Reset r }) ∷ rest → account_of (entries_of prefix) ≡ Some l
     → IsTrue l.reclaiming
-    → (since : ℕ) × (last_reset None front ≡ Some since) × (cycle < since + 8000)
+    → (since : ℕ) × (last_reset None prefix ≡ Some since) × (cycle < since + 8000)
 
 -- ---- what is not found there
 

@@ -6,8 +6,8 @@ use Rattle.fw_log_entry.specs.declared.entry.Entry.{Entry}
 use Rattle.fw_log_entry.specs.declared.entry.Entry.TheVariants.{Reset, Async, Iso, Event, Outcome, Shown, End}
 use Rattle.fw_log_entry.specs.declared.entry.Timed.{Timed}
 use Rattle.fw_watch_remarks.specs.declared.known.Known.{Known}
-use Rattle.fw_watch_remarks.specs.declared.register.Register.{Register}
-use Rattle.fw_watch_remarks.specs.declared.register.Register.TheVariants.{Bandwidth, ChannelsHigh, ChannelsLow, Output, Input}
+use Rattle.fw_watch_remarks.specs.declared.register.WatchedRegister.{WatchedRegister}
+use Rattle.fw_watch_remarks.specs.declared.register.WatchedRegister.TheVariants.{Bandwidth, ChannelsHigh, ChannelsLow, Output, Input}
 use Rattle.fw_watch_remarks.specs.declared.remark.Remark.{Remark}
 use Rattle.fw_watch_remarks.specs.declared.remark.Remark.TheVariants.{TwoSenders}
 use Rattle.fw_watch_remarks.specs.Knowing.{all_known, is_forgotten, channel_of, is_channel}
@@ -35,7 +35,7 @@ abbrev pub plug_changes : Option ℕ → Option ℕ → ℕ → Bool
 plug_changes old now channel = not (same_channel old now) && (is_channel channel old || is_channel channel now)
 
 -- what becomes known of a register moves a channel: its bit changes, or a plug comes to it or leaves it
-abbrev pub changes : Register → Known → Known → ℕ → Bool
+abbrev pub changes : WatchedRegister → Known → Known → ℕ → Bool
 changes Bandwidth old now channel = false
 changes ChannelsHigh old now channel = half_changes 0 old now channel
 changes ChannelsLow old now channel = half_changes 32 old now channel
@@ -43,7 +43,7 @@ changes (Output number) old now channel = plug_changes (channel_of old) (channel
 changes (Input number) old now channel = plug_changes (channel_of old) (channel_of now) channel
 
 -- a word that is found, and what is known then, move a channel
-abbrev pub found_moves : Register → Known → Option ℕ → Known → ℕ → Bool
+abbrev pub found_moves : WatchedRegister → Known → Option ℕ → Known → ℕ → Bool
 found_moves register old None left channel = changes register old left channel
 found_moves register old (Some found) left channel = changes register old (all_known found) channel || changes register (all_known found) left channel
 
@@ -80,7 +80,7 @@ is_two channel s = tells_two channel s.remark
 pub record TwoTold (entries : List Timed) (channel : ℕ) : Type 0 where
   pub before : List Timed
   pub entry : Timed
-  pub behind : List Timed
-  pub parts : entries ≡ before ++ entry ∷ behind
+  pub following : List Timed
+  pub parts : entries ≡ before ++ entry ∷ following
   pub told : list_any (is_two channel) (remarks (known before) entry) ≡ true
-  pub since : stays (known (before ++ entry ∷ [])) behind channel ≡ true
+  pub since : stays (known (before ++ entry ∷ [])) following channel ≡ true

@@ -20,15 +20,15 @@ ghost use Rattle.fw_watch_laws.specs.TwoSenders.{IsPacket, stays, TwoTold};
 /// entry of a log the remarks `Unseen` are exactly the one that is due: if it shows a word that differs from that.
 pub fn changed_words_are_told()
     ensures kept { (entries : List Timed) (at : At) → IsPlace at → known_of (known entries) at ≡ last_known entries at }
-    ensures told { (entries front rest : List Timed) (t : Timed) → InOrder 0 entries → entries ≡ front ++ t ∷ rest → filter is_unseen (remarks (known front) t) ≡ unseen_due front t }
+    ensures told { (entries prefix rest : List Timed) (t : Timed) → InOrder 0 entries → entries ≡ prefix ++ t ∷ rest → filter is_unseen (remarks (known prefix) t) ≡ unseen_due prefix t }
 {}
 
 /// Two senders on one channel are told whenever they are there: of two isochronous packets of a channel with different SIDs, between
 /// which nothing moves the channel (no bus reset, and no answer or shown word that changes its bit, or whether a plug is on it, or
 /// after which that is not known any more), the finding stands at an entry up to the second one, since which nothing moved it.
 pub fn two_senders_are_told()
-    ensures { (front mid : List Timed) (p q : Timed) (channel a b : ℕ) → InOrder 0 (front ++ p ∷ (mid ++ q ∷ [])) → channel < 64 → IsPacket p channel a → IsPacket q channel b → a ≢ b
-        → stays (known (front ++ p ∷ [])) mid channel ≡ true → TwoTold (front ++ p ∷ (mid ++ q ∷ [])) channel }
+    ensures { (prefix mid : List Timed) (p q : Timed) (channel a b : ℕ) → InOrder 0 (prefix ++ p ∷ (mid ++ q ∷ [])) → channel < 64 → IsPacket p channel a → IsPacket q channel b → a ≢ b
+        → stays (known (prefix ++ p ∷ [])) mid channel ≡ true → TwoTold (prefix ++ p ∷ (mid ++ q ∷ [])) channel }
 {}
 
 /// In a log without an audit fault, whose locks at watched registers are those of procedures, no swap is made at a node that is not the resource manager.

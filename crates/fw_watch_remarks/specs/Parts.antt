@@ -2,8 +2,8 @@
 use Rattle.std.specs.Prelude.{ℕ, zero, suc, ◌+◌, ◌-◌, ◌^◌, ◌/◌, ◌%◌, ◌==◌, ◌||◌, nat_lt, Bool, false, bit_and, List, [], ◌++◌, codes, decimal, Option, Some, None, if◌then◌else◌}
 use Rattle.fw_log_names.specs.Texts.{hex}
 use Rattle.fw_log_names.specs.Names.{node_text}
-use Rattle.fw_watch_remarks.specs.declared.register.Register.{Register}
-use Rattle.fw_watch_remarks.specs.declared.register.Register.TheVariants.{Bandwidth, ChannelsHigh, ChannelsLow, Output, Input}
+use Rattle.fw_watch_remarks.specs.declared.register.WatchedRegister.{WatchedRegister}
+use Rattle.fw_watch_remarks.specs.declared.register.WatchedRegister.TheVariants.{Bandwidth, ChannelsHigh, ChannelsLow, Output, Input}
 use Rattle.fw_watch_remarks.specs.declared.known.Known.{Known}
 use Rattle.fw_watch_remarks.specs.Knowing.{bit_of}
 
@@ -56,7 +56,7 @@ moved_units old new =
     codes ", " ++ units_text (apart old new) ++ either (nat_lt new old) (codes " taken") (codes " given back")
 
 -- what changed unseen in a register
-unfoldable pub moved_text : Register → Known → ℕ → List ℕ
+unfoldable pub moved_text : WatchedRegister → Known → ℕ → List ℕ
 moved_text Bandwidth known found = moved_units known.word found
 moved_text ChannelsHigh known found = moved_channels known found 0
 moved_text ChannelsLow known found = moved_channels known found 32

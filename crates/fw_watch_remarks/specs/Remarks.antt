@@ -2,11 +2,11 @@
 use Rattle.std.specs.Prelude.{ℕ, ◌+◌, ◌-◌, ◌^◌, ◌==◌, nat_lt, Bool, true, false, bit_and, min, List, [], ◌∷◌, ◌++◌, codes, decimal, Option, if◌then◌else◌}
 use Rattle.fw_words.specs.Quadlet.{field}
 use Rattle.fw_log_names.specs.Texts.{hex}
-use Rattle.fw_watch_remarks.specs.declared.register.Register.{Register}
+use Rattle.fw_watch_remarks.specs.declared.register.WatchedRegister.{WatchedRegister}
 use Rattle.fw_watch_remarks.specs.declared.register.At.{At}
 use Rattle.fw_watch_remarks.specs.declared.known.Known.{Known}
 use Rattle.fw_watch_remarks.specs.declared.remark.Remark.{Remark}
-use Rattle.fw_watch_remarks.specs.declared.remark.Remark.TheVariants.{Reset, Units, Takes, Returns, Plug, Unseen, Sends, Held, NotManager}
+use Rattle.fw_watch_remarks.specs.declared.remark.Remark.TheVariants.{Reset, Units, Takes, Returns, Plug, Unseen, Sends, UnusedChannel, NotManager}
 use Rattle.fw_watch_remarks.specs.declared.remark.Remark.TheVariants.{TooMany, UnitsInSecond, NewInSecond, Several, MoreThanMove, TwoSenders, NotTaken, OtherPlug}
 use Rattle.fw_watch_remarks.specs.Registers.{at_text}
 use Rattle.fw_watch_remarks.specs.Knowing.{is_connected}
@@ -21,7 +21,7 @@ is_finding (Returns by channel) = false
 is_finding (Plug by at old new) = false
 is_finding (Unseen at known found) = false
 is_finding (Sends node channel) = false
-is_finding (Held node channel) = true
+is_finding (UnusedChannel node channel) = true
 is_finding (NotManager by at manager) = true
 is_finding (TooMany by left) = true
 is_finding (UnitsInSecond by epoch taken held) = true
@@ -82,7 +82,7 @@ unfoldable pub found_text : At → Known → ℕ → List ℕ
 found_text at known found = place_found at ++ hex 8 found ++ known_text known
 
 -- that it changed, and what
-unfoldable pub changed_text : Register → Known → ℕ → List ℕ
+unfoldable pub changed_text : WatchedRegister → Known → ℕ → List ℕ
 changed_text register known found = mask_text known.mask ++ codes ": changed unseen" ++ moved_text register known found
 
 -- a word that changed unseen
@@ -185,7 +185,7 @@ remark_text (Returns by channel) = channel_text by (codes " gives back channel "
 remark_text (Plug by at old new) = plug_text by at old new
 remark_text (Unseen at known found) = unseen_text at known found
 remark_text (Sends node channel) = sends_text node channel
-remark_text (Held node channel) = held_text node channel
+remark_text (UnusedChannel node channel) = held_text node channel
 remark_text (NotManager by at manager) = not_manager_text by at manager
 remark_text (TooMany by left) = too_many_text by left
 remark_text (UnitsInSecond by epoch taken held) = units_in_second_text by epoch taken held
@@ -214,15 +214,15 @@ unfoldable pub counted : ℕ → ℕ
 counted n = min (n + 1) (2 ^ 64 - 1)
 
 -- what was told: the bytes of the lines, and how many of them are findings
-pub record Told : Type 0 where
+pub record WatchOutput : Type 0 where
   pub text : List ℕ
   pub findings : ℕ
 
 -- one line more
-unfoldable pub with_line : Told → Said → Told
+unfoldable pub with_line : WatchOutput → Said → WatchOutput
 with_line t s = record { text = t.text ++ line s; findings = if is_finding s.remark then counted t.findings else t.findings }
 
 -- more lines
-abbrev pub told : Told → List Said → Told
+abbrev pub told : WatchOutput → List Said → WatchOutput
 told t [] = t
 told t (s ∷ rest) = told (with_line t s) rest

@@ -160,7 +160,7 @@ pub fn put_finding(text: &mut Vec<u8>, pairs: &Pairs, remark: &Remark) -> Result
     ensures { IsTrue (is_finding remark.now) → OnOk result (text.new.items ≡ text.old.items ++ remark_text remark.now) }
 {
     match *remark {
-        Remark::Held { node, channel } => put_held(text, node, channel),
+        Remark::UnusedChannel { node, channel } => put_held(text, node, channel),
         Remark::NotManager { by, at, manager } => put_not_manager(text, pairs, by, at, manager),
         Remark::TooMany { by, left } => put_too_many(text, pairs, by, left),
         Remark::UnitsInSecond {

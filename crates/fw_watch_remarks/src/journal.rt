@@ -22,9 +22,9 @@ pub struct Journal {
 }
 
 impl Model for Journal {
-    ghost use Rattle.fw_watch_remarks.specs.Remarks.{Told};
+    ghost use Rattle.fw_watch_remarks.specs.Remarks.{WatchOutput};
 
-    ghost Value = { Told };
+    ghost Value = { WatchOutput };
 
     ghost view = { λ j. record { text = j.text.items; findings = j.findings } };
 }

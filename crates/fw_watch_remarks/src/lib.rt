@@ -15,5 +15,5 @@ mod unseen;
 pub use count::counted;
 pub use journal::Journal;
 pub use known::{Known, Managed, bit, is_connected};
-pub use register::{At, Register};
+pub use register::{At, WatchedRegister};
 pub use remark::Remark;

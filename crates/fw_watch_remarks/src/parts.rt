@@ -5,7 +5,7 @@ ghost use Rattle.fw_words.specs.Quadlet.{field};
 ghost use Rattle.fw_watch_remarks.specs.Parts.{part, either, who_text, units_text, channel_at, channels_to, set_text, moved_channels, apart, moved_units, moved_text, mask_text, has_bit, next_owner, owners_to, manager_text, manager_clause};
 
 use crate::known::{Known, bit};
-use crate::register::Register;
+use crate::register::WatchedRegister;
 use fw_log_names::{Pairs, put_hex8, put_node, put_number, put_word};
 use fw_words::Quadlet;
 use std::alloc::AllocError;
@@ -155,17 +155,17 @@ fn put_moved_units(text: &mut Vec<u8>, old: u32, new: u32) -> Result<(), AllocEr
 #[tactic(auto, unfolding(crate::specs::Parts::moved_text))]
 pub fn put_moved(
     text: &mut Vec<u8>,
-    register: Register,
+    register: WatchedRegister,
     known: Known,
     found: u32,
 ) -> Result<(), AllocError>
     ensures { OnOk result (text.new.items ≡ text.old.items ++ moved_text register known found) }
 {
     match register {
-        Register::Bandwidth => put_moved_units(text, known.word, found),
-        Register::ChannelsHigh => put_moved_channels(text, known, found, 0),
-        Register::ChannelsLow => put_moved_channels(text, known, found, 32),
-        Register::Output(_) | Register::Input(_) => Ok(()),
+        WatchedRegister::Bandwidth => put_moved_units(text, known.word, found),
+        WatchedRegister::ChannelsHigh => put_moved_channels(text, known, found, 0),
+        WatchedRegister::ChannelsLow => put_moved_channels(text, known, found, 32),
+        WatchedRegister::Output(_) | WatchedRegister::Input(_) => Ok(()),
     }
 }
 

@@ -7,12 +7,12 @@ use fw_csr::offset::{
     BANDWIDTH_AVAILABLE, CHANNELS_AVAILABLE_HI, CHANNELS_AVAILABLE_LO, IPCR, OPCR,
 };
 use fw_log_names::{Pairs, put_number, put_word};
-use fw_log_registers::{Place, Register as Named, put_place};
+use fw_log_registers::{NamedRegister as Named, RegisterPlace, put_place};
 use std::alloc::AllocError;
 
 /// A register that is watched: the resource manager's three, and the plug control registers of each node.
 #[derive(Clone, Copy)]
-pub enum Register {
+pub enum WatchedRegister {
     /// BANDWIDTH_AVAILABLE.
     Bandwidth,
     /// CHANNELS_AVAILABLE_HI, of the channels 0 to 31.
@@ -31,7 +31,7 @@ pub struct At {
     /// The node's number.
     pub node: u8,
     /// Which of its registers.
-    pub register: Register,
+    pub register: WatchedRegister,
 }
 
 // The number of the plug whose register stands at an offset, if the first of the 31 stands at another.
@@ -48,28 +48,28 @@ fn plug_number(first: u64, offset: u64) -> Option<u8>
 }
 
 // The plug whose register stands at an offset.
-fn plug_at(offset: u64) -> Option<Register>
+fn plug_at(offset: u64) -> Option<WatchedRegister>
     ensures { result ≡ plug_at offset }
 {
     if let Some(number) = plug_number(OPCR, offset) {
-        return Some(Register::Output(number));
+        return Some(WatchedRegister::Output(number));
     }
     match plug_number(IPCR, offset) {
-        Some(number) => Some(Register::Input(number)),
+        Some(number) => Some(WatchedRegister::Input(number)),
         None => None,
     }
 }
 
-impl Register {
+impl WatchedRegister {
     /// The watched register that stands at an offset of 48 bits, if one does.
     #[tactic(auto, unfolding(crate::specs::Registers::register_at))]
-    pub fn at(offset: u64) -> Option<Register>
+    pub fn at(offset: u64) -> Option<WatchedRegister>
         ensures { result ≡ register_at offset }
     {
         match offset {
-            BANDWIDTH_AVAILABLE => Some(Register::Bandwidth),
-            CHANNELS_AVAILABLE_HI => Some(Register::ChannelsHigh),
-            CHANNELS_AVAILABLE_LO => Some(Register::ChannelsLow),
+            BANDWIDTH_AVAILABLE => Some(WatchedRegister::Bandwidth),
+            CHANNELS_AVAILABLE_HI => Some(WatchedRegister::ChannelsHigh),
+            CHANNELS_AVAILABLE_LO => Some(WatchedRegister::ChannelsLow),
             _ => plug_at(offset),
         }
     }
@@ -79,8 +79,10 @@ impl Register {
         ensures { result ≡ is_managed self }
     {
         match self {
-            Register::Bandwidth | Register::ChannelsHigh | Register::ChannelsLow => true,
-            Register::Output(_) | Register::Input(_) => false,
+            WatchedRegister::Bandwidth
+            | WatchedRegister::ChannelsHigh
+            | WatchedRegister::ChannelsLow => true,
+            WatchedRegister::Output(_) | WatchedRegister::Input(_) => false,
         }
     }
 
@@ -89,21 +91,27 @@ impl Register {
         ensures { result ≡ is_output self }
     {
         match self {
-            Register::Output(_) => true,
+            WatchedRegister::Output(_) => true,
             _ => false,
         }
     }
 
     // Its name.
-    fn place(self) -> Place
+    fn place(self) -> RegisterPlace
         ensures { result ≡ place_of self }
     {
         match self {
-            Register::Bandwidth => Place::Named(Named::BandwidthAvailable, 0),
-            Register::ChannelsHigh => Place::Named(Named::ChannelsAvailableHi, 0),
-            Register::ChannelsLow => Place::Named(Named::ChannelsAvailableLo, 0),
-            Register::Output(number) => Place::Named(Named::OutputPlug, u16::from(number)),
-            Register::Input(number) => Place::Named(Named::InputPlug, u16::from(number)),
+            WatchedRegister::Bandwidth => RegisterPlace::Named(Named::BandwidthAvailable, 0),
+            WatchedRegister::ChannelsHigh => RegisterPlace::Named(Named::ChannelsAvailableHi, 0),
+            WatchedRegister::ChannelsLow => RegisterPlace::Named(Named::ChannelsAvailableLo, 0),
+            WatchedRegister::Output(number) => RegisterPlace::Named(
+                Named::OutputPlug,
+                u16::from(number),
+            ),
+            WatchedRegister::Input(number) => RegisterPlace::Named(
+                Named::InputPlug,
+                u16::from(number),
+            ),
         }
     }
 }

@@ -50,7 +50,7 @@ pub enum Remark {
         channel: u8,
     },
     /// Finding: a channel was taken a second ago, and nobody has used it.
-    Held {
+    UnusedChannel {
         node: u8,
         channel: u8,
     },
@@ -122,7 +122,7 @@ impl Remark {
             | Remark::Plug { .. }
             | Remark::Unseen { .. }
             | Remark::Sends { .. } => false,
-            Remark::Held { .. }
+            Remark::UnusedChannel { .. }
             | Remark::NotManager { .. }
             | Remark::TooMany { .. }
             | Remark::UnitsInSecond { .. }

@@ -5,7 +5,7 @@ ghost use Rattle.fw_watch_remarks.specs.Remarks.{place_found, known_text, found_
 
 use crate::known::Known;
 use crate::parts::{put_mask, put_moved};
-use crate::register::{At, Register, put_at};
+use crate::register::{At, WatchedRegister, put_at};
 use fw_log_names::{Pairs, put_hex8, put_word};
 use std::alloc::AllocError;
 
@@ -50,7 +50,7 @@ fn put_found(
 fn put_changed(
     text: &mut Vec<u8>,
     pairs: &Pairs,
-    register: Register,
+    register: WatchedRegister,
     known: Known,
     found: u32,
 ) -> Result<(), AllocError>

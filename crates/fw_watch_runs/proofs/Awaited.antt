@@ -1,16 +1,16 @@
 -- Of requests that are of no procedure only that of the transaction of the script that waits stands in `watch`.
 use Rattle.fw_watch_runs.proofs.Common.{◌≡◌, refl, ap, sym, ◌∙◌, ℕ, ◌+◌, ◌≤◌, ◌==◌, ◌&&◌, not, Bool, true, false, List, [], ◌∷◌, ◌++◌, length, if◌then◌else◌, Option, Some, None, IsTrue, is_some}
 use Rattle.fw_watch_runs.proofs.Common.{get_or, arith, All, count_by, eqb-true, Procedure, label_code, Head, Packet, WriteQuadlet, WriteBlock, WriteReply, ReadQuadlet, ReadBlock, ReadQuadletReply}
-use Rattle.fw_watch_runs.proofs.Common.{ReadBlockReply, CycleStart, LockReply, Reply, Register, register_at, Asked, standing_behind, packet_of, Access, Read, Swap, access_request}
+use Rattle.fw_watch_runs.proofs.Common.{ReadBlockReply, CycleStart, LockReply, Reply, WatchedRegister, register_at, Asked, standing_following, packet_of, Access, Read, Swap, access_request}
 use Rattle.std.proofs.Common.{drop, true≢false}
 use Rattle.std.proofs.lemmas.Bool.{eq-eqb}
 use Rattle.std.proofs.lemmas.List.Elements.{All-filter}
 use Rattle.fw_words.specs.declared.swap.Swap.{Swap as Words}
 use Rattle.fw_async.specs.declared.packet.Packet.TheVariants.{Lock as LockRequest}
 use Rattle.fw_model_account.specs.Words.{first_address}
-use Rattle.fw_watch_known.specs.declared.asked.Asking.{Asking}
-use Rattle.fw_watch_known.specs.declared.asked.Asking.TheVariants.{Read as AskRead}
-use Rattle.fw_watch_known.specs.Standing.{is_read, alike, is_of, answers, lock_of, without_same, without_answered, asked_at_register, with_request}
+use Rattle.fw_watch_requests.specs.declared.asked.Asking.{Asking}
+use Rattle.fw_watch_requests.specs.declared.asked.Asking.TheVariants.{Read as AskRead}
+use Rattle.fw_watch_requests.specs.Standing.{is_read, alike, is_of, answers, lock_of, without_same, without_answered, asked_at_register, with_request}
 use Rattle.fw_node.specs.Packets.{response_head}
 use Rattle.fw_model_run.proofs.Transactions.{access_response}
 use Rattle.fw_watch_laws.specs.Orderly.{IsLabelled}
@@ -40,13 +40,13 @@ IsOwnedOr h a q = (q.label ≡ label_code Procedure → ⊥) → IsReadOf h a q
 
 -- ---- entries beside the script
 
-beside_more : (xs : List Asked) (h : Head) (o : Option Register) (asking : Asking) → All IsOwned xs → (IsTrue (is_some o) → h.tl ≡ label_code Procedure)
+beside_more : (xs : List Asked) (h : Head) (o : Option WatchedRegister) (asking : Asking) → All IsOwned xs → (IsTrue (is_some o) → h.tl ≡ label_code Procedure)
     → All IsOwned (with_request (asked_at_register h o asking) xs)
 beside_more xs h None asking a f = a
 beside_more xs h (Some r) asking a f = one_more IsOwned xs (record { source = h.source; destination = h.destination; label = h.tl; register = r; asking = asking }) a (f refl)
 
-pub beside_standing : (p : Packet) (xs : List Asked) → IsBeside p → IsLabelled p → All IsOwned xs → All IsOwned (standing_behind p xs)
-unfolding standing_behind without_same without_answered
+pub beside_standing : (p : Packet) (xs : List Asked) → IsBeside p → IsLabelled p → All IsOwned xs → All IsOwned (standing_following p xs)
+unfolding standing_following without_same without_answered
 beside_standing (WriteQuadlet h offset value) xs b l a = All-filter (λ q. not (is_of h q)) IsOwned xs a
 beside_standing (WriteBlock h offset bytes) xs b l a = All-filter (λ q. not (is_of h q)) IsOwned xs a
 beside_standing (WriteReply h rcode) xs b l a = a
@@ -83,12 +83,12 @@ one_most : (b : Bool) → one b ≤ 1
 one_most true = omega arith
 one_most false = omega arith
 
--- the requests that stand after an entry, of which at most one is of no procedure
+-- the outstanding requests after an entry, of which at most one is of no procedure
 pub record Stand (h : Head) (a : Access) (xs : List Asked) : Type 0 where
   pub each : All (IsOwnedOr h a) xs
   pub few : count_by is_other xs ≤ 1
 
-read_by : (o : Option Register) (h : Head) (offset : ℕ) (xs : List Asked) → register_at (first_address + offset) ≡ o → All IsOwned xs
+read_by : (o : Option WatchedRegister) (h : Head) (offset : ℕ) (xs : List Asked) → register_at (first_address + offset) ≡ o → All IsOwned xs
     → Stand h (Read offset) (with_request (asked_at_register h o AskRead) xs)
 read_by None h offset xs e a = record { each = owned_or h (Read offset) xs a; few = (let z = none_other xs a in omega (arith, z)) }
 read_by (Some r) h offset xs e a =
@@ -106,10 +106,10 @@ read_by (Some r) h offset xs e a =
 all_owned : (h : Head) (a : Access) (xs : List Asked) → All IsOwned xs → Stand h a xs
 all_owned h a xs f = record { each = owned_or h a xs f; few = (let z = none_other xs f in omega (arith, z)) }
 
-pub asked_standing : (h : Head) (a : Access) (xs : List Asked) → IsLabelled (packet_of h (access_request a)) → All IsOwned xs → Stand h a (standing_behind (packet_of h (access_request a)) xs)
-unfolding standing_behind without_same
+pub asked_standing : (h : Head) (a : Access) (xs : List Asked) → IsLabelled (packet_of h (access_request a)) → All IsOwned xs → Stand h a (standing_following (packet_of h (access_request a)) xs)
+unfolding standing_following without_same
 asked_standing h (Read offset) xs l a = read_by (register_at (first_address + offset)) h offset (without_same h xs) refl (All-filter (λ q. not (is_of h q)) IsOwned xs a)
-asked_standing h (Swap offset swap) xs l a = all_owned h (Swap offset swap) (standing_behind (packet_of h (access_request (Swap offset swap))) xs)
+asked_standing h (Swap offset swap) xs l a = all_owned h (Swap offset swap) (standing_following (packet_of h (access_request (Swap offset swap))) xs)
     (beside_standing (packet_of h (access_request (Swap offset swap))) xs tt l a)
 
 -- ---- the response to it
@@ -140,8 +140,8 @@ swap_owned : (h : Head) (offset : ℕ) (w : Words) (q : Asked) → IsOwnedOr h (
 swap_owned h offset w q f = owned_if (q.label == label_code Procedure) q refl (λ other. (let x : IsReadOf h (Swap offset w) q = f other in no_read offset x.offset w x.access))
 
 pub answered_standing : (n : ℕ) (h : Head) (a : Access) (r : Reply) (xs : List Asked) → h.destination ≡ (response_head n h).source → All (IsOwnedOr h a) xs
-    → All IsOwned (standing_behind (access_response n h a r) xs)
-unfolding standing_behind without_answered
+    → All IsOwned (standing_following (access_response n h a r) xs)
+unfolding standing_following without_answered
 answered_standing n h (Read offset) r xs to f =
     filtered (IsOwnedOr h (Read offset)) IsOwned (λ q. not (answers true (response_head n h) q)) xs f f
     (λ q t w. read_gone n h offset q to (not_true (answers true (response_head n h) q) t) w)

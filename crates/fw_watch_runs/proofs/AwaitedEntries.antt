@@ -1,6 +1,6 @@
--- The requests that stand in `watch` after entries of a run.
+-- The outstanding requests in `watch` after entries of a run.
 use Rattle.fw_watch_runs.proofs.Common.{◌≡◌, ap, sym, ◌∙◌, subst, ℕ, ◌+◌, ◌==◌, not, Bool, true, false, List, [], if◌then◌else◌, Option, Some, None, arith, All, Packet, Entry, Reset, Async, Iso}
-use Rattle.fw_watch_runs.proofs.Common.{Event, Outcome, Shown, End, Timed, Account, Asked, answer_of, standing_behind, after, IsLabelledIn}
+use Rattle.fw_watch_runs.proofs.Common.{Event, Outcome, Shown, End, Timed, Account, Asked, answer_of, standing_following, after, IsLabelledIn}
 use Rattle.std.proofs.lemmas.List.Elements.{All-filter}
 use Rattle.fw_log_entry.specs.declared.codes.event.TheConstants as Events
 use Rattle.fw_log_entry.specs.declared.entry.EventEntry.{EventEntry}
@@ -8,7 +8,7 @@ use Rattle.fw_watch_known.specs.declared.channel.Channel.{Channel}
 use Rattle.fw_watch_known.specs.declared.second.Second.{Second}
 use Rattle.fw_watch_known.specs.declared.state.State.{State}
 use Rattle.fw_watch_known.specs.Heard.{after_heard}
-use Rattle.fw_watch_known.specs.Standing.{is_from, without_source}
+use Rattle.fw_watch_requests.specs.Standing.{is_from, without_source}
 use Rattle.fw_watch_known.specs.States.{reset_state, ended_second, node_of_device, buried, after_death}
 use Rattle.fw_watch.specs.Answering.{with_packet, after_packet}
 use Rattle.fw_watch.specs.Steps.{shown_at, after_shown, after_event, after_what}
@@ -17,11 +17,11 @@ use Rattle.fw_watch_runs.proofs.Awaited.{IsOwned, beside_standing}
 use Rattle.fw_watch_runs.proofs.Beside.{IsBesideIn}
 
 -- what stands after a packet
-packet_what : (cycle : ℕ) (p : Packet) (s : State) (c : List Channel) (d : Second) → (after_what cycle (Async p) (aside s c d)).standing ≡ standing_behind p s.standing
+packet_what : (cycle : ℕ) (p : Packet) (s : State) (c : List Channel) (d : Second) → (after_what cycle (Async p) (aside s c d)).standing ≡ standing_following p s.standing
 unfolding after_what after_packet
 packet_what cycle p s c d = (answered_frame (answer_of s.standing p) cycle (with_packet p (aside s c d))).standing
 
-pub packet_stands : (t : Timed) (p : Packet) (s : State) → t.what ≡ Async p → (after s t).standing ≡ standing_behind p s.standing
+pub packet_stands : (t : Timed) (p : Packet) (s : State) → t.what ≡ Async p → (after s t).standing ≡ standing_following p s.standing
 unfolding after
 packet_stands t p s e =
     let o = ticked_only t.cycle s in

@@ -11,9 +11,9 @@ use Rattle.fw_cmp.specs.declared.current.Current.{Current}
 use Rattle.fw_cmp.specs.declared.current.Current.TheVariants.{Nothing, Asking, Hearing, Overtaken}
 use Rattle.fw_cmp.specs.declared.outcome.Next.{Next}
 use Rattle.fw_cmp.specs.declared.outcome.Next.TheVariants.{Send, End as EndJob, Idle, Waiting, Deaf, Force}
-use Rattle.fw_cmp.specs.declared.request.Access.{Access}
+use Rattle.fw_cmp_jobs.specs.declared.request.Access.{Access}
 use Rattle.fw_cmp.specs.Controllers.{IsHeard}
-use Rattle.fw_cmp.specs.Requests.{offset_of, access_of, request_of, addressee_of}
+use Rattle.fw_cmp_jobs.specs.Requests.{offset_of, access_of, request_of, addressee_of}
 use Rattle.fw_cmp.specs.Turns.{next, after_next}
 use Rattle.fw_node.specs.Packets.{response_to}
 use Rattle.fw_model_controllers.specs.Requests.{Tells}

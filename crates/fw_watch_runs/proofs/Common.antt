@@ -11,13 +11,14 @@ pub use Rattle.fw_log_entry.specs.declared.entry.Entry.{Entry}
 pub use Rattle.fw_log_entry.specs.declared.entry.Entry.TheVariants.{Async, End, Event, Iso, Outcome, Reset, Shown}
 pub use Rattle.fw_log_entry.specs.declared.entry.ResetEntry.{ResetEntry}
 pub use Rattle.fw_log_entry.specs.declared.entry.Timed.{Timed}
-pub use Rattle.fw_watch_known.specs.Standing.{answer_of}
-unfoldable pub use Rattle.fw_watch_known.specs.Standing.{standing_behind}
-pub use Rattle.fw_watch_known.specs.declared.asked.Asked.{Asked}
+pub use Rattle.fw_watch_requests.specs.Standing.{answer_of}
+unfoldable pub use Rattle.fw_watch_requests.specs.Standing.{standing_following}
+pub use Rattle.fw_watch_requests.specs.declared.asked.Asked.{Asked}
 pub use Rattle.fw_node.specs.Packets.{packet_of}
 unfoldable pub use Rattle.fw_watch_remarks.specs.Registers.{register_at}
-pub use Rattle.fw_watch_remarks.specs.declared.register.Register.{Register}
-pub use Rattle.fw_model_run.specs.Actions.{Action, Answer, Ask, Contend, EndSecond, HalfStep, KeepBlock, Pass, Step, Steps, Unsettled}
+pub use Rattle.fw_watch_remarks.specs.declared.register.WatchedRegister.{WatchedRegister}
+pub use Rattle.fw_model_run.specs.Actions.{Action, Answer, Ask, Contend, EndSecond, HalfStep, KeepBlock, Pass, Unsettled}
+pub use Rattle.fw_model_run.specs.Deeds.{Transition, Transitions}
 pub use Rattle.fw_model_run.specs.Giving.{at_cycle, at_most}
 pub use Rattle.fw_model_run.specs.Good.{IsGood}
 pub use Rattle.fw_model_run.specs.HalfSteps.{half}

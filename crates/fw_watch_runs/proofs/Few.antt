@@ -14,7 +14,7 @@ use Rattle.fw_watch_laws.proofs.Latest.{next_latest}
 use Rattle.fw_watch_laws.proofs.OnBus.{IsOnBus, step_on}
 use Rattle.fw_watch_laws.proofs.Passing.{Passes, known_push}
 use Rattle.fw_watch_runs.proofs.Alone.{one, count_none, count_less, count_either, count_all}
-use Rattle.fw_watch_runs.proofs.Fronts.{Holds, at_front}
+use Rattle.fw_watch_runs.proofs.Fronts.{Holds, at_prefix}
 use Rattle.fw_watch_runs.proofs.Owed.{IsOwed, AllOwed}
 use Rattle.fw_watch_runs.proofs.OwedEntries.{none_stands, step_owed}
 use Rattle.fw_watch_runs.proofs.Single.{own_from, Single, step_single}
@@ -86,30 +86,30 @@ few_own l s b a i =
 
 -- ---- each prefix
 
-record IsKept (front : List Timed) (l : Account) : Type 0 where
-  pub nodes : IsOnBus l.latest (known front)
-  pub owed : AllOwed l (known front).standing
-  pub single : Single (known front).standing
+record IsKept (prefix : List Timed) (l : Account) : Type 0 where
+  pub nodes : IsOnBus l.latest (known prefix)
+  pub owed : AllOwed l (known prefix).standing
+  pub single : Single (known prefix).standing
 
-kept_step : (entries front rest : List Timed) (t : Timed) (l m : Account) → Passes entries front rest t l m → IsKept front l → IsKept (front ++ t ∷ []) m
-kept_step entries front rest t l m y f =
-    let push : after (known front) t ≡ known (front ++ t ∷ []) = sym (known_push front t) in
+kept_step : (entries prefix rest : List Timed) (t : Timed) (l m : Account) → Passes entries prefix rest t l m → IsKept prefix l → IsKept (prefix ++ t ∷ []) m
+kept_step entries prefix rest t l m y f =
+    let push : after (known prefix) t ≡ known (prefix ++ t ∷ []) = sym (known_push prefix t) in
     let P : State → Type 0 = λ z. IsOnBus m.latest z in
     let Q : State → Type 0 = λ z. AllOwed m z.standing in
     let R : State → Type 0 = λ z. Single z.standing in
     record {
-      nodes = subst P push (step_on t (known front) l.latest m.latest y.fits (next_latest t.what l m y.next) f.nodes);
-      owed = subst Q push (step_owed t (known front) l m y.agrees.apart f.nodes y.agrees.matched f.owed y.next);
-      single = subst R push (step_single t (known front) l m f.owed f.single y.next);
+      nodes = subst P push (step_on t (known prefix) l.latest m.latest y.fits (next_latest t.what l m y.next) f.nodes);
+      owed = subst Q push (step_owed t (known prefix) l m y.agrees.apart f.nodes y.agrees.matched f.owed y.next);
+      single = subst R push (step_single t (known prefix) l m f.owed f.single y.next);
     }
 
 -- if at most one stands that is of no procedure, fewer than 256 stand
-pub few_stand : (entries front rest : List Timed) → IsOrderly entries → entries ≡ front ++ rest → count_by (λ q. not (is_own q)) (known front).standing ≤ 1
-    → length (known front).standing < 256
-few_stand entries front rest o e others =
-    let x : Holds IsKept front = at_front entries IsKept o (λ a b t l m y f. kept_step entries a b t l m y f)
-    (record { nodes = tt; owed = none_stands no_account; single = λ k. omega arith }) front rest e in
-    let k : IsKept front x.0 = x.2 in
-    let own = few_own x.0 (known front) k.nodes k.owed k.single in
-    let all = count_all is_own (known front).standing in
+pub few_stand : (entries prefix rest : List Timed) → IsOrderly entries → entries ≡ prefix ++ rest → count_by (λ q. not (is_own q)) (known prefix).standing ≤ 1
+    → length (known prefix).standing < 256
+few_stand entries prefix rest o e others =
+    let x : Holds IsKept prefix = at_prefix entries IsKept o (λ a b t l m y f. kept_step entries a b t l m y f)
+    (record { nodes = tt; owed = none_stands no_account; single = λ k. omega arith }) prefix rest e in
+    let k : IsKept prefix x.0 = x.2 in
+    let own = few_own x.0 (known prefix) k.nodes k.owed k.single in
+    let all = count_all is_own (known prefix).standing in
     omega (arith, own, all, others)

@@ -3,7 +3,7 @@ use Rattle.fw_watch_runs.proofs.Common.{◌≡◌, refl, Bool, true, false, List
 use Rattle.std.proofs.Common.{◌||◌}
 use Rattle.std.specs.List.{list_any}
 use Rattle.fw_watch_remarks.specs.declared.remark.Remark.{Remark}
-use Rattle.fw_watch_remarks.specs.declared.remark.Remark.TheVariants.{Reset, Units, Takes, Returns, Plug, Unseen, Sends, Held, NotManager}
+use Rattle.fw_watch_remarks.specs.declared.remark.Remark.TheVariants.{Reset, Units, Takes, Returns, Plug, Unseen, Sends, UnusedChannel, NotManager}
 use Rattle.fw_watch_remarks.specs.declared.remark.Remark.TheVariants.{TooMany, UnitsInSecond, NewInSecond, Several, MoreThanMove, TwoSenders, NotTaken, OtherPlug}
 use Rattle.fw_watch_remarks.specs.Remarks.{Said}
 use Rattle.fw_watch.specs.Watched.{all_remarks}
@@ -58,7 +58,7 @@ beyond (Returns by channel) e = cc
 beyond (Plug by at old new) e = cc
 beyond (Unseen at known found) e = cc
 beyond (Sends node channel) e = cc
-beyond (Held node channel) e = cc
+beyond (UnusedChannel node channel) e = cc
 beyond (NotManager by at manager) e = refl
 beyond (TooMany by left) e = refl
 beyond (UnitsInSecond by epoch taken held) e = refl

@@ -1,6 +1,6 @@
 -- In a run a bus reset in a second comes within 8000 cycles of the one before, and so does each isochronous packet.
 use Rattle.fw_watch_runs.proofs.Common.{◌≡◌, refl, ap, sym, ◌∙◌, subst, ℕ, ◌+◌, Bool, true, false, List, [], ◌∷◌, ◌++◌, Option, Some, None, IsTrue, is_some, if◌then◌else◌, arith, same_Some, Entry}
-use Rattle.fw_watch_runs.proofs.Common.{Reset, Async, Iso, Event, Outcome, Shown, End, ResetEntry, Timed, Account, Action, Steps, at_cycle, at_most, IsGood, State, first_state, AreElsewhere}
+use Rattle.fw_watch_runs.proofs.Common.{Reset, Async, Iso, Event, Outcome, Shown, End, ResetEntry, Timed, Account, Action, Transitions, at_cycle, at_most, IsGood, State, first_state, AreElsewhere}
 use Rattle.fw_model_run.proofs.Alterations.{Allows, Alteration, NewDevice, NewCable, Halved, Connected, Breaks, Passed, Over, Died, Started, Withheld}
 use Rattle.fw_model_run.proofs.Alterations.{Asked, Answered, Candidate, Bid, Tied, Kept, Beside, AtUnits, altered, marked, told_by}
 use Rattle.fw_model_run.proofs.Effects.{Effect, altering, effect, resetting}
@@ -12,7 +12,7 @@ use Rattle.fw_watch_runs.proofs.Written.{RunKeeps, IsWritten, at_entry}
 
 -- while a second runs, it is that of the last bus reset
 abbrev pub IsSince : List Timed → State → Type 0
-IsSince front s = IsTrue s.account.reclaiming → (since : ℕ) × (last_reset None front ≡ Some since) × (s.clock.over_at ≡ since + 8000)
+IsSince prefix s = IsTrue s.account.reclaiming → (since : ℕ) × (last_reset None prefix ≡ Some since) × (s.clock.over_at ≡ since + 8000)
 
 -- ---- entries
 
@@ -78,20 +78,20 @@ end_if : (b : Bool) (c : ℕ) → b ≡ true → (if b then c + 8000 else c) ≡
 end_if true c e = refl
 end_if false c e = cc
 
-since_effect : (front : List Timed) (s t : State) (a : Action) (out : List Timed) → IsGood s → Effect s a out t → IsSince front s → IsSince (front ++ out) t
-since_effect front s t a out g (resetting resets half_steps n initiator free begins may r) h runs =
-    let since : last_reset None (front ++ out) ≡ Some s.clock.cycle = last_append None front out ∙ ap (λ z. last_reset (last_reset None front) z) r.out_is in
+since_effect : (prefix : List Timed) (s t : State) (a : Action) (out : List Timed) → IsGood s → Effect s a out t → IsSince prefix s → IsSince (prefix ++ out) t
+since_effect prefix s t a out g (resetting resets half_steps n initiator free begins may r) h runs =
+    let since : last_reset None (prefix ++ out) ≡ Some s.clock.cycle = last_append None prefix out ∙ ap (λ z. last_reset (last_reset None prefix) z) r.out_is in
     let second : is_some s.account.latest ≡ true = sym (ap (λ (z : State). z.account.reclaiming) r.state_is) ∙ runs in
     (s.clock.cycle, since, ap (λ (z : State). z.clock.over_at) r.state_is ∙ end_if (is_some s.account.latest) s.clock.cycle second)
-since_effect front s t a out g (altering y waits said is ok) h runs =
+since_effect prefix s t a out g (altering y waits said is ok) h runs =
     let x = h (runs_before s a y g ok (sym (ap (λ (z : State). z.account.reclaiming) is) ∙ runs)) in (
       x.0,
-      last_append None front out ∙ ap (λ z. last_reset (last_reset None front) z) said ∙ unmarked (last_reset None front) _ (told_by s y) (no_reset a (told_by s y) (marked s a y ok)) ∙ x.1,
+      last_append None prefix out ∙ ap (λ z. last_reset (last_reset None prefix) z) said ∙ unmarked (last_reset None prefix) _ (told_by s y) (no_reset a (told_by s y) (marked s a y ok)) ∙ x.1,
       ap (λ (z : State). z.clock.over_at) is ∙ same_end s y ∙ x.2,
     )
 
 pub since_keeps : RunKeeps IsSince
-since_keeps front s t a out g e x h = since_effect front s t a out g (effect s a out t x) h
+since_keeps prefix s t a out g e x h = since_effect prefix s t a out g (effect s a out t x) h
 
 pub since_first : IsSince [] first_state
 since_first runs = (let no : false ≡ true = runs in cc no)
@@ -113,9 +113,9 @@ reset_cycle_is : (s t : State) (a : Action) (c : ℕ) (r : ResetEntry) → Effec
 reset_cycle_is s t a c r (resetting resets half_steps n initiator free begins may x) = reset_now c s.clock.cycle r x.entry x.out_is
 reset_cycle_is s t a c r (altering y waits said is ok) = absurd (no_reset a (told_by s y) (marked s a y ok) (opens_by c _ r (told_by s y) said))
 
-pub run_timely : (xs : List Action) (log : List Timed) (s : State) → AreElsewhere xs → Steps first_state xs log s → HasTimelyResets log
-run_timely xs log s h f front rest cycle r l is account runs =
-    let w : IsWritten IsSince front (at_cycle cycle (Reset r)) = at_entry IsSince since_keeps since_first xs log front rest (at_cycle cycle (Reset r)) s h f is in
+pub run_timely : (xs : List Action) (log : List Timed) (s : State) → AreElsewhere xs → Transitions first_state xs log s → HasTimelyResets log
+run_timely xs log s h f prefix rest cycle r l is account runs =
+    let w : IsWritten IsSince prefix (at_cycle cycle (Reset r)) = at_entry IsSince since_keeps since_first xs log prefix rest (at_cycle cycle (Reset r)) s h f is in
     let same : w.before.account ≡ l = same_Some w.before.account l (sym w.is.account ∙ account) in
     let now : IsTrue w.before.account.reclaiming = subst (λ (z : Account). IsTrue z.reclaiming) (sym same) runs in
     let x = w.is.holds now in

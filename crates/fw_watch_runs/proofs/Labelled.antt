@@ -1,6 +1,6 @@
 -- In a run the locks at watched registers have the label of procedures.
 use Rattle.fw_watch_runs.proofs.Common.{◌≡◌, refl, ap, sym, ◌∙◌, subst, ℕ, ◌+◌, ◌==◌, Bool, true, false, List, length, if◌then◌else◌, Option, Some, None, is_some, option_map, arith, ⊤, nat_tests}
-use Rattle.fw_watch_runs.proofs.Common.{same_Some, Procedure, label_code, Head, Packet, Reply, Entry, Async, packet_of, Register, register_at, Access, Read, Swap, half, access_request, State}
+use Rattle.fw_watch_runs.proofs.Common.{same_Some, Procedure, label_code, Head, Packet, Reply, Entry, Async, packet_of, WatchedRegister, register_at, Access, Read, Swap, half, access_request, State}
 use Rattle.fw_watch_runs.proofs.Common.{IsLabelledIn}
 use Rattle.fw_csr.specs.declared.request.Request.{Request}
 use Rattle.fw_csr.specs.declared.request.Request.TheVariants as Asks
@@ -9,10 +9,10 @@ use Rattle.fw_cmp.specs.declared.current.Current.{Current}
 use Rattle.fw_cmp.specs.declared.current.Current.TheVariants.{Nothing, Asking, Hearing, Overtaken}
 use Rattle.fw_cmp.specs.declared.outcome.Next.{Next}
 use Rattle.fw_cmp.specs.declared.outcome.Next.TheVariants.{Send, End as EndJob, Idle, Waiting, Deaf, Force}
-use Rattle.fw_cmp.specs.declared.request.Access.{Access as Controlled}
-use Rattle.fw_cmp.specs.Requests.{access_of, request_of, addressee_of}
+use Rattle.fw_cmp_jobs.specs.declared.request.Access.{Access as Controlled}
+use Rattle.fw_cmp_jobs.specs.Requests.{access_of, request_of, addressee_of}
 use Rattle.fw_node.specs.Packets.{response_to}
-use Rattle.fw_watch_remarks.specs.declared.register.Register.TheVariants.{Bandwidth, ChannelsHigh, ChannelsLow, Output, Input}
+use Rattle.fw_watch_remarks.specs.declared.register.WatchedRegister.TheVariants.{Bandwidth, ChannelsHigh, ChannelsLow, Output, Input}
 use Rattle.fw_model_run.specs.Frames.{write_request}
 use Rattle.fw_model_run.specs.HalfSteps.{head_from, said, hears_from, hears, half_of}
 use Rattle.fw_model_run.specs.Named.{is_guarded_at}
@@ -55,14 +55,14 @@ response_some (Some r) n h q a e = response_labelled n h q a r e
 
 -- ---- watched registers are guarded
 
-guarded : (g : Register) → IsNumber g → is_guarded_at (offset_of g) ≡ true
+guarded : (g : WatchedRegister) → IsNumber g → is_guarded_at (offset_of g) ≡ true
 guarded Bandwidth h = refl
 guarded ChannelsHigh h = refl
 guarded ChannelsLow h = refl
 guarded (Output k) h = grind (arith, nat_tests, h)
 guarded (Input k) h = grind (arith, nat_tests, h)
 
-unwatched : (o : Option Register) (offset : ℕ) → is_guarded_at offset ≡ false → register_at (first_address + offset) ≡ o → is_some o ≡ false
+unwatched : (o : Option WatchedRegister) (offset : ℕ) → is_guarded_at offset ≡ false → register_at (first_address + offset) ≡ o → is_some o ≡ false
 unwatched None offset f e = refl
 unwatched (Some g) offset f e =
     let at = offset_at (first_address + offset) g e in

@@ -1,7 +1,7 @@
 -- A request of a procedure that stands in `watch` is outstanding in the account: after packets.
 use Rattle.fw_watch_runs.proofs.Common.{◌≡◌, ◌≢◌, refl, ap, sym, ◌∙◌, subst, ℕ, ◌==◌, ◌&&◌, not, Bool, true, false, List, if◌then◌else◌, Option, Some, None, get_or, arith, All, eqb-true, nat_tests}
 use Rattle.fw_watch_runs.proofs.Common.{same_Some, Procedure, label_code, Head, Packet, WriteQuadlet, WriteBlock, WriteReply, ReadQuadlet, ReadBlock, ReadQuadletReply, ReadBlockReply, CycleStart}
-use Rattle.fw_watch_runs.proofs.Common.{LockReply, ResetEntry, device_of_id, Account, Register, register_at, Asked, standing_behind}
+use Rattle.fw_watch_runs.proofs.Common.{LockReply, ResetEntry, device_of_id, Account, WatchedRegister, register_at, Asked, standing_following}
 use Rattle.std.proofs.Common.{is_none, true≢false}
 use Rattle.std.specs.List.{filter}
 use Rattle.std.proofs.lemmas.Bool.{eq-eqb}
@@ -10,9 +10,9 @@ use Rattle.fw_words.specs.declared.swap.Swap.{Swap}
 use Rattle.fw_async.specs.declared.packet.Packet.TheVariants.{Lock as LockRequest}
 use Rattle.fw_model_account.specs.Account.{Operation, Reads, Locks, Request}
 use Rattle.fw_model_account.specs.Packets.{asked as asked_in, asked_by, Reply, Read as ReadReply, Locked, replied, is_reply_to, answered as answered_in, after_reply, after_packet}
-use Rattle.fw_watch_known.specs.declared.asked.Asking.{Asking}
-use Rattle.fw_watch_known.specs.declared.asked.Asking.TheVariants.{Read}
-use Rattle.fw_watch_known.specs.Standing.{lock_by, lock_of, is_read, alike, is_of, answers, without_same, without_answered, asked_at_register, with_request}
+use Rattle.fw_watch_requests.specs.declared.asked.Asking.{Asking}
+use Rattle.fw_watch_requests.specs.declared.asked.Asking.TheVariants.{Read}
+use Rattle.fw_watch_requests.specs.Standing.{lock_by, lock_of, is_read, alike, is_of, answers, without_same, without_answered, asked_at_register, with_request}
 use Rattle.fw_watch_laws.proofs.Matches.{IsApart, IsSame, IsMatched, asking_of, one_more}
 use Rattle.fw_watch_laws.proofs.Matching.{AllMatched, IsEnded, reply_to as ends}
 use Rattle.fw_watch_laws.proofs.Outstanding.{IsReplyTo, reply_to}
@@ -39,8 +39,8 @@ pub filtered : (P Q : Asked → Type 0) (test : Asked → Bool) (xs : List Asked
 filtered P Q test xs a b f k d n = f (get_or (filter test xs) k d) (filter_passes test xs k d n) (All-filter test P xs a k d n)
 
 -- a request more, if there is one
-pub requested : (P : Asked → Type 0) (xs : List Asked) (h : Head) (o : Option Register) (asking : Asking) → All P xs
-    → ((r : Register) → o ≡ Some r → P (record { source = h.source; destination = h.destination; label = h.tl; register = r; asking = asking }))
+pub requested : (P : Asked → Type 0) (xs : List Asked) (h : Head) (o : Option WatchedRegister) (asking : Asking) → All P xs
+    → ((r : WatchedRegister) → o ≡ Some r → P (record { source = h.source; destination = h.destination; label = h.tl; register = r; asking = asking }))
     → All P (with_request (asked_at_register h o asking) xs)
 requested P xs h None asking a f = a
 requested P xs h (Some r) asking a f = one_more P xs (record { source = h.source; destination = h.destination; label = h.tl; register = r; asking = asking }) a (f r refl)
@@ -201,8 +201,8 @@ reply_if true read h reply l m xs e kind apart c a next =
 
 -- ---- packets
 
-pub packet_owed : (p : Packet) (l m : Account) (xs : List Asked) → IsApart l.latest → AllMatched l xs → AllOwed l xs → after_packet p l ≡ Some m → AllOwed m (standing_behind p xs)
-unfolding standing_behind without_same
+pub packet_owed : (p : Packet) (l m : Account) (xs : List Asked) → IsApart l.latest → AllMatched l xs → AllOwed l xs → after_packet p l ≡ Some m → AllOwed m (standing_following p xs)
+unfolding standing_following without_same
 packet_owed (WriteQuadlet h offset value) l m xs i c a e = same_owed l m (without_same h xs) e (kept_owed l (λ q. not (is_of h q)) xs a)
 packet_owed (WriteBlock h offset bytes) l m xs i c a e = same_owed l m (without_same h xs) e (kept_owed l (λ q. not (is_of h q)) xs a)
 packet_owed (WriteReply h rcode) l m xs i c a e = same_owed l m xs e a

@@ -17,7 +17,7 @@ use Rattle.fw_watch_known.specs.declared.channel.Channel.{Channel}
 use Rattle.fw_watch_known.specs.declared.second.Second.{Second}
 use Rattle.fw_watch_known.specs.declared.state.State.{State}
 use Rattle.fw_watch_known.specs.Heard.{after_heard}
-use Rattle.fw_watch_known.specs.Standing.{is_from, without_source}
+use Rattle.fw_watch_requests.specs.Standing.{is_from, without_source}
 use Rattle.fw_watch_known.specs.States.{is_device, reset_state, ended_second, node_of_device, buried, after_death}
 use Rattle.fw_watch.specs.Answering.{with_packet, after_packet}
 use Rattle.fw_watch.specs.Steps.{shown_at, after_shown, after_event, after_what}

@@ -1,14 +1,30 @@
 -- What `watch` sees of the log of a run is the account's.
 use Rattle.fw_watch_runs.proofs.Common.{◌≡◌, refl, ap, sym, ◌∙◌, subst, ℕ, List, [], ◌∷◌, ◌++◌, Option, Some, None, IsTrue, arith, All, Head, Packet, WriteQuadlet, WriteBlock, WriteReply, ReadQuadlet}
 use Rattle.fw_watch_runs.proofs.Common.{ReadBlock, ReadQuadletReply, ReadBlockReply, CycleStart, LockReply, Entry, Reset, Async, Iso, Event, Outcome, Shown, End, Timed, Account, Asked}
-use Rattle.fw_watch_runs.proofs.Common.{standing_behind, after, packet_of, Access, Read, Swap, Ask, Step, at_cycle, access_request, target_node, transaction_head, State, first_state, IsElsewhere}
+use Rattle.fw_watch_runs.proofs.Common.{
+  standing_following,
+  after,
+  packet_of,
+  Access,
+  Read,
+  Swap,
+  Ask,
+  Transition,
+  at_cycle,
+  access_request,
+  target_node,
+  transaction_head,
+  State,
+  first_state,
+  IsElsewhere,
+}
 use Rattle.fw_async.specs.declared.packet.Packet.TheVariants.{Lock}
 use Rattle.fw_watch_known.specs.declared.state.State.{State as Known}
 use Rattle.fw_watch_known.specs.States.{no_state}
 use Rattle.fw_watch.specs.Watched.{known_from, known}
 use Rattle.fw_watch.proofs.WatchLaws.{known_from_more}
 use Rattle.fw_order.specs.declared.order.Transaction.{Transaction}
-use Rattle.fw_model_run.specs.Actions.{Answer as AnswerIt, Answers}
+use Rattle.fw_model_run.specs.Actions.{Answer as AnswerIt}
 use Rattle.fw_model_run.specs.State.{is_linked}
 use Rattle.fw_model_run.proofs.Transactions.{response_is}
 use Rattle.fw_watch_laws.specs.Orderly.{IsApartOf, IsApartIn}
@@ -22,56 +38,57 @@ use Rattle.fw_watch_runs.proofs.Labelled.{script_labelled}
 use Rattle.fw_watch_runs.proofs.RunsLabelled.{AreLabelled, step_labelled}
 use Rattle.fw_watch_runs.proofs.Written.{RunKeeps}
 
--- of the requests that stand only that of the transaction that waits, if one does, is of no procedure
+-- of the outstanding requests only that of the transaction that waits, if one does, is of no procedure
 abbrev pub StandsIn : State → Option Transaction → List Asked → Type 0
 StandsIn s None xs = All IsOwned xs
 StandsIn s (Some x) xs = Stand (transaction_head s x) x.access xs × IsTrue (is_linked s x.to)
 
 abbrev pub IsAwaiting : List Timed → State → Type 0
-IsAwaiting front s = StandsIn s s.transaction (known front).standing
+IsAwaiting prefix s = StandsIn s s.transaction (known prefix).standing
 
 -- ---- actions
 
-after_one : (front : List Timed) (t : Timed) (p : Packet) → t.what ≡ Async p → (known (front ++ t ∷ [])).standing ≡ standing_behind p (known front).standing
-after_one front t p e = ap (λ (k : Known). k.standing) (known_push front t) ∙ packet_stands t p (known front) e
+after_one : (prefix : List Timed) (t : Timed) (p : Packet) → t.what ≡ Async p → (known (prefix ++ t ∷ [])).standing ≡ standing_following p (known prefix).standing
+after_one prefix t p e = ap (λ (k : Known). k.standing) (known_push prefix t) ∙ packet_stands t p (known prefix) e
 
 owned_from : (m : Account) (k : Known) (out : List Timed) → AreBeside m out → AreLabelled out → All IsOwned k.standing → All IsOwned (known_from k out).standing
 owned_from m k [] b l a = a
 owned_from m k (t ∷ ts) b l a = owned_from m (after k t) ts b.1 l.1 (step_owned m t k b.0 l.0 a)
 
-quiet : (front : List Timed) (s t : State) (out : List Timed) → (s.transaction ≡ None) × (t.transaction ≡ None) → AreBeside s.account out → AreLabelled out → IsAwaiting front s
-    → IsAwaiting (front ++ out) t
-quiet front s t out free b l h =
-    let owned : All IsOwned (known front).standing = subst (λ o. StandsIn s o (known front).standing) free.0 h in
-    let later : All IsOwned (known (front ++ out)).standing =
-    subst (λ (k : Known). All IsOwned k.standing) (sym (known_from_more no_state front out)) (owned_from s.account (known front) out b l owned) in
-    subst (λ o. StandsIn t o (known (front ++ out)).standing) (sym free.1) later
+quiet : (prefix : List Timed) (s t : State) (out : List Timed) → (s.transaction ≡ None) × (t.transaction ≡ None) → AreBeside s.account out → AreLabelled out → IsAwaiting prefix s
+    → IsAwaiting (prefix ++ out) t
+quiet prefix s t out free b l h =
+    let owned : All IsOwned (known prefix).standing = subst (λ o. StandsIn s o (known prefix).standing) free.0 h in
+    let later : All IsOwned (known (prefix ++ out)).standing =
+    subst (λ (k : Known). All IsOwned k.standing) (sym (known_from_more no_state prefix out)) (owned_from s.account (known prefix) out b l owned) in
+    subst (λ o. StandsIn t o (known (prefix ++ out)).standing) (sym free.1) later
 
-asks : (front : List Timed) (s t : State) (x : Transaction) (out : List Timed) → IsElsewhere (Ask x) → Step s (Ask x) out t → IsAwaiting front s → IsAwaiting (front ++ out) t
-asks front s t x out e y h =
+asks : (prefix : List Timed) (s t : State) (x : Transaction) (out : List Timed) → IsElsewhere (Ask x) → Transition s (Ask x) out t → IsAwaiting prefix s → IsAwaiting (prefix ++ out) t
+asks prefix s t x out e y h =
     let p : Packet = packet_of (transaction_head s x) (access_request x.access) in
     let one : Timed = at_cycle s.clock.cycle (Async p) in
-    let owned : All IsOwned (known front).standing = subst (λ o. StandsIn s o (known front).standing) y.0 h in
-    let stand = asked_standing (transaction_head s x) x.access (known front).standing (script_labelled (transaction_head s x) x.access e) owned in
-    let here : Stand (transaction_head s x) x.access (known (front ++ one ∷ [])).standing = subst (λ xs. Stand (transaction_head s x) x.access xs) (sym (after_one front one p refl)) stand in
-    let next : IsAwaiting (front ++ one ∷ []) (record s { transaction = Some x }) = (here, y.1.1) in
-    subst (λ z. IsAwaiting (front ++ z) t) (sym y.1.3) (subst (λ (z : State). IsAwaiting (front ++ one ∷ []) z) (sym y.1.4) next)
+    let owned : All IsOwned (known prefix).standing = subst (λ o. StandsIn s o (known prefix).standing) y.waits h in
+    let stand = asked_standing (transaction_head s x) x.access (known prefix).standing (script_labelled (transaction_head s x) x.access e) owned in
+    let here : Stand (transaction_head s x) x.access (known (prefix ++ one ∷ [])).standing = subst (λ xs. Stand (transaction_head s x) x.access xs) (sym (after_one prefix one p refl)) stand in
+    let next : IsAwaiting (prefix ++ one ∷ []) (record s { transaction = Some x }) = (here, y.may.linked) in
+    subst (λ z. IsAwaiting (prefix ++ z) t) (sym y.out_is) (subst (λ (z : State). IsAwaiting (prefix ++ one ∷ []) z) (sym y.state_is) next)
 
-answers : (front : List Timed) (s t : State) (out : List Timed) → Answers s out t → IsAwaiting front s → IsAwaiting (front ++ out) t
-answers front s t out y h =
-    let x : Transaction = y.transaction in
-    let one : Timed = at_cycle s.clock.cycle (Async y.response) in
-    let stand : StandsIn s (Some x) (known front).standing = subst (λ o. StandsIn s o (known front).standing) y.waits h in
-    let owned = answered_standing (target_node s x) (transaction_head s x) x.access _ (known front).standing refl stand.0.each in
-    let here : All IsOwned (standing_behind y.response (known front).standing) = subst (λ p. All IsOwned (standing_behind p (known front).standing)) (response_is s x y.response y.answered) owned in
-    let later : All IsOwned (known (front ++ one ∷ [])).standing = subst (λ xs. All IsOwned xs) (sym (after_one front one y.response refl)) here in
+answers : (prefix : List Timed) (s t : State) (out : List Timed) → Transition s AnswerIt out t → IsAwaiting prefix s → IsAwaiting (prefix ++ out) t
+answers prefix s t out y h =
+    let x : Transaction = y.found.transaction in
+    let p : Packet = y.found.response in
+    let one : Timed = at_cycle s.clock.cycle (Async p) in
+    let stand : StandsIn s (Some x) (known prefix).standing = subst (λ o. StandsIn s o (known prefix).standing) y.waits h in
+    let owned = answered_standing (target_node s x) (transaction_head s x) x.access _ (known prefix).standing refl stand.0.each in
+    let here : All IsOwned (standing_following p (known prefix).standing) = subst (λ q. All IsOwned (standing_following q (known prefix).standing)) (response_is s x p y.may) owned in
+    let later : All IsOwned (known (prefix ++ one ∷ [])).standing = subst (λ xs. All IsOwned xs) (sym (after_one prefix one p refl)) here in
     let free : t.transaction ≡ None = ap (λ (z : State). z.transaction) y.state_is in
-    subst (λ z. IsAwaiting (front ++ z) t) (sym y.out_is) (subst (λ o. StandsIn t o (known (front ++ one ∷ [])).standing) (sym free) later)
+    subst (λ z. IsAwaiting (prefix ++ z) t) (sym y.out_is) (subst (λ o. StandsIn t o (known (prefix ++ one ∷ [])).standing) (sym free) later)
 
 pub awaiting_keeps : RunKeeps IsAwaiting
-awaiting_keeps front s t (Ask x) out g e y h = asks front s t x out e y h
-awaiting_keeps front s t AnswerIt out g e y h = answers front s t out y h
-awaiting_keeps front s t a out g e y h = quiet front s t out (stays_free s t a out tt y) (step_beside s t a out g tt y) (step_labelled s t a out e y) h
+awaiting_keeps prefix s t (Ask x) out g e y h = asks prefix s t x out e y h
+awaiting_keeps prefix s t AnswerIt out g e y h = answers prefix s t out y h
+awaiting_keeps prefix s t a out g e y h = quiet prefix s t out (stays_free s t a out tt y) (step_beside s t a out g tt y) (step_labelled s t a out e y) h
 
 pub awaiting_first : IsAwaiting [] first_state
 awaiting_first k d n = absurd (omega (arith, n))

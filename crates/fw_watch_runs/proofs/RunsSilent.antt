@@ -1,5 +1,5 @@
 -- What `watch` does not find in the log of a run.
-use Rattle.fw_watch_runs.proofs.Common.{List, [], ◌∷◌, ◌++◌, Timed, Action, Steps, State, first_state, IsOrderly, AreElsewhere}
+use Rattle.fw_watch_runs.proofs.Common.{List, [], ◌∷◌, ◌++◌, Timed, Action, Transitions, State, first_state, IsOrderly, AreElsewhere}
 use Rattle.fw_script_command.specs.declared.command.Command.{Command}
 use Rattle.fw_script_command.specs.declared.command.Command.TheVariants as Commands
 use Rattle.fw_model_run.specs.Logs.{HasNoEnd}
@@ -36,7 +36,7 @@ whole_log commands actions log s r n = record { commands = commands ++ Commands.
 
 seen_whole : (log : List Timed) → IsRunLog log → IsSeenWhole log
 seen_whole log x =
-    let steps : Steps first_state x.actions log x.state = run_steps x.commands x.actions log x.state x.run in
+    let steps : Transitions first_state x.actions log x.state = run_steps x.commands x.actions log x.state x.run in
     let elsewhere : AreElsewhere x.actions = run_elsewhere x.commands x.actions log x.state x.run in
     record {
       shows = run_shows x.actions log x.state elsewhere steps x.orderly;

@@ -8,8 +8,8 @@ use Rattle.fw_log_entry.specs.Network.{first_id}
 use Rattle.fw_model_account.specs.Words.{Register as Place, word_of, word_at, register_at as place_at, register_of, first_address}
 use Rattle.fw_model_account.proofs.Places.{register_at_address}
 use Rattle.fw_model_audit.specs.Looked.{is_watched}
-use Rattle.fw_watch_known.specs.declared.asked.Answer.{Answer}
-use Rattle.fw_watch_known.specs.Standing.{node_of}
+use Rattle.fw_watch_requests.specs.declared.asked.Answer.{Answer}
+use Rattle.fw_watch_requests.specs.Standing.{node_of}
 use Rattle.fw_node.specs.Packets.{response_head, old_bytes}
 use Rattle.fw_node.specs.Space as Spaces
 use Rattle.fw_order.specs.declared.order.Transaction.{Transaction}

@@ -1,8 +1,8 @@
 -- Of each node at most one request of a procedure stands in `watch`.
 use Rattle.fw_watch_runs.proofs.Common.{◌≡◌, refl, ap, sym, ◌∙◌, subst, ℕ, ◌+◌, ◌≤◌, ◌==◌, ◌&&◌, not, Bool, true, false, List, [], ◌∷◌, ◌++◌, length, if◌then◌else◌, Option, Some, None, get_or, arith}
 use Rattle.fw_watch_runs.proofs.Common.{count_by, eqb-true, same_Some, Procedure, label_code, Head, Packet, WriteQuadlet, WriteBlock, WriteReply, ReadQuadlet, ReadBlock, ReadQuadletReply}
-use Rattle.fw_watch_runs.proofs.Common.{ReadBlockReply, CycleStart, LockReply, Entry, Reset, Async, Iso, Event, Outcome, Shown, End, Timed, device_of_id, Account, Register, register_at, Asked}
-use Rattle.fw_watch_runs.proofs.Common.{answer_of, standing_behind, after}
+use Rattle.fw_watch_runs.proofs.Common.{ReadBlockReply, CycleStart, LockReply, Entry, Reset, Async, Iso, Event, Outcome, Shown, End, Timed, device_of_id, Account, WatchedRegister, register_at, Asked}
+use Rattle.fw_watch_runs.proofs.Common.{answer_of, standing_following, after}
 use Rattle.std.proofs.Common.{drop, is_none, true≢false}
 use Rattle.std.specs.List.{filter}
 use Rattle.fw_async.specs.declared.packet.Packet.TheVariants.{Lock as LockRequest}
@@ -11,13 +11,13 @@ use Rattle.fw_log_entry.specs.declared.entry.EventEntry.{EventEntry}
 use Rattle.fw_model_account.specs.Account.{Operation, Reads, Locks, Request}
 use Rattle.fw_model_account.specs.Fold.{next_account}
 use Rattle.fw_model_account.specs.Packets.{asked as asked_in, asked_by, after_packet}
-use Rattle.fw_watch_known.specs.declared.asked.Asking.{Asking}
-use Rattle.fw_watch_known.specs.declared.asked.Asking.TheVariants.{Read}
+use Rattle.fw_watch_requests.specs.declared.asked.Asking.{Asking}
+use Rattle.fw_watch_requests.specs.declared.asked.Asking.TheVariants.{Read}
 use Rattle.fw_watch_known.specs.declared.channel.Channel.{Channel}
 use Rattle.fw_watch_known.specs.declared.second.Second.{Second}
 use Rattle.fw_watch_known.specs.declared.state.State.{State}
 use Rattle.fw_watch_known.specs.Heard.{after_heard}
-use Rattle.fw_watch_known.specs.Standing.{lock_of, is_of, answers, is_from, latest, without_same, without_answered, without_source, asked_at_register, with_request}
+use Rattle.fw_watch_requests.specs.Standing.{lock_of, is_of, answers, is_from, latest, without_same, without_answered, without_source, asked_at_register, with_request}
 use Rattle.fw_watch_known.specs.States.{reset_state, ended_second, node_of_device, buried, after_death}
 use Rattle.fw_watch.specs.Answering.{with_packet, after_packet as packet_after}
 use Rattle.fw_watch.specs.Steps.{shown_at, after_shown, after_event, after_what}
@@ -46,7 +46,7 @@ room true n m k h e l f = let z = f refl in omega (arith, h, e, z)
 room false n m k h e l f = omega (arith, h, e, l)
 
 -- a request more, whose node has none
-new_single : (o : Option Register) (h : Head) (asking : Asking) (xs : List Asked) → Single xs
+new_single : (o : Option WatchedRegister) (h : Head) (asking : Asking) (xs : List Asked) → Single xs
     → ((k : ℕ) → ((h.tl == label_code Procedure) && (h.source == 0xFFC0 + k)) ≡ true → count_by (own_from k) xs ≡ 0) → Single (with_request (asked_at_register h o asking) xs)
 new_single None h asking xs s f = s
 new_single (Some r) h asking xs s f =
@@ -103,8 +103,8 @@ request_if true l m h address operation asking (Some c) xs e f a s next = free (
 
 -- ---- packets
 
-packet_single : (p : Packet) (l m : Account) (xs : List Asked) → AllOwed l xs → Single xs → after_packet p l ≡ Some m → Single (standing_behind p xs)
-unfolding standing_behind without_same without_answered
+packet_single : (p : Packet) (l m : Account) (xs : List Asked) → AllOwed l xs → Single xs → after_packet p l ≡ Some m → Single (standing_following p xs)
+unfolding standing_following without_same without_answered
 packet_single (WriteQuadlet h offset value) l m xs a s e = filter_single (λ q. not (is_of h q)) xs s
 packet_single (WriteBlock h offset bytes) l m xs a s e = filter_single (λ q. not (is_of h q)) xs s
 packet_single (WriteReply h rcode) l m xs a s e = s

@@ -2,7 +2,7 @@
 use Rattle.std.specs.Prelude.{Bool, false, List}
 use Rattle.fw_log_entry.specs.declared.entry.Timed.{Timed}
 use Rattle.fw_watch_remarks.specs.declared.remark.Remark.{Remark}
-use Rattle.fw_watch_remarks.specs.declared.remark.Remark.TheVariants.{Held}
+use Rattle.fw_watch_remarks.specs.declared.remark.Remark.TheVariants.{UnusedChannel}
 use Rattle.fw_watch_remarks.specs.Remarks.{is_finding}
 use Rattle.fw_watch_laws.specs.Orderly.{ShowsAccount, HasTimelyResets, HasNone}
 use Rattle.fw_watch_streams.specs.Streams.{SendsOfTalkers, HasTimelyPackets, is_two_senders, is_not_taken, is_other_plug}
@@ -23,5 +23,5 @@ pub record HasNoOddPacket (log : List Timed) : Type 0 where
 
 -- a finding that is not that a channel is held
 abbrev pub is_beyond_held : Remark → Bool
-is_beyond_held (Held node channel) = false
+is_beyond_held (UnusedChannel node channel) = false
 is_beyond_held r = is_finding r

@@ -16,12 +16,12 @@ use Rattle.fw_model_account.proofs.Events.{talker_is_allocated}
 use Rattle.fw_model_account.proofs.Places.{channels_high_at, channels_low_at}
 use Rattle.fw_watch_remarks.specs.declared.known.Known.{Known}
 use Rattle.fw_watch_remarks.specs.declared.known.Managed.{Managed}
-use Rattle.fw_watch_remarks.specs.declared.register.Register.TheVariants.{ChannelsHigh, ChannelsLow}
+use Rattle.fw_watch_remarks.specs.declared.register.WatchedRegister.TheVariants.{ChannelsHigh, ChannelsLow}
 use Rattle.fw_watch_remarks.specs.Knowing.{differing, is_known_set}
 use Rattle.fw_watch_known.specs.declared.second.Second.{Second}
 use Rattle.fw_watch_known.specs.declared.state.State.{State}
 use Rattle.fw_watch_known.specs.Heard.{is_known_free, is_free}
-use Rattle.fw_watch_known.specs.Standing.{answer_of}
+use Rattle.fw_watch_requests.specs.Standing.{answer_of}
 use Rattle.fw_watch_known.specs.States.{manager_of, is_absent, begun, ticked_second, ended_second, known_of}
 use Rattle.fw_watch.specs.Steps.{ticked, after}
 use Rattle.fw_watch_laws.specs.Orderly.{reset_cycle}

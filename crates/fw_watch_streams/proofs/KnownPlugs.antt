@@ -12,8 +12,8 @@ use Rattle.fw_model_account.specs.Words.{Register as Place, word_of}
 use Rattle.fw_model_account.proofs.Bounds.{register_there}
 use Rattle.fw_watch_remarks.specs.declared.known.Known.{Known}
 use Rattle.fw_watch_remarks.specs.declared.register.At.{At}
-use Rattle.fw_watch_remarks.specs.declared.register.Register.{Register}
-use Rattle.fw_watch_remarks.specs.declared.register.Register.TheVariants.{Bandwidth, ChannelsHigh, ChannelsLow, Output, Input}
+use Rattle.fw_watch_remarks.specs.declared.register.WatchedRegister.{WatchedRegister}
+use Rattle.fw_watch_remarks.specs.declared.register.WatchedRegister.TheVariants.{Bandwidth, ChannelsHigh, ChannelsLow, Output, Input}
 use Rattle.fw_watch_remarks.specs.Knowing.{nothing_known, all_known, channel_of}
 use Rattle.fw_watch_known.specs.declared.state.State.{State}
 use Rattle.fw_watch_known.specs.States.{known_of, no_state}
@@ -52,7 +52,7 @@ both : (a b : Bool) → (a && b) ≡ true → (a ≡ true) × (b ≡ true)
 both true true e = (refl, refl)
 both a b e = cc
 
-same_output : (r : Register) (o : Option ResetEntry) (n m j : ℕ) (v : Place) → is_same_by r (Output j) (n == m) ≡ true → Stands o n r v → Stands o m (Output j) v
+same_output : (r : WatchedRegister) (o : Option ResetEntry) (n m j : ℕ) (v : Place) → is_same_by r (Output j) (n == m) ≡ true → Stands o n r v → Stands o m (Output j) v
 same_output Bandwidth o n m j v e x = cc
 same_output ChannelsHigh o n m j v e x = cc
 same_output ChannelsLow o n m j v e x = cc

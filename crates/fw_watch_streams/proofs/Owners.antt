@@ -19,7 +19,7 @@ use Rattle.fw_model_account.specs.Words.{Register as Place, word_of, node_of}
 use Rattle.fw_model_account.proofs.Bounds.{IsThere, register_there}
 use Rattle.fw_model_account.proofs.Places.{device_at_id}
 use Rattle.fw_watch_remarks.specs.declared.known.Known.{Known}
-use Rattle.fw_watch_remarks.specs.declared.register.Register.TheVariants.{Output}
+use Rattle.fw_watch_remarks.specs.declared.register.WatchedRegister.TheVariants.{Output}
 use Rattle.fw_watch_remarks.specs.Knowing.{nothing_known, all_known, channel_of, is_channel, is_on}
 use Rattle.fw_watch_known.specs.declared.channel.Channel.{Channel}
 use Rattle.fw_watch_known.specs.declared.state.State.{State}

@@ -6,13 +6,13 @@ use Rattle.fw_log_entry.specs.declared.entry.Entry.{Entry}
 use Rattle.fw_log_entry.specs.declared.entry.Entry.TheVariants.{Reset, Async, Iso, Event, Outcome, Shown, End}
 use Rattle.fw_log_entry.specs.declared.entry.Timed.{Timed}
 use Rattle.fw_watch_remarks.specs.declared.register.At.{At}
-use Rattle.fw_watch_remarks.specs.declared.register.Register.{Register}
-use Rattle.fw_watch_remarks.specs.declared.register.Register.TheVariants.{Bandwidth, ChannelsHigh, ChannelsLow, Output, Input}
+use Rattle.fw_watch_remarks.specs.declared.register.WatchedRegister.{WatchedRegister}
+use Rattle.fw_watch_remarks.specs.declared.register.WatchedRegister.TheVariants.{Bandwidth, ChannelsHigh, ChannelsLow, Output, Input}
 use Rattle.fw_watch_remarks.specs.declared.remark.Remark.{Remark}
-use Rattle.fw_watch_remarks.specs.declared.remark.Remark.TheVariants.{Reset as ResetRemark, Unseen, Sends, Held, NotManager, TwoSenders, NotTaken, OtherPlug}
+use Rattle.fw_watch_remarks.specs.declared.remark.Remark.TheVariants.{Reset as ResetRemark, Unseen, Sends, UnusedChannel, NotManager, TwoSenders, NotTaken, OtherPlug}
 use Rattle.fw_watch_remarks.specs.Knowing.{differing}
 use Rattle.fw_watch_remarks.specs.Remarks.{Said, said}
-use Rattle.fw_watch_known.specs.declared.asked.Answer.{Answer}
+use Rattle.fw_watch_requests.specs.declared.asked.Answer.{Answer}
 use Rattle.fw_watch_known.specs.declared.channels.Late.{Late}
 use Rattle.fw_watch_known.specs.declared.hear.Packet.{Packet}
 use Rattle.fw_watch_known.specs.declared.state.State.{State}
@@ -20,7 +20,7 @@ use Rattle.fw_watch_known.specs.declared.swap.Made.{Made}
 use Rattle.fw_watch_known.specs.Channels.{channel_at, late_to}
 use Rattle.fw_watch_known.specs.Heard.{heard}
 use Rattle.fw_watch_known.specs.Judging.{judged}
-use Rattle.fw_watch_known.specs.Standing.{answer_of}
+use Rattle.fw_watch_requests.specs.Standing.{answer_of}
 use Rattle.fw_watch_known.specs.States.{known_of}
 use Rattle.fw_watch.specs.declared.answer.Heed.{Heed}
 use Rattle.fw_watch.specs.declared.answer.Heed.TheVariants.{Ignore, Refuse, Follow}
@@ -39,7 +39,7 @@ use Rattle.fw_watch_streams.specs.Streams.{is_two_senders, is_not_taken, is_othe
 pub record IsOfPackets (q : Said → Bool) : Type 0 where
   pub other : (k : Kind) → (k ≡ OfChannel → ⊥) → IsFree q k
   pub sends : (cycle node channel : ℕ) → q (said cycle (Sends node channel)) ≡ false
-  pub held : (cycle node channel : ℕ) → q (said cycle (Held node channel)) ≡ false
+  pub held : (cycle node channel : ℕ) → q (said cycle (UnusedChannel node channel)) ≡ false
 
 -- ---- the tests
 
@@ -72,7 +72,7 @@ of_plug = record { other = λ k n x e. no (is_other_plug x.remark) (λ y. n (sym
 
 late_quiet : (q : Said → Bool) (o : Option Late) → IsOfPackets q → IsNone q (late_remarks o)
 late_quiet q None f = refl
-late_quiet q (Some late) f = one_if q true (said (late.due.since + 8000) (Held late.due.holder late.channel)) (f.held (late.due.since + 8000) late.due.holder late.channel)
+late_quiet q (Some late) f = one_if q true (said (late.due.since + 8000) (UnusedChannel late.due.holder late.channel)) (f.held (late.due.since + 8000) late.due.holder late.channel)
 
 held_quiet : (q : Said → Bool) (n cycle : ℕ) (s : State) → IsOfPackets q → IsNone q (held_remarks n cycle s)
 unfolding held_remarks
@@ -118,7 +118,7 @@ no_several e = cc
 no_more : OfMore ≡ OfChannel → ⊥
 no_more e = cc
 
-none_odd : (q : Said → Bool) (r : Register) (s : State) (m : Made) → IsOfPackets q → NoneOdd q r s m
+none_odd : (q : Said → Bool) (r : WatchedRegister) (s : State) (m : Made) → IsOfPackets q → NoneOdd q r s m
 none_odd q Bandwidth s m f = (many_free q m (f.other OfMany no_many), units_free q s m (f.other OfUnits no_units))
 none_odd q ChannelsHigh s m f = (new_free q s m 0 (f.other OfNew no_new), several_free q m (f.other OfSeveral no_several))
 none_odd q ChannelsLow s m f = (new_free q s m 32 (f.other OfNew no_new), several_free q m (f.other OfSeveral no_several))

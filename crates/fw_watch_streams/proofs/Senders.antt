@@ -17,13 +17,13 @@ use Rattle.fw_model_account.specs.Words.{Register as Place, OutputPlug, word_of,
 use Rattle.fw_model_account.proofs.Bounds.{IsThere}
 use Rattle.fw_model_account.proofs.Network.{no_outputs}
 use Rattle.fw_watch_remarks.specs.declared.known.Known.{Known}
-use Rattle.fw_watch_remarks.specs.declared.register.Register.{Register}
-use Rattle.fw_watch_remarks.specs.declared.register.Register.TheVariants.{Bandwidth, ChannelsHigh, ChannelsLow, Output, Input}
+use Rattle.fw_watch_remarks.specs.declared.register.WatchedRegister.{WatchedRegister}
+use Rattle.fw_watch_remarks.specs.declared.register.WatchedRegister.TheVariants.{Bandwidth, ChannelsHigh, ChannelsLow, Output, Input}
 use Rattle.fw_watch_remarks.specs.Knowing.{all_known, channel_of}
 use Rattle.fw_watch_known.specs.declared.channel.Channel.{Channel}
 use Rattle.fw_watch_known.specs.declared.state.State.{State}
 use Rattle.fw_watch_known.specs.Channels.{fresh, undue}
-use Rattle.fw_watch_known.specs.Heard.{sender_behind, channel_behind}
+use Rattle.fw_watch_known.specs.Heard.{sender_after, channel_after}
 use Rattle.fw_watch_known.specs.States.{known_of}
 use Rattle.fw_watch.specs.Steps.{ticked, after}
 use Rattle.fw_watch_laws.specs.LastKnown.{Glimpse, glimpse}
@@ -74,7 +74,7 @@ plug_same q k l m v p h others there c e = elim (update_plug_at (λ (z : PlugAt)
 ]
 
 -- the word of a plug changes at its register alone
-seen_channel : (g : Register) (n k : ℕ) (l m : Account) (v : Place) (p : PlugAt) → Stands l.latest n g v → ((w : Place) → IsThere l.latest w → w ≢ v → word_of m w ≡ word_of l w)
+seen_channel : (g : WatchedRegister) (n k : ℕ) (l m : Account) (v : Place) (p : PlugAt) → Stands l.latest n g v → ((w : Place) → IsThere l.latest w → w ≢ v → word_of m w ≡ word_of l w)
     → IsThere l.latest (OutputPlug p)
     → changes g (all_known (word_of l v)) (all_known (word_of m v)) k ≡ false → channel_of (all_known (word_of m (OutputPlug p))) ≡ Some k → channel_of (all_known (word_of l (OutputPlug p))) ≡ Some k
 seen_channel Bandwidth n k l m v p x others there c e =
@@ -174,9 +174,9 @@ other_senders t s l m k x p sl sm e seen n h low y on =
     ap (λ (o : Option ResetEntry). node_of o p.device) (e ∙ latest_kept t.what s k l.latest y.0) ∙ h k x low y.1 p before
 
 -- a packet of the channel
-behind_is : (sid x : ℕ) (o : Option ℕ) → Some (sender_behind sid o) ≡ Some x → ((o ≡ None) × (sid ≡ x)) ⊎ (o ≡ Some x)
-behind_is sid x None e = inl (refl, same_Some sid x e)
-behind_is sid x (Some y) e = inr e
+following_is : (sid x : ℕ) (o : Option ℕ) → Some (sender_after sid o) ≡ Some x → ((o ≡ None) × (sid ≡ x)) ⊎ (o ≡ Some x)
+following_is sid x None e = inl (refl, same_Some sid x e)
+following_is sid x (Some y) e = inr e
 
 pub talker_node : (l : Account) (q : IsoPacket) (k : ℕ) (p : PlugAt) → IsConflictFree l → IsOfTalker l q → q.channel ≡ k → TalksOn l p k → node_of l.latest p.device ≡ q.cip.sid
 talker_node l q k p free y at on =
@@ -185,12 +185,12 @@ talker_node l q k p free y at on =
 
 iso_senders : (t : Timed) (q : IsoPacket) (s : State) (l : Account) (k x : ℕ) (p : PlugAt) → Fine s → IsConflictFree l → IsOfTalker l q → t.what ≡ Iso q → q.channel ≡ k → SendersAre s l → k < 64
     → (row (after s t) k).sender ≡ Some x → TalksOn l p k → node_of l.latest p.device ≡ x
-unfolding channel_behind
+unfolding channel_after
 iso_senders t q s l k x p f free y e at h low is on =
-    let now : Some (sender_behind q.cip.sid (row (ticked t.cycle s) k).sender) ≡ Some x = ap (λ (c : Channel). c.sender) (sym (iso_after s t q k f low e at)) ∙ is in
-    let before : Some (sender_behind q.cip.sid (row s k).sender) ≡ Some x = ap (λ (o : Option ℕ). Some (sender_behind q.cip.sid o)) (ap (λ (c : Channel). c.sender) (sym (ticked_row s t.cycle k)))
+    let now : Some (sender_after q.cip.sid (row (ticked t.cycle s) k).sender) ≡ Some x = ap (λ (c : Channel). c.sender) (sym (iso_after s t q k f low e at)) ∙ is in
+    let before : Some (sender_after q.cip.sid (row s k).sender) ≡ Some x = ap (λ (o : Option ℕ). Some (sender_after q.cip.sid o)) (ap (λ (c : Channel). c.sender) (sym (ticked_row s t.cycle k)))
     ∙ now in
-    elim (behind_is q.cip.sid x (row s k).sender before) [
+    elim (following_is q.cip.sid x (row s k).sender before) [
       | inl new ↦ talker_node l q k p free y at on ∙ new.1
       | inr kept ↦ h k x low kept p on
     ]

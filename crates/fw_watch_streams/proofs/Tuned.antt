@@ -39,38 +39,38 @@ use Rattle.fw_watch_streams.proofs.Packets.{of_two, of_free, of_plug, entry_quie
 use Rattle.fw_watch_streams.proofs.Senders.{SendersAre, senders_step}
 
 -- what `watch` knows after the first entries agrees with who talks by the account
-pub record IsTuned (front : List Timed) (l : Account) : Type 0 where
-  pub fine : IsFine front l
-  pub tables : Fine (known front)
-  pub plugs : KnowsPlugs (known front) l
-  pub senders : SendersAre (known front) l
-  pub since : SinceIs (last_reset None front) (last_cycle 0 front) (known front).second.since
+pub record IsTuned (prefix : List Timed) (l : Account) : Type 0 where
+  pub fine : IsFine prefix l
+  pub tables : Fine (known prefix)
+  pub plugs : KnowsPlugs (known prefix) l
+  pub senders : SendersAre (known prefix) l
+  pub since : SinceIs (last_reset None prefix) (last_cycle 0 prefix) (known prefix).second.since
 
-sends_at : (entries front rest : List Timed) (t : Timed) (l m : Account) → SendsOfTalkers entries → Passes entries front rest t l m → (q : IsoPacket) → t.what ≡ Iso q → IsOfTalker l q
-sends_at entries front rest t l m d y q e = d front rest t q l y.parts e y.account
+sends_at : (entries prefix rest : List Timed) (t : Timed) (l m : Account) → SendsOfTalkers entries → Passes entries prefix rest t l m → (q : IsoPacket) → t.what ≡ Iso q → IsOfTalker l q
+sends_at entries prefix rest t l m d y q e = d prefix rest t q l y.parts e y.account
 
-order_at : (entries front rest : List Timed) (t : Timed) (l m : Account) → IsOrderly entries → Passes entries front rest t l m → last_cycle 0 front ≤ t.cycle
-order_at entries front rest t l m o y = in_time 0 front rest t (subst (λ (xs : List Timed). InOrder 0 xs) y.parts o.order)
+order_at : (entries prefix rest : List Timed) (t : Timed) (l m : Account) → IsOrderly entries → Passes entries prefix rest t l m → last_cycle 0 prefix ≤ t.cycle
+order_at entries prefix rest t l m o y = in_time 0 prefix rest t (subst (λ (xs : List Timed). InOrder 0 xs) y.parts o.order)
 
-tuned_step : (entries front rest : List Timed) (t : Timed) (l m : Account) → IsOrderly entries → ShowsAccount entries → SendsOfTalkers entries → Passes entries front rest t l m → IsTuned front l
-    → IsTuned (front ++ t ∷ []) m
-tuned_step entries front rest t l m o s d y h =
-    let push : after (known front) t ≡ known (front ++ t ∷ []) = sym (known_push front t) in
-    let shows = seen entries front rest t l m s y h.fine in
+tuned_step : (entries prefix rest : List Timed) (t : Timed) (l m : Account) → IsOrderly entries → ShowsAccount entries → SendsOfTalkers entries → Passes entries prefix rest t l m → IsTuned prefix l
+    → IsTuned (prefix ++ t ∷ []) m
+tuned_step entries prefix rest t l m o s d y h =
+    let push : after (known prefix) t ≡ known (prefix ++ t ∷ []) = sym (known_push prefix t) in
+    let shows = seen entries prefix rest t l m s y h.fine in
     let latest = next_latest t.what l m y.next in
     let later = next_keeps l m t.what y.fits y.sound y.next in
-    let since : SinceIs (reset_cycle (last_reset None front) t.cycle t.what) t.cycle (after (known front) t).second.since =
-    since_step t (last_cycle 0 front) (last_reset None front) (known front) (order_at entries front rest t l m o y) h.since in
-    let S : Option ℕ → Type 0 = λ r. SinceIs r (last_cycle 0 (front ++ t ∷ [])) (known (front ++ t ∷ [])).second.since in
-    let C : ℕ → Type 0 = λ c. SinceIs (reset_cycle (last_reset None front) t.cycle t.what) c (known (front ++ t ∷ [])).second.since in
-    let K : State → Type 0 = λ z. SinceIs (reset_cycle (last_reset None front) t.cycle t.what) t.cycle z.second.since in
+    let since : SinceIs (reset_cycle (last_reset None prefix) t.cycle t.what) t.cycle (after (known prefix) t).second.since =
+    since_step t (last_cycle 0 prefix) (last_reset None prefix) (known prefix) (order_at entries prefix rest t l m o y) h.since in
+    let S : Option ℕ → Type 0 = λ r. SinceIs r (last_cycle 0 (prefix ++ t ∷ [])) (known (prefix ++ t ∷ [])).second.since in
+    let C : ℕ → Type 0 = λ c. SinceIs (reset_cycle (last_reset None prefix) t.cycle t.what) c (known (prefix ++ t ∷ [])).second.since in
+    let K : State → Type 0 = λ z. SinceIs (reset_cycle (last_reset None prefix) t.cycle t.what) t.cycle z.second.since in
     record {
-      fine = fine_step entries front rest t l m s y h.fine;
-      tables = subst Fine push (tables_step (known front) t y.fits h.tables);
-      plugs = subst (λ (z : State). KnowsPlugs z m) push (plugs_step t (known front) l m shows h.tables.whole latest y.agrees.apart h.plugs);
+      fine = fine_step entries prefix rest t l m s y h.fine;
+      tables = subst Fine push (tables_step (known prefix) t y.fits h.tables);
+      plugs = subst (λ (z : State). KnowsPlugs z m) push (plugs_step t (known prefix) l m shows h.tables.whole latest y.agrees.apart h.plugs);
       senders = subst (λ (z : State). SendersAre z m) push
-          (senders_step t (known front) l m h.tables y.sound later (is_conflict_free l y.sound) latest shows y.next (sends_at entries front rest t l m d y) h.senders);
-      since = subst S (sym (last_reset_push None front t)) (subst C (sym (last_cycle_push 0 front t)) (subst K push since));
+          (senders_step t (known prefix) l m h.tables y.sound later (is_conflict_free l y.sound) latest shows y.next (sends_at entries prefix rest t l m d y) h.senders);
+      since = subst S (sym (last_reset_push None prefix t)) (subst C (sym (last_cycle_push 0 prefix t)) (subst K push since));
     }
 
 no_sender : (k t : ℕ) → k < 64 → (row no_state k).sender ≡ Some t → ⊥
@@ -126,8 +126,8 @@ one_sender cycle k x s l q h y at low e =
     let kept : (row s k).sender ≡ Some x = sym (ap (λ (c : Channel). c.sender) (ticked_row s cycle k)) ∙ e in
     sym (h k x low kept y.plug (y.talks, sym y.channel ∙ at)) ∙ sym y.sender
 
-channel_low : (l : Account) (q : IsoPacket) → (entries front rest : List Timed) (t : Timed) (m : Account) → Passes entries front rest t l m → IsOfTalker l q → q.channel < 64
-channel_low l q entries front rest t m y s =
+channel_low : (l : Account) (q : IsoPacket) → (entries prefix rest : List Timed) (t : Timed) (m : Account) → Passes entries prefix rest t l m → IsOfTalker l q → q.channel < 64
+channel_low l q entries prefix rest t m y s =
     let h = (y.sound.settings_fit s.plug (y.sound.there s.plug s.talks)).channel in
     let e = s.channel in
     omega (arith, h, e)
@@ -138,17 +138,17 @@ heard_other u p first f e = no_other (row u p.channel).noted.two (row u p.channe
 
 pub none_two : (entries : List Timed) → IsOrderly entries → ShowsAccount entries → SendsOfTalkers entries → HasNone is_two_senders entries
 none_two entries o s d =
-    none_in (λ (x : Said). is_two_senders x.remark) entries IsTuned o (λ front rest t l m y h. tuned_step entries front rest t l m o s d y h)
-    (λ front rest t l m y h.
-    entry_quiet _ (known front) t of_two
+    none_in (λ (x : Said). is_two_senders x.remark) entries IsTuned o (λ prefix rest t l m y h. tuned_step entries prefix rest t l m o s d y h)
+    (λ prefix rest t l m y h.
+    entry_quiet _ (known prefix) t of_two
     (λ q e.
-    (let w = sends_at entries front rest t l m d y q e in
-    let low = channel_low l q entries front rest t m y w in
-    let u : State = ticked t.cycle (known front) in
+    (let w = sends_at entries prefix rest t l m d y q e in
+    let low = channel_low l q entries prefix rest t m y w in
+    let u : State = ticked t.cycle (known prefix) in
     let p : Packet = packet_of t.cycle q in
     wrong_quiet _ (heard u p) p
     (two_quiet _ (heard u p).first p
-    (λ first f. absurd (heard_other u p first (λ x g. one_sender t.cycle q.channel x (known front) l q h.senders w refl low g) f)))
+    (λ first f. absurd (heard_other u p first (λ x g. one_sender t.cycle q.channel x (known prefix) l q h.senders w refl low g) f)))
     (free_quiet _ (heard u p).free p (λ f. refl)) (owners_quiet _ (heard u p).owners p (inr refl)))))
     tuned_first
 
@@ -158,16 +158,16 @@ heard_owners u p e = e
 
 pub none_plug : (entries : List Timed) → IsOrderly entries → ShowsAccount entries → SendsOfTalkers entries → HasNone is_other_plug entries
 none_plug entries o s d =
-    none_in (λ (x : Said). is_other_plug x.remark) entries IsTuned o (λ front rest t l m y h. tuned_step entries front rest t l m o s d y h)
-    (λ front rest t l m y h.
-    entry_quiet _ (known front) t of_plug
+    none_in (λ (x : Said). is_other_plug x.remark) entries IsTuned o (λ prefix rest t l m y h. tuned_step entries prefix rest t l m o s d y h)
+    (λ prefix rest t l m y h.
+    entry_quiet _ (known prefix) t of_plug
     (λ q e.
-    (let w = sends_at entries front rest t l m d y q e in
-    let u : State = ticked t.cycle (known front) in
+    (let w = sends_at entries prefix rest t l m d y q e in
+    let u : State = ticked t.cycle (known prefix) in
     let p : Packet = packet_of t.cycle q in
     wrong_quiet _ (heard u p) p (two_quiet _ (heard u p).first p (λ first f. refl)) (free_quiet _ (heard u p).free p (λ f. refl))
     (owners_quiet _ (heard u p).owners p
-    (inl (heard_owners u p (owners_none t.cycle (known front) l (row u q.channel) q h.tables.whole.plugs h.plugs y.sound (is_conflict_free l y.sound) y.agrees.apart w)))))))
+    (inl (heard_owners u p (owners_none t.cycle (known prefix) l (row u q.channel) q h.tables.whole.plugs h.plugs y.sound (is_conflict_free l y.sound) y.agrees.apart w)))))))
     tuned_first
 
 is_not : (a b : Bool) → b ≡ false → (not a && b) ≡ true → ⊥
@@ -180,17 +180,17 @@ heard_free u p e f = is_not (row u p.channel).noted.free (is_free u p.channel) e
 
 pub none_free : (entries : List Timed) → IsOrderly entries → ShowsAccount entries → SendsOfTalkers entries → HasTimelyPackets entries → HasNone is_not_taken entries
 none_free entries o s d timely =
-    none_in (λ (x : Said). is_not_taken x.remark) entries IsTuned o (λ front rest t l m y h. tuned_step entries front rest t l m o s d y h)
-    (λ front rest t l m y h.
-    entry_quiet _ (known front) t of_free
+    none_in (λ (x : Said). is_not_taken x.remark) entries IsTuned o (λ prefix rest t l m y h. tuned_step entries prefix rest t l m o s d y h)
+    (λ prefix rest t l m y h.
+    entry_quiet _ (known prefix) t of_free
     (λ q e.
-    (let w = sends_at entries front rest t l m d y q e in
-    let u : State = ticked t.cycle (known front) in
+    (let w = sends_at entries prefix rest t l m d y q e in
+    let u : State = ticked t.cycle (known prefix) in
     let p : Packet = packet_of t.cycle q in
-    let since : SinceIs (last_reset None front) t.cycle u.second.since =
-    subst (λ (z : Second). SinceIs (last_reset None front) t.cycle z.since) (sym (ticked_is t.cycle (known front)))
-    (tick_since t.cycle (last_cycle 0 front) (last_reset None front) (known front).second (order_at entries front rest t l m o y) h.since) in
-    let no = not_free t.cycle (known front) l q (last_reset None front) y.sound y.agrees.manager h.fine.knows w since (timely front rest t q l y.parts e y.account) in
+    let since : SinceIs (last_reset None prefix) t.cycle u.second.since =
+    subst (λ (z : Second). SinceIs (last_reset None prefix) t.cycle z.since) (sym (ticked_is t.cycle (known prefix)))
+    (tick_since t.cycle (last_cycle 0 prefix) (last_reset None prefix) (known prefix).second (order_at entries prefix rest t l m o y) h.since) in
+    let no = not_free t.cycle (known prefix) l q (last_reset None prefix) y.sound y.agrees.manager h.fine.knows w since (timely prefix rest t q l y.parts e y.account) in
     wrong_quiet _ (heard u p) p (two_quiet _ (heard u p).first p (λ first f. refl)) (free_quiet _ (heard u p).free p (λ f. absurd (heard_free u p no f)))
     (owners_quiet _ (heard u p).owners p (inr refl)))))
     tuned_first

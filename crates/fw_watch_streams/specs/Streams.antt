@@ -21,13 +21,13 @@ pub record IsOfTalker (l : Account) (p : IsoPacket) : Type 0 where
 -- a plug that talks by the account of the entries before it sends each isochronous packet
 abbrev pub SendsOfTalkers : List Timed → Type 0
 SendsOfTalkers entries =
-    (front rest : List Timed) (t : Timed) (p : IsoPacket) (l : Account) → entries ≡ front ++ t ∷ rest → t.what ≡ Iso p → account_of (entries_of front) ≡ Some l → IsOfTalker l p
+    (prefix rest : List Timed) (t : Timed) (p : IsoPacket) (l : Account) → entries ≡ prefix ++ t ∷ rest → t.what ≡ Iso p → account_of (entries_of prefix) ≡ Some l → IsOfTalker l p
 
 -- an isochronous packet that comes while the second of the account runs comes within 8000 cycles of the bus reset
 abbrev pub HasTimelyPackets : List Timed → Type 0
 HasTimelyPackets entries =
-    (front rest : List Timed) (t : Timed) (p : IsoPacket) (l : Account) → entries ≡ front ++ t ∷ rest → t.what ≡ Iso p → account_of (entries_of front) ≡ Some l → IsTrue l.reclaiming
-    → (since : ℕ) × (last_reset None front ≡ Some since) × (t.cycle < since + 8000)
+    (prefix rest : List Timed) (t : Timed) (p : IsoPacket) (l : Account) → entries ≡ prefix ++ t ∷ rest → t.what ≡ Iso p → account_of (entries_of prefix) ≡ Some l → IsTrue l.reclaiming
+    → (since : ℕ) × (last_reset None prefix ≡ Some since) × (t.cycle < since + 8000)
 
 -- ---- what is not found there
 

@@ -70,13 +70,13 @@ impl<const N: usize> Bytes<N> {
     }
 
     /// Puts the bytes of two slices in place of what was there, as many as there is room for.
-    pub fn join(&mut self, front: &[u8], back: &[u8])
-        requires { length front.now ≤ N }
-        ensures { self.new ≡ front.now ++ take (N - length front.now) back.now }
+    pub fn join(&mut self, prefix: &[u8], back: &[u8])
+        requires { length prefix.now ≤ N }
+        ensures { self.new ≡ prefix.now ++ take (N - length prefix.now) back.now }
     {
         self.bytes.clear();
-        self.append(front);
-        let room = N - front.len();
+        self.append(prefix);
+        let room = N - prefix.len();
         self.append(if back.len() < room {
             back
         } else {

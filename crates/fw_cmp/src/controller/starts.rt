@@ -1,13 +1,14 @@
 //! New connections and breaks, which wait as jobs.
 
 ghost use Rattle.std.specs.Prelude.{◌≡◌, ◌<◌, Err, if◌then◌else◌};
-ghost use Rattle.fw_cmp.specs.declared.directory.Directory.{Directory as BusDirectory};
+ghost use Rattle.fw_cmp_jobs.specs.declared.directory.Directory.{Directory as BusDirectory};
 ghost use Rattle.fw_cmp.specs.declared.outcome.StartFault.TheVariants.{NotOwnPlug};
 ghost use Rattle.fw_cmp.specs.Controllers.{break_waits, slot_at};
-ghost use Rattle.fw_cmp.specs.Fits.{PlugFits, AskedFits, SlotFits};
+ghost use Rattle.fw_cmp_jobs.specs.Fits.{PlugFits, AskedFits, SlotFits};
 ghost use Rattle.fw_cmp.specs.Holdings.{CanGoOn};
 ghost use Rattle.fw_cmp.specs.Losses.{ListeningFits, with_state};
-ghost use Rattle.fw_cmp.specs.Starts.{IsMaking, OkWithin, start, start_own, started, connect_slot, broadcast_slot, listen_slot, start_break, break_started, break_fault};
+ghost use Rattle.fw_cmp.specs.Starts.{OkWithin, start, start_own, started, start_break, break_started, break_fault};
+ghost use Rattle.fw_cmp_jobs.specs.Slots.{IsMaking, connect_slot, broadcast_slot, listen_slot};
 
 use super::Controller;
 use crate::{Slot, StartFault};

@@ -42,7 +42,7 @@ fn same_kind(node: &Node, other: &Node) -> bool
     )
 }
 
-// The nodes are those that are kept under `now`, and become those under `numbers`: only where the two differ is one copied. Whether each
+// The nodes are those that are kept under `now`, and become those under `numbers`: only if the two differ is one copied. Whether each
 // is of the kind that it was of.
 fn change_nodes(nodes: &mut [Node], kept: &[Node], now: &[u32], numbers: &[u32]) -> bool
     requires now { nodes.old ≡ nodes_at kept.now now.now }

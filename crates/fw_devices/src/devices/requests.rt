@@ -40,7 +40,7 @@ impl Devices {
         ensures registers { self.new ≡ record self.old { nodes = slice_set self.old.nodes device (after_request (request_in packet.now) (node_at self.old.nodes device)) } }
         ensures fits { Fits packet.now → Fits result }
     {
-        self.nodes[usize::from(device)].carry_out(now, packet)
+        self.nodes[usize::from(device)].answer_packet(now, packet)
     }
 
     /// Carries the request packet that these bytes are to the node of a device out in cycle `now`, puts the response's bytes in place

@@ -6,10 +6,10 @@ ghost use Rattle.fw_script.specs.Reader.{IsOpen, IsCut, Fills};
 ghost use Rattle.fw_script.specs.Reading.{with_taken};
 
 use super::ScriptReader;
-use super::standing::{Place, TEXT_LIMIT};
+use super::standing::{TEXT_LIMIT, TextSpan};
 use crate::ScriptFault;
 use crate::line::LINE_LIMIT;
-use crate::stage::Stage;
+use crate::stage::ReaderStage;
 use fw_outside::Source;
 use fw_words::Bytes;
 
@@ -32,16 +32,16 @@ fn put(bytes: &mut Vec<u8>, more: &[u8])
 }
 
 /// Puts the text of the line last read, the beginning of the next and a piece in place of what was held.
-fn refill(bytes: &mut Vec<u8>, text: &[u8], front: &[u8], piece: &[u8])
-    requires room { length text.now + length front.now + length piece.now ≤ vec_capacity bytes.old }
+fn refill(bytes: &mut Vec<u8>, text: &[u8], prefix: &[u8], piece: &[u8])
+    requires room { length text.now + length prefix.now + length piece.now ≤ vec_capacity bytes.old }
     ensures text { take (length text.now) bytes.new.items ≡ text.now }
-    ensures rest { drop (length text.now) bytes.new.items ≡ front.now ++ piece.now }
-    ensures len { vec_len bytes.new ≡ length text.now + length front.now + length piece.now }
+    ensures rest { drop (length text.now) bytes.new.items ≡ prefix.now ++ piece.now }
+    ensures len { vec_len bytes.new ≡ length text.now + length prefix.now + length piece.now }
     ensures kept { vec_capacity bytes.old ≤ vec_capacity bytes.new }
 {
     bytes.clear();
     put(bytes, text);
-    put(bytes, front);
+    put(bytes, prefix);
     put(bytes, piece);
 }
 
@@ -54,11 +54,11 @@ impl ScriptReader {
     {
         let mut text = Bytes::<TEXT_LIMIT>::new();
         text.append(self.text());
-        let mut front = Bytes::<LINE_LIMIT>::new();
-        front.append(&self.bytes[self.at..]);
-        refill(&mut self.bytes, text.as_slice(), front.as_slice(), piece);
+        let mut prefix = Bytes::<LINE_LIMIT>::new();
+        prefix.append(&self.bytes[self.at..]);
+        refill(&mut self.bytes, text.as_slice(), prefix.as_slice(), piece);
         self.at = text.as_slice().len();
-        self.text = Place {
+        self.text = TextSpan {
             at: 0,
             length: self.at,
         };
@@ -66,6 +66,8 @@ impl ScriptReader {
     }
 
     // Takes bytes from the source, after the beginning of a line that is held.
+    // Not inlined, so that its room is made only if bytes are asked for.
+    #[inline(never)]
     pub(super) fn take<S: Source>(&mut self, source: &mut S) -> Result<(), ScriptFault>
         requires open { IsOpen self.old.stage }
         requires cut { IsCut self.old }
@@ -76,7 +78,7 @@ impl ScriptReader {
     {
         let mut piece = [0; PIECE];
         let Ok(count) = source.read(&mut piece) else {
-            self.enter(Stage::Failed);
+            self.enter(ReaderStage::Failed);
             return Err(ScriptFault::ReadFault);
         };
         self.hold(&piece[..count]);

@@ -8,8 +8,8 @@ ghost use Rattle.fw_script.specs.Reading.{Advances, IsHeld, TakesMore};
 
 use super::ScriptReader;
 use crate::ScriptFault;
-use crate::line::{Front, Meaning, meaning_of};
-use crate::stage::Stage;
+use crate::line::{Meaning, Prefix, meaning_of};
+use crate::stage::ReaderStage;
 use fw_outside::Source;
 use fw_script_command::Command;
 
@@ -27,8 +27,11 @@ pub enum Said {
 impl ScriptReader {
     /// Takes bytes until the next line is held whole, and answers its length, and how many bytes it takes with its line feed. It answers None
     /// if no line stands next: at the input's end, if the line or the script is too long, and after the end was given. No line is read.
-    pub fn look<S: Source>(&mut self, source: &mut S) -> Result<Option<(usize, usize)>, ScriptFault>
-        requires { self.old.stage ≢ Stage.Failed }
+    pub fn find_line<S: Source>(
+        &mut self,
+        source: &mut S,
+    ) -> Result<Option<(usize, usize)>, ScriptFault>
+        requires { self.old.stage ≢ ReaderStage.Failed }
         ensures takes { OnOk result (TakesMore self.old self.new (S.left source.old) (S.left source.new)) }
         ensures stage { OnOk result (self.new.stage ≡ self.old.stage) }
         ensures line { IfOk result (HoldsNext self.new) }
@@ -44,10 +47,10 @@ impl ScriptReader {
             return Ok(None);
         }
         loop {
-            match self.front() {
-                Front::Line { length, size } => return Ok(Some((length, size))),
-                Front::LongLine | Front::Limit | Front::Nothing => return Ok(None),
-                Front::Cut => self.take(source)?,
+            match self.prefix() {
+                Prefix::Line { length, size } => return Ok(Some((length, size))),
+                Prefix::LongLine | Prefix::Limit | Prefix::Nothing => return Ok(None),
+                Prefix::Cut => self.take(source)?,
             }
         }
     }
@@ -57,25 +60,25 @@ impl ScriptReader {
         requires { count ≤ length self.now.rest }
         ensures { result.now ≡ take count self.now.rest }
     {
-        self.front_text(count)
+        self.prefix_text(count)
     }
 
     /// Reads the next line, which has this length and takes so many bytes, if it says nothing by itself. A command is put into `out`.
-    pub fn pass(&mut self, length: usize, size: usize, out: &mut Command) -> Said
+    pub fn read_line(&mut self, length: usize, size: usize, out: &mut Command) -> Said
         requires open { IsOpen self.old.stage }
         requires line { HoldsLine self.old length size }
         ensures { Passes self.old length size result out.new self.new }
     {
         // What the invariant says of the bytes is known from here on.
         let _ = &self.bytes;
-        match meaning_of(self.front_text(length), self.takes_commands(), out) {
+        match meaning_of(self.prefix_text(length), self.takes_commands(), out) {
             Meaning::Skipped => {
                 self.advance(length, size);
                 Said::Nothing
             }
             Meaning::End => {
                 self.advance(length, size);
-                self.enter(Stage::AfterEnd);
+                self.enter(ReaderStage::AfterEnd);
                 Said::Nothing
             }
             Meaning::Command => Said::Command,

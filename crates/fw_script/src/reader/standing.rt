@@ -2,18 +2,18 @@
 
 ghost use Rattle.std.specs.Prelude.{◌≡◌, ◌≢◌, ◌≤◌, ◌<◌, ◌+◌, length, take, drop, true, false};
 ghost use Rattle.fw_script.specs.Reader.{IsOpen, IsNear, StandsNext};
-ghost use Rattle.fw_script.specs.Reading.{at_stage, behind, end_at, refused};
+ghost use Rattle.fw_script.specs.Reading.{at_stage, following, end_at, refused};
 
 use super::ScriptReader;
-use crate::line::{Front, LINE_LIMIT, SCRIPT_LIMIT, front_of};
-use crate::stage::Stage;
+use crate::line::{LINE_LIMIT, Prefix, SCRIPT_LIMIT, prefix_of};
+use crate::stage::ReaderStage;
 
 /// How many bytes are kept of a line at most: those of one that is too long as far as that shows it.
 pub(super) const TEXT_LIMIT: usize = LINE_LIMIT + 1;
 
 /// Where a text stands among the bytes that are held.
 #[derive(Clone, Copy)]
-pub(super) struct Place {
+pub(super) struct TextSpan {
     pub(super) at: usize,
     pub(super) length: usize,
 }
@@ -22,35 +22,37 @@ impl ScriptReader {
     // Whether commands may come, or only skipped lines.
     pub(super) fn takes_commands(&self) -> bool
         requires { IsOpen self.now.stage }
-        ensures yes { result ≡ true → self.now.stage ≡ Stage.Commands }
-        ensures no { result ≡ false → self.now.stage ≡ Stage.AfterEnd }
+        ensures yes { result ≡ true → self.now.stage ≡ ReaderStage.Commands }
+        ensures no { result ≡ false → self.now.stage ≡ ReaderStage.AfterEnd }
     {
         match self.stage {
-            Stage::Commands => true,
-            Stage::AfterEnd => false,
-            Stage::Done | Stage::Failed => unreachable!(),
+            ReaderStage::Commands => true,
+            ReaderStage::AfterEnd => false,
+            ReaderStage::Done | ReaderStage::Failed => unreachable!(),
         }
     }
 
     // Whether the end was given.
     pub(super) fn is_done(&self) -> bool
-        requires { self.now.stage ≢ Stage.Failed }
-        ensures yes { result ≡ true → self.now.stage ≡ Stage.Done }
+        requires { self.now.stage ≢ ReaderStage.Failed }
+        ensures yes { result ≡ true → self.now.stage ≡ ReaderStage.Done }
         ensures no { result ≡ false → IsOpen self.now.stage }
     {
         match self.stage {
-            Stage::Commands | Stage::AfterEnd => false,
-            Stage::Done => true,
-            Stage::Failed => unreachable!(),
+            ReaderStage::Commands | ReaderStage::AfterEnd => false,
+            ReaderStage::Done => true,
+            ReaderStage::Failed => unreachable!(),
         }
     }
 
     // What stands next.
-    pub(super) fn front(&self) -> Front
+    // Inlined, so that the answer is not kept in memory: it is asked for each line.
+    #[inline(always)]
+    pub(super) fn prefix(&self) -> Prefix
         ensures stands { StandsNext self.now result }
         ensures near { IsNear self.now.rest }
     {
-        front_of(
+        prefix_of(
             &self.bytes[self.at..],
             SCRIPT_LIMIT - self.before,
             self.whole,
@@ -58,7 +60,7 @@ impl ScriptReader {
     }
 
     // The first bytes from here on.
-    pub(super) fn front_text(&self, count: usize) -> &[u8]
+    pub(super) fn prefix_text(&self, count: usize) -> &[u8]
         requires { count ≤ length self.now.rest }
         ensures { result.now ≡ take count self.now.rest }
     {
@@ -74,9 +76,9 @@ impl ScriptReader {
         requires there { size ≤ length self.old.rest }
         requires near { IsNear (drop size self.old.rest) }
         requires within { self.old.before + size ≤ 1048576 }
-        ensures { self.new ≡ behind self.old (take count self.old.rest) size }
+        ensures { self.new ≡ following self.old (take count self.old.rest) size }
     {
-        self.text = Place {
+        self.text = TextSpan {
             at: self.at,
             length: count,
         };
@@ -86,17 +88,17 @@ impl ScriptReader {
     }
 
     // The number of the line `end`, where another stage begins.
-    fn end_at(&self, stage: Stage) -> u32
+    fn end_at(&self, stage: ReaderStage) -> u32
         ensures { result ≡ end_at self.now stage }
     {
         match stage {
-            Stage::AfterEnd => self.line,
-            Stage::Commands | Stage::Done | Stage::Failed => self.end,
+            ReaderStage::AfterEnd => self.line,
+            ReaderStage::Commands | ReaderStage::Done | ReaderStage::Failed => self.end,
         }
     }
 
     // Reads on from another stage.
-    pub(super) fn enter(&mut self, stage: Stage)
+    pub(super) fn enter(&mut self, stage: ReaderStage)
         requires { IsOpen self.old.stage }
         ensures { self.new ≡ at_stage self.old stage }
     {
@@ -111,11 +113,11 @@ impl ScriptReader {
         requires short { count ≤ 257 }
         ensures { self.new ≡ refused self.old (take count self.old.rest) }
     {
-        self.text = Place {
+        self.text = TextSpan {
             at: self.at,
             length: count,
         };
         self.line += 1;
-        self.stage = Stage::Failed;
+        self.stage = ReaderStage::Failed;
     }
 }

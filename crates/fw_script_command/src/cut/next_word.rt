@@ -1,7 +1,7 @@
 //! The next word of a line, read as its form asks. None if there is no word, or it is not of this kind.
 
-ghost use Rattle.std.specs.Prelude.{◌≡◌, ◌≤◌, OnSome, IfSome};
-ghost use Rattle.fw_script_command.specs.Form.{first_by, behind_first};
+ghost use Rattle.std.specs.Prelude.{◌≡◌, ◌≤◌, [], Some, None, OnSome, IfSome, IfNone};
+ghost use Rattle.fw_script_command.specs.Form.{first_by, after_first};
 ghost use Rattle.fw_script_command.specs.Words.{name_in, number_in, place_in, kind_in, speed_in, system_in, channel_in, shown_in, late_in, offset_in, word_in, frame_in};
 
 use super::Pieces;
@@ -16,7 +16,7 @@ impl<'a> Pieces<'a> {
     #[inline(always)]
     pub(crate) fn name(&mut self) -> Option<Name>
         ensures read { result ≡ first_by name_in self.old }
-        ensures left { OnSome result (self.new ≡ behind_first self.old) }
+        ensures left { OnSome result (self.new ≡ after_first self.old) }
     {
         name(self.next()?)
     }
@@ -25,7 +25,7 @@ impl<'a> Pieces<'a> {
     #[inline(always)]
     pub(crate) fn number(&mut self, low: u32, high: u32) -> Option<u32>
         ensures read { result ≡ first_by (number_in low high) self.old }
-        ensures left { OnSome result (self.new ≡ behind_first self.old) }
+        ensures left { OnSome result (self.new ≡ after_first self.old) }
         ensures range { IfSome result (λ n. (low ≤ n) × (n ≤ high)) }
     {
         number(self.next()?, low, high)
@@ -35,7 +35,7 @@ impl<'a> Pieces<'a> {
     #[inline(always)]
     pub(crate) fn small(&mut self, low: u8, high: u8) -> Option<u8>
         ensures read { result ≡ first_by (number_in low high) self.old }
-        ensures left { OnSome result (self.new ≡ behind_first self.old) }
+        ensures left { OnSome result (self.new ≡ after_first self.old) }
     {
         small(self.next()?, low, high)
     }
@@ -44,7 +44,7 @@ impl<'a> Pieces<'a> {
     #[inline(always)]
     pub(crate) fn place(&mut self, high: u8) -> Option<(Name, u8)>
         ensures read { result ≡ first_by (place_in high) self.old }
-        ensures left { OnSome result (self.new ≡ behind_first self.old) }
+        ensures left { OnSome result (self.new ≡ after_first self.old) }
     {
         place(self.next()?, high)
     }
@@ -53,7 +53,7 @@ impl<'a> Pieces<'a> {
     #[inline(always)]
     pub(crate) fn kind(&mut self) -> Option<u8>
         ensures read { result ≡ first_by kind_in self.old }
-        ensures left { OnSome result (self.new ≡ behind_first self.old) }
+        ensures left { OnSome result (self.new ≡ after_first self.old) }
     {
         kind(self.next()?)
     }
@@ -62,7 +62,7 @@ impl<'a> Pieces<'a> {
     #[inline(always)]
     pub(crate) fn speed(&mut self) -> Option<u8>
         ensures read { result ≡ first_by speed_in self.old }
-        ensures left { OnSome result (self.new ≡ behind_first self.old) }
+        ensures left { OnSome result (self.new ≡ after_first self.old) }
     {
         speed(self.next()?)
     }
@@ -71,7 +71,7 @@ impl<'a> Pieces<'a> {
     #[inline(always)]
     pub(crate) fn system(&mut self) -> Option<u16>
         ensures read { result ≡ first_by system_in self.old }
-        ensures left { OnSome result (self.new ≡ behind_first self.old) }
+        ensures left { OnSome result (self.new ≡ after_first self.old) }
     {
         system(self.next()?)
     }
@@ -80,7 +80,7 @@ impl<'a> Pieces<'a> {
     #[inline(always)]
     pub(crate) fn channel(&mut self) -> Option<Option<u8>>
         ensures read { result ≡ first_by channel_in self.old }
-        ensures left { OnSome result (self.new ≡ behind_first self.old) }
+        ensures left { OnSome result (self.new ≡ after_first self.old) }
     {
         channel(self.next()?)
     }
@@ -89,7 +89,7 @@ impl<'a> Pieces<'a> {
     #[inline(always)]
     pub(crate) fn shown(&mut self) -> Option<Option<Name>>
         ensures read { result ≡ first_by shown_in self.old }
-        ensures left { OnSome result (self.new ≡ behind_first self.old) }
+        ensures left { OnSome result (self.new ≡ after_first self.old) }
     {
         shown(self.next()?)
     }
@@ -98,7 +98,7 @@ impl<'a> Pieces<'a> {
     #[inline(always)]
     pub(crate) fn late(&mut self) -> Option<bool>
         ensures read { result ≡ first_by late_in self.old }
-        ensures left { OnSome result (self.new ≡ behind_first self.old) }
+        ensures left { OnSome result (self.new ≡ after_first self.old) }
     {
         late(self.next()?)
     }
@@ -107,7 +107,7 @@ impl<'a> Pieces<'a> {
     #[inline(always)]
     pub(crate) fn offset(&mut self) -> Option<u16>
         ensures read { result ≡ first_by offset_in self.old }
-        ensures left { OnSome result (self.new ≡ behind_first self.old) }
+        ensures left { OnSome result (self.new ≡ after_first self.old) }
     {
         offset(self.next()?)
     }
@@ -116,17 +116,19 @@ impl<'a> Pieces<'a> {
     #[inline(always)]
     pub(crate) fn word(&mut self) -> Option<u32>
         ensures read { result ≡ first_by word_in self.old }
-        ensures left { OnSome result (self.new ≡ behind_first self.old) }
+        ensures left { OnSome result (self.new ≡ after_first self.old) }
     {
         word(self.next()?)
     }
 
-    /// A frame.
+    /// A frame, which is put into `out`.
     #[inline(always)]
-    pub(crate) fn frame(&mut self) -> Option<Bytes<110>>
-        ensures read { result ≡ first_by frame_in self.old }
-        ensures left { OnSome result (self.new ≡ behind_first self.old) }
+    pub(crate) fn frame(&mut self, out: &mut Bytes<110>) -> Option<()>
+        requires { out.old ≡ [] }
+        ensures read { IfSome result (λ u. first_by frame_in self.old ≡ Some out.new) }
+        ensures left { OnSome result (self.new ≡ after_first self.old) }
+        ensures none { IfNone result (first_by frame_in self.old ≡ None) }
     {
-        frame(self.next()?)
+        frame(self.next()?, out)
     }
 }

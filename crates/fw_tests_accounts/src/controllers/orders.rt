@@ -1,7 +1,7 @@
 //! The connections that a controller is told to make.
 
 ghost use Rattle.std.specs.Prelude.{◌<◌};
-ghost use Rattle.fw_cmp.specs.Fits.{PlugFits};
+ghost use Rattle.fw_cmp_jobs.specs.Fits.{PlugFits};
 ghost use Rattle.fw_cmp.specs.Holdings.{CanGoOn};
 
 use fw_cmp::{Controller, Directory, StartFault};

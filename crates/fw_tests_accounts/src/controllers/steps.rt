@@ -2,7 +2,7 @@
 
 ghost use Rattle.std.specs.Prelude.{◌<◌};
 ghost use Rattle.fw_cmp.specs.Holdings.{CanGoOn};
-ghost use Rattle.fw_cmp.specs.Nodes.{HasNodeNumbers};
+ghost use Rattle.fw_cmp_jobs.specs.Nodes.{HasNodeNumbers};
 
 use crate::controllers::orders::{Order, starts};
 use fw_cmp::{Controller, Directory, Next, Outcome, StartFault};
@@ -75,7 +75,7 @@ fn passes_second(c: &mut Controller, d: &Directory)
     c.second_over();
 }
 
-/// What it does at cycle 8000, if no request of its own stands.
+/// What it does at cycle 8000, if no request of its own is outstanding.
 fn does(rt: &impl Abort, c: &mut Controller, d: &Directory) -> Next
     requires nodes { HasNodeNumbers d.now }
     requires reached { CanGoOn d.now c.old.state }
@@ -107,7 +107,7 @@ fn sends(
     }
 }
 
-/// The answer to the request that stands, if one does.
+/// The answer to the outstanding request, if there is one.
 fn hears_it(c: &mut Controller, d: &Directory, reply: &Reply)
     requires { CanGoOn d.now c.old.state }
     ensures { CanGoOn d.now c.new.state }
@@ -125,7 +125,7 @@ fn hears(rt: &impl Abort, c: &mut Controller, d: &Directory, rcode: u8, value: u
     hears_it(c, d, &Reply { rcode, value });
 }
 
-/// The response to the request that stands is lost, if one does.
+/// The response to the outstanding request is lost, if there is one.
 fn loses(c: &mut Controller, d: &Directory)
     requires { CanGoOn d.now c.old.state }
     ensures { CanGoOn d.now c.new.state }
@@ -135,7 +135,7 @@ fn loses(c: &mut Controller, d: &Directory)
     }
 }
 
-/// What it does in a cycle, if no request of its own stands.
+/// What it does in a cycle, if no request of its own is outstanding.
 fn turns(rt: &impl Abort, c: &mut Controller, d: &Directory, now: u64) -> Next
     requires nodes { HasNodeNumbers d.now }
     requires reached { CanGoOn d.now c.old.state }

@@ -134,7 +134,7 @@ pub fn answer(rt: &impl Abort, node: &mut Node, ask: Ask, offset: u16) -> (u8, O
     ensures link { IsTrue (has_link node.new.kind) }
 {
     let p = packet_of(ask, REGISTER_SPACE + u64::from(offset));
-    let reply = node.carry_out(NOW, &p);
+    let reply = node.answer_packet(NOW, &p);
     assert!(rt; is_of_kind(ask, &reply), "{offset:X}");
     match &reply {
         Packet::ReadQuadletReply { rcode, value, .. } => (*rcode, Some(*value)),

@@ -9,7 +9,7 @@ ghost use Rattle.fw_trace.specs.Passed.{PassesBy, WasPassed};
 use super::{Teller, pass_on};
 use crate::lack::Lack;
 use crate::passed::Passed;
-use fw_log::{LogReader, Room};
+use fw_log::{LogReader, ReadBuffers};
 use fw_log_latest::LatestReset;
 use fw_outside::{Failed, Sink};
 use fw_outside_history::History;
@@ -66,7 +66,7 @@ impl<K: Sink> Teller<K> {
         let tracer = Tracer::new(alloc);
         let latest = LatestReset::new(alloc)?;
         let reader = LogReader::new(alloc)?;
-        let room = Room::new(alloc)?;
+        let room = ReadBuffers::new(alloc)?;
         let origin = Snapshot::of(&tracer);
         let history = History::new();
         let earlier = Snapshot::of(&history);

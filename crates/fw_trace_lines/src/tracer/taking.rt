@@ -25,7 +25,7 @@ impl Tracer {
     }
 
     // Takes what an entry makes of the jobs.
-    #[tactic(auto, unfolding(crate::specs::Caused::jobs_behind))]
+    #[tactic(auto, unfolding(crate::specs::Caused::jobs_following))]
     fn take_job(&mut self, what: &Entry) -> Result<(), AllocError>
         ensures { OnOk result (self.new ≡ record self.old { telling = record self.old.telling { jobs = jobs_from what.now self.old.telling.jobs } }) }
     {

@@ -1,5 +1,5 @@
 use Rattle.fw_async.proofs.Common.{◌≡◌, arith, sym, ap, ◌∙◌, tcode_of}
-use Rattle.fw_async.specs.Tcode.{code_of}
+use Rattle.fw_async_fields.specs.Tcode.{code_of}
 use Rattle.fw_async.specs.Quadlets.{request_packet}
 use Rattle.fw_async.proofs.QuadletLaws.{complete_of, long_lock, read_back, least}
 use Rattle.fw_async.proofs.quadlets.quadlet_request_at.Goals as goal

@@ -1,8 +1,9 @@
 use Rattle.fw_async.proofs.Common.{ℕ, ◌≤◌, length, arith, sym, subst, tcode_of}
-use Rattle.fw_async.specs.Reading.{IsComplete, ReadsAs}
-use Rattle.fw_async.proofs.ReadingLaws.{no_fault}
-use Rattle.fw_async.proofs.NeedLaws.{need_least}
-use Rattle.fw_async.proofs.WholeLaws.{is_whole, spells_whole, known_of}
+use Rattle.fw_async.specs.Whole.{IsComplete, ReadsAs}
+use Rattle.fw_async_fields.proofs.ReadingLaws.{no_fault}
+use Rattle.fw_async_fields.proofs.NeedLaws.{need_least}
+use Rattle.fw_async.proofs.WholeLaws.{is_whole, spells_whole}
+use Rattle.fw_async_fields.proofs.SoundLaws.{known_of}
 use Rattle.fw_async.proofs.reader.packet_at.Goals as goal
 
 pub packet_of_kind-requires : goal.packet_of_kind-requires

@@ -1,6 +1,6 @@
 use Rattle.fw_bus_engine.proofs.Common.{subst, Carries}
 use Rattle.fw_bus_state.specs.Orders.{MayCarry}
-use Rattle.fw_bus_engine.proofs.CarryLaws.{by_desk, carried, finish_turns, given_front}
+use Rattle.fw_bus_engine.proofs.CarryLaws.{by_desk, carried, finish_turns, given_prefix}
 use Rattle.fw_bus_engine.proofs.Doings.{does_entry}
 use Rattle.fw_bus_engine.proofs.carry.carry_out.Goals as goal
 
@@ -61,8 +61,8 @@ eject-requires g c = let may = subst (MayCarry c.args.machine.now) c.in-Eject.is
 pub show-requires : goal.show-requires
 show-requires g c = let may = subst (MayCarry c.args.machine.now) c.in-Show.is c.requires.may in record { ready = c.requires.ready; linked = may.0; offset = may.1; complete = may.2 }
 
-pub stand-requires : goal.stand-requires
-stand-requires g c = let may = subst (MayCarry c.args.machine.now) c.in-Candidate.is c.requires.may in record { ready = c.requires.ready; living = may.0; capable = may.1 }
+pub become_candidate-requires : goal.become_candidate-requires
+become_candidate-requires g c = let may = subst (MayCarry c.args.machine.now) c.in-Candidate.is c.requires.may in record { ready = c.requires.ready; living = may.0; capable = may.1 }
 
 pub contend-requires : goal.contend-requires
 contend-requires g c = let may = subst (MayCarry c.args.machine.now) c.in-Contend.is c.requires.may in record { ready = c.requires.ready; candidate = may.1; few = may.2 }
@@ -97,7 +97,7 @@ pub returns-in-Show : goal.returns-in-Show
 returns-in-Show g c = record { does = carried _ c.in-Show.is tt (λ s t out f. Carries.shows f) c.show.ensures.does }
 
 pub returns-in-Candidate : goal.returns-in-Candidate
-returns-in-Candidate g c = record { does = by_desk c.in-Candidate.is tt c.stand.ensures.does }
+returns-in-Candidate g c = record { does = by_desk c.in-Candidate.is tt c.become_candidate.ensures.does }
 
 pub returns-in-Contend : goal.returns-in-Contend
 returns-in-Contend g c = record { does = carried _ c.in-Contend.is tt (λ s t out f. Carries.contends f) c.contend.ensures.does }
@@ -106,7 +106,7 @@ pub returns-in-Dub : goal.returns-in-Dub
 returns-in-Dub g c = record { does = carried _ c.in-Dub.is tt (λ s t out f. Carries.dubs f) c.dub.ensures.does }
 
 pub returns-in-End : goal.returns-in-End
-returns-in-End g c = record { does = carried _ c.in-End.is tt (λ s t out f. Carries.ends f) (does_entry (finish_turns _) c.give.ensures) }
+returns-in-End g c = record { does = carried _ c.in-End.is tt (λ s t out f. Carries.ends f) (does_entry (finish_turns _) c.emit.ensures) }
 
 pub returns-in-Withhold : goal.returns-in-Withhold
 returns-in-Withhold g c = record { does = by_desk c.in-Withhold.is tt c.withhold.ensures.does }
@@ -133,7 +133,7 @@ pub returns-in-Eject : goal.returns-in-Eject
 returns-in-Eject g c = record { does = by_desk c.in-Eject.is tt c.eject.ensures.does }
 
 pub returns-in-Command : goal.returns-in-Command
-returns-in-Command g c = record { does = rw c.in-Command.is (given_front _ c.command.ensures.does) }
+returns-in-Command g c = record { does = rw c.in-Command.is (given_prefix _ c.command.ensures.does) }
 
 pub returns-in-Cycles : goal.returns-in-Cycles
 returns-in-Cycles g c = record { does = rw c.in-Cycles.is c.cycles.ensures.does }

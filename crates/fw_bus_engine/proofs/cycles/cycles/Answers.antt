@@ -6,7 +6,7 @@ use Rattle.fw_bus_engine.proofs.Doings.{faults_then, ready_after}
 use Rattle.fw_bus_engine.proofs.Plain.{time_left}
 use Rattle.fw_bus_engine.specs.Cycling.{WritesCycles}
 use Rattle.fw_bus_engine.specs.Filling.{Gathers}
-use Rattle.fw_bus_engine.specs.Playing.{IsBandOf, ahead}
+use Rattle.fw_bus_engine.specs.Playing.{IsCycleStreamsOf, ahead}
 use Rattle.fw_bus_engine.proofs.cycles.cycles.Goals as goal
 
 pub returns-in_err-make_room : goal.returns-in_err-make_room
@@ -19,16 +19,16 @@ returns-in_err-make_room g c =
 
 pub loop-i-init : goal.loop-i-init
 loop-i-init g c =
-    let none = sym c.of-band.ensures.gone in
+    let none = sym c.of-cycle_streams.ensures.gone in
     let m = c.args.machine.now in
-    let P : ℕ → Type 0 = λ n. IsBandOf (ahead n m) c.of-band.result in
+    let P : ℕ → Type 0 = λ n. IsCycleStreamsOf (ahead n m) c.of-cycle_streams.result in
     let Q : ℕ → Type 0 = λ n. Gathers (record { blocks = goal.F-post g c.args.desk.now.blocks; vendor = goal.H-post g c.args.desk.now.vendor }) (WritesCycles 0) m (ahead n m)
     (g.K.Sink.held c.args.sink.now) (g.K.Sink.held c.args.sink.now) c.clear.new.self in
     record {
       done = subst Q none (gathers_none c.clear.ensures);
       faults = refl;
-      band = subst P none c.of-band.ensures.band;
-      gone = let none = c.of-band.ensures.gone in omega (arith, none);
+      cycle_streams = subst P none c.of-cycle_streams.ensures.cycle_streams;
+      gone = let none = c.of-cycle_streams.ensures.gone in omega (arith, none);
     }
 
 pub put_next-requires : goal.put_next-requires
@@ -40,7 +40,7 @@ put_next-requires g c =
       few = may.0;
       gone = c.loop-i.invariant.gone;
       written = may.1;
-      band = c.loop-i.invariant.band;
+      cycle_streams = c.loop-i.invariant.cycle_streams;
       room = c.in_ok-make_room.ensures.room;
     }
 
@@ -48,7 +48,7 @@ pub loop-i-preserved : goal.loop-i-preserved
 loop-i-preserved g c = record {
   done = gathers_then _ (gathers_out c.loop-i.invariant.done c.in_ok-make_room.ensures.passes) c.put_next.ensures.fills;
   faults = c.in_ok-make_room.ensures.faults.same ∙ c.loop-i.invariant.faults;
-  band = c.put_next.ensures.band;
+  cycle_streams = c.put_next.ensures.cycle_streams;
   gone = c.put_next.ensures.gone;
 }
 

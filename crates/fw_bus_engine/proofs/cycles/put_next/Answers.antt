@@ -15,7 +15,7 @@ put_plain-requires g c =
       few = few;
       gone = omega (arith, few, gone);
       written = c.requires.written (some_node _ c.requires.ready some);
-      band = c.requires.band;
+      cycle_streams = c.requires.cycle_streams;
       room = c.requires.room;
     }
 
@@ -24,4 +24,4 @@ returns-then-is_plain g c =
     let before = c.requires.gone in
     let after = c.put_plain.ensures.gone in
     let cycle = c.put_plain.ensures.cycle in
-    record { band = c.put_plain.ensures.band; gone = omega (arith, before, after, cycle); fills = c.put_plain.ensures.fills }
+    record { cycle_streams = c.put_plain.ensures.cycle_streams; gone = omega (arith, before, after, cycle); fills = c.put_plain.ensures.fills }

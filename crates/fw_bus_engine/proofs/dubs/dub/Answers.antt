@@ -10,5 +10,5 @@ pub returns : goal.returns
 returns g c = record {
   does = does_entry
       (tie_turns c.args.machine.now c.clear.new.self c.args.device c.dubbing.result c.requires.declared c.requires.deck c.requires.on c.dubbing.ensures.value c.clear.ensures)
-      c.give.ensures;
+      c.emit.ensures;
 }

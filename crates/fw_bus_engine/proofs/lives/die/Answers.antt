@@ -21,7 +21,7 @@ stop-requires g c = record { ready = c.requires.ready; living = c.requires.livin
 pub returns-then-has_request : goal.returns-then-has_request
 returns-then-has_request g c = record { does = rw c.if-late.true c.stop_late.ensures }
 
--- no request stands, or none is to be carried out
+-- no request is outstanding, or none is to be carried out
 pub returns-else-late : goal.returns-else-late
 returns-else-late g c = record { does = does_when (dies_at c.args.machine.now c.args.device c.args.late quiet) c.stop.ensures }
   where

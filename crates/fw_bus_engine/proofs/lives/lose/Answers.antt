@@ -16,5 +16,5 @@ lost-requires g c = (living_there c.args.machine.now c.args.device c.requires.re
 
 pub returns : goal.returns
 returns g c =
-    let told = does_entry (tells_turns _ c.args.device c.in_ok-lose_response.ensures.deaf) (rw c.lost.ensures.value at c.give.ensures) in
-    record { does = does_then c.give.result (loses_follows c.args.machine.now c.args.device) c.in_ok-lose_response.ensures.does told }
+    let told = does_entry (tells_turns _ c.args.device c.in_ok-lose_response.ensures.deaf) (rw c.lost.ensures.value at c.emit.ensures) in
+    record { does = does_then c.emit.result (loses_follows c.args.machine.now c.args.device) c.in_ok-lose_response.ensures.does told }

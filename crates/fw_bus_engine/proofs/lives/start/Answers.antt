@@ -21,5 +21,5 @@ pub returns : goal.returns
 returns g c = record {
   does = does_as (starts_at c.args.device) (does_entry
       (start_turns c.args.machine.now c.start.new.self c.args.device c.started.result c.requires.linked (sym c.is_dead.ensures ∙ c.if-not-is_dead.false) c.started.ensures.value c.start.ensures)
-      c.give.ensures);
+      c.emit.ensures);
 }

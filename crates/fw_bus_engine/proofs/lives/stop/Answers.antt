@@ -37,5 +37,6 @@ returns g c =
     (subst (λ (v : Pairs). TakesAction (Die c.args.device) c.args.machine.now
     (record c.args.machine.now { controllers = c.die.new.self; wire = without c.number-own.result c.args.machine.now.wire; candidates = c.leave.new.self; bids = v }) c.args.machine.now.cycle
     (Some c.died.result)) (sym c.remove-2.ensures)
-    (death_turns c.args.machine.now c.die.new.self c.leave.new.self c.args.device c.number-own.result c.died.result c.requires.living c.number-own.ensures.value c.died.ensures.value c.die.ensures c.leave.ensures)))
-    c.give.ensures
+    (death_turns c.args.machine.now c.die.new.self c.leave.new.self c.args.device c.number-own.result c.died.result c.requires.living c.number-own.ensures.value c.died.ensures.value c.die.ensures
+    c.leave.ensures)))
+    c.emit.ensures

@@ -8,9 +8,9 @@ pub returns : goal.returns
 returns g c =
     let now = c.begin_reset.new.machine in
     let same = same_cycle c.begin_reset.ensures.begins in
-    let gives = rw c.latest.ensures at c.give.ensures.bytes in
+    let gives = rw c.latest.ensures at c.emit.ensures.bytes in
     record {
       begins = c.begin_reset.ensures.begins;
-      gives = subst (λ n. GivesEntry (g.K.Sink.held c.args.sink.now) (g.K.Sink.held c.give.new.sink) c.give.result n now.devices.epoch (Some (Reset now.devices.latest))) same gives;
-      faults = c.give.ensures.faults;
+      gives = subst (λ n. GivesEntry (g.K.Sink.held c.args.sink.now) (g.K.Sink.held c.emit.new.sink) c.emit.result n now.devices.epoch (Some (Reset now.devices.latest))) same gives;
+      faults = c.emit.ensures.faults;
     }

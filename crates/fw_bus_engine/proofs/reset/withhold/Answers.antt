@@ -13,5 +13,5 @@ pub returns : goal.returns
 returns g c = record {
   does = does_as withholds_at (does_entry
       (withhold_turns c.args.machine.now c.withhold.new.self c.withheld.result c.requires.first (sym c.withholds.ensures ∙ c.if-withholds.false) c.withheld.ensures.value c.withhold.ensures)
-      c.give.ensures);
+      c.emit.ensures);
 }

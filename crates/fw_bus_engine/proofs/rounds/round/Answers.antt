@@ -4,7 +4,7 @@ use Rattle.fw_bus_state.specs.Stands.{EndsAt}
 use Rattle.fw_bus_engine.proofs.Doings.{ready_after}
 use Rattle.fw_bus_engine.proofs.Calm.{round_rests}
 use Rattle.fw_bus_engine.proofs.Rounding.{round_none, round_skips, round_then, round_cut}
-use Rattle.fw_bus_state.proofs.Numbers.{count_none, count_more, count_front}
+use Rattle.fw_bus_state.proofs.Numbers.{count_none, count_more, count_prefix}
 use Rattle.fw_bus_engine.proofs.rounds.round.Goals as goal
 
 -- the count afterwards is a word
@@ -31,11 +31,11 @@ half_step-requires g c =
     sym (c.requires.marks c.loop-device.device (omega (arith, c.loop-device-test.true, c.requires.within)))
     ∙ (ap (λ (i : ℕ). slice_index_or c.args.living.now i false) (sym c.from.ensures) ∙ c.if-not-living-from.false) in
     let more = count_more c.loop-device.device (is_living_in c.args.machine.now) ∙ ap (λ b. length (numbers_to c.loop-device.device (is_living_in c.args.machine.now)) + cond b 1 0) lives in
-    let front = count_front (c.loop-device.device + 1) (length c.args.machine.now.devices.names) (is_living_in c.args.machine.now) (omega (arith, within, value)) in
+    let prefix = count_prefix (c.loop-device.device + 1) (length c.args.machine.now.devices.names) (is_living_in c.args.machine.now) (omega (arith, within, value)) in
     record {
       ready = ready_after c.requires.ready c.loop-device.invariant.does;
       living = c.loop-device.invariant.living _ ∙ lives;
-      few = omega (arith, count, few, more, front);
+      few = omega (arith, count, few, more, prefix);
     }
 
 pub loop-device-init : goal.loop-device-init

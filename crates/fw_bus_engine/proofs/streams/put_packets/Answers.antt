@@ -42,7 +42,7 @@ returns g c =
     let past = c.loop-channel-test.false in
     record {
       puts = packets_whole c.args.heard.now c.loop-channel.heard _ _ (omega (arith, few, low)) c.requires.talkers
-          (λ channel behind. c.end-channel-end.ensures.silent channel (omega (arith, behind, past)))
+          (λ channel following. c.end-channel-end.ensures.silent channel (omega (arith, following, past)))
           c.loop-channel.invariant.puts;
       same = c.loop-channel.invariant.same;
     }

@@ -25,5 +25,6 @@ exchange-requires g c =
 pub returns : goal.returns
 returns g c =
     let is = ap (λ (d : Network). record c.args.machine.now { devices = d }) c.answer-response.ensures.registers in
-    let talk = transact_talks c.args.machine.now _ c.args.transaction _ _ c.requires.from c.requires.to c.requires.free c.requires.access c.transaction_packet-request.ensures.value c.answer-response.ensures.response is in
+    let talk = transact_talks c.args.machine.now _ c.args.transaction _ _ c.requires.from c.requires.to c.requires.free c.requires.access c.transaction_packet-request.ensures.value
+    c.answer-response.ensures.response is in
     record { does = does_talks _ talk (λ n. refl) (λ n. refl) c.exchange.ensures }

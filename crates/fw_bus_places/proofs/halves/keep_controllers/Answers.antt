@@ -11,7 +11,8 @@ returns c =
     let low : place < length c.args.now.now = omega (arith, c.if-place-now.false) in
     let listed = c.list-2.ensures.list in
     let within : place < length c.list-2.result.now = let long = ap length listed in omega (arith, long, low, c.requires.size) in
-    one_kept first_listening c.args.kept.now list c.args.now.now c.requires.within c.keep_guessed.new.kept c.args.out.now.items c.extend_from_slice-2.new.self.items place c.in_ok-number.number low c.requires.size
+    one_kept first_listening c.args.kept.now list c.args.now.now c.requires.within c.keep_guessed.new.kept c.args.out.now.items c.extend_from_slice-2.new.self.items place c.in_ok-number.number low
+    c.requires.size
     (λ d other. c.requires.others d (λ e. other (e ∙ sym c.from-place.ensures)))
     c.index-list-place.result
     (get_or_read c.list-2.result.now place c.index-list-place.result within c.index-list-place.is first_listening ∙ ap (λ (l : List Listening). get_or l place first_listening) listed)

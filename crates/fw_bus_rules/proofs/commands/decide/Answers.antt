@@ -1,6 +1,6 @@
 -- A command of a script has its numbers in their ranges.
 use Rattle.std.proofs.Common.{◌≡◌, ◌<◌, ℕ, Option, Some, None, IfSome, subst, arith}
-use Rattle.fw_cmp.specs.Fits.{AskedFits}
+use Rattle.fw_cmp_jobs.specs.Fits.{AskedFits}
 use Rattle.fw_script_command.specs.declared.command.Command.{Command}
 use Rattle.fw_script_command.specs.declared.command.Command.TheVariants.{Device, Connect, Broadcast, Listen, Read, Swap, Show}
 use Rattle.fw_script_command.proofs.CommandLaws.{CommandFits, command_fits}

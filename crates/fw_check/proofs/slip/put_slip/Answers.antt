@@ -18,11 +18,11 @@ returns-in_ok-put_byte-in-OtherByte c =
     ∙ ap (λ (s : Slip). old ++ slip_text s) (sym c.in-OtherByte.is))
     c.put_numbered-in-OtherByte.ensures
 
-pub returns-in-BehindEnd : goal.returns-in-BehindEnd
-returns-in-BehindEnd c =
+pub returns-in-FollowingEnd : goal.returns-in-FollowingEnd
+returns-in-FollowingEnd c =
     let old : List ℕ = c.args.text.now.items in
-    on_ok_weaker c.put_numbered-in-BehindEnd.result
+    on_ok_weaker c.put_numbered-in-FollowingEnd.result
     (λ piece.
     moved (λ (n : ℕ). codes "it stands behind `end` of line " ++ decimal n ++ codes "; only empty lines and comments may follow") old _ _ _ c.from.ensures piece
-    ∙ ap (λ (s : Slip). old ++ slip_text s) (sym c.in-BehindEnd.is))
-    c.put_numbered-in-BehindEnd.ensures
+    ∙ ap (λ (s : Slip). old ++ slip_text s) (sym c.in-FollowingEnd.is))
+    c.put_numbered-in-FollowingEnd.ensures

@@ -2,7 +2,7 @@ use Rattle.std.proofs.Common.{Bool, Some, ap, sym, ◌∙◌}
 use Rattle.fw_script_command.specs.declared.command.Command.{Command}
 use Rattle.fw_cmp.specs.Controllers.{slot_at, break_waits}
 use Rattle.fw_cmp.specs.Losses.{Listening}
-use Rattle.fw_cmp.specs.declared.connection.Slot.{Slot}
+use Rattle.fw_cmp_jobs.specs.declared.connection.Slot.{Slot}
 use Rattle.fw_check.specs.declared.why.SlotState.{SlotState}
 use Rattle.fw_check.specs.declared.why.Why.TheVariants.{NoSuchConnection}
 use Rattle.fw_check_causes.specs.Causes.{no_such_connection, slot_state}

@@ -1,11 +1,11 @@
 use Rattle.fw_cmp.proofs.Common.{◌≡◌, IsTrue, Ending, Stage, Begin, ReadOutput, ReadChannels, SwapChannels, ReadBandwidth, SwapBandwidth, ConnectOutput, OverlayOutput, ReadInput, ConnectInput}
 use Rattle.fw_cmp.proofs.Common.{ReadInputToLeave, LeaveInput, ReadOutputToLeave, LeaveOutput, ReadBandwidthToRelease, RaiseBandwidth, ReadChannelsToRelease, RestoreChannel, Made, Ended}
 use Rattle.std.proofs.Common.{rules}
-use Rattle.fw_cmp.specs.declared.job.Then.{Then}
-use Rattle.fw_cmp.specs.declared.job.Then.TheVariants.{EndsAs, Again}
-use Rattle.fw_cmp.specs.contracts.job.EndingPartialEq.TheImpl as Endings
-use Rattle.fw_cmp.specs.contracts.job.ThenPartialEq.TheImpl as Thens
-use Rattle.fw_cmp.specs.contracts.stage.StagePartialEq.TheImpl as Stages
+use Rattle.fw_cmp_jobs.specs.declared.job.Then.{Then}
+use Rattle.fw_cmp_jobs.specs.declared.job.Then.TheVariants.{EndsAs, Again}
+use Rattle.fw_cmp_jobs.specs.contracts.job.EndingPartialEq.TheImpl as Endings
+use Rattle.fw_cmp_jobs.specs.contracts.job.ThenPartialEq.TheImpl as Thens
+use Rattle.fw_cmp_jobs.specs.contracts.stage.StagePartialEq.TheImpl as Stages
 use Rattle.fw_cmp.proofs.copies.same_stage.Goals as goal
 
 same_endings : (ending other : Ending) → IsTrue (Endings.eq-value.it ending other) → ending ≡ other

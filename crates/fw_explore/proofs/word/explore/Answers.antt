@@ -1,5 +1,5 @@
 use Rattle.fw_explore.proofs.Common.{ℕ, ◌≡◌, List, refl, sym, ap, subst, ◌∙◌, DeskRelations}
-use Rattle.fw_outside.specs.Outside.{Grows, AppendsFront}
+use Rattle.fw_outside.specs.Outside.{Grows, AppendsPrefix}
 use Rattle.fw_explore.proofs.WordLaws.{tells_none, untouched, no_write}
 use Rattle.fw_explore.proofs.word.explore.Given as given
 use Rattle.fw_explore.proofs.word.explore.Goals as goal

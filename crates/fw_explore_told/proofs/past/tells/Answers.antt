@@ -1,11 +1,11 @@
 use Rattle.std.proofs.Common.{◌≡◌, List, [], Option, Some, None, is_some, false, sym, refl, ◌∙◌}
-use Rattle.fw_explore_told.specs.declared.past.Told.{Told}
+use Rattle.fw_explore_told.specs.declared.past.ToldEntry.{ToldEntry}
 use Rattle.fw_explore_told.specs.Histories.{with_one}
 use Rattle.fw_explore_told.proofs.TellLaws.{walked_none, walked_more, walked_all}
 use Rattle.fw_explore_told.proofs.past.tells.Goals as goal
 
 -- nothing is added if nothing is told
-none_added : (told : Option Told) → is_some told ≡ false → [] ≡ with_one [] told
+none_added : (told : Option ToldEntry) → is_some told ≡ false → [] ≡ with_one [] told
 none_added None e = refl
 none_added (Some t) e = absurd (cc e)
 

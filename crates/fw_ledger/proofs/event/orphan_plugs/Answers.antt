@@ -10,4 +10,6 @@ one_more : (f : Seats → Seats) (xs ys : List Seats) (i : ℕ) (d y : Seats) �
 one_more f xs ys i d y low size h e = ap (slice_set ys i) e ∙ map_over_more f xs ys i (get_or ys i d) low h (get_or_default ys i d (get_or ys i d) (omega arith))
 
 pub loop-seats-preserved : goal.loop-seats-preserved
-loop-seats-preserved c = one_more (orphaned_seats c.args.c) c.args.plugs.now c.loop-seats.plugs c.loop-seats.seats-index _ c.orphan_seats.new.seats c.loop-seats-test.true c.loop-seats.auto.plugs c.loop-seats.invariant c.orphan_seats.ensures
+loop-seats-preserved c = one_more
+    (orphaned_seats c.args.c) c.args.plugs.now c.loop-seats.plugs c.loop-seats.seats-index _ c.orphan_seats.new.seats c.loop-seats-test.true c.loop-seats.auto.plugs c.loop-seats.invariant
+    c.orphan_seats.ensures

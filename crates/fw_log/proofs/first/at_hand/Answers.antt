@@ -10,5 +10,5 @@ returns-then-is_empty c = joins_none (position c.args.stand) c.args.taken.now c.
 
 pub returns : goal.returns
 returns c =
-    joins_both (position c.args.stand) c.args.taken.now c.args.piece.now c.as_slice.result.now c.whole_size.result c.whole_size.ensures.front c.whole_size.ensures.known
+    joins_both (position c.args.stand) c.args.taken.now c.args.piece.now c.as_slice.result.now c.whole_size.result c.whole_size.ensures.prefix c.whole_size.ensures.known
     (c.as_slice.ensures.value ∙ c.join.ensures)

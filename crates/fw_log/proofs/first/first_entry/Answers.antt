@@ -1,5 +1,5 @@
 use Rattle.fw_log.proofs.Common.{ℕ, List, take, arith, ◌∙◌, Position, position}
-use Rattle.fw_log.proofs.FindLaws.{first_complete, first_wrong, head_shown_first, ends_at, body_behind}
+use Rattle.fw_log.proofs.FindLaws.{first_complete, first_wrong, head_shown_first, ends_at, body_after}
 use Rattle.fw_log.proofs.first.first_entry.Goals as goal
 
 pub complete_entry-requires-clause-head : goal.complete_entry-requires-clause-head
@@ -22,6 +22,7 @@ returns-in-Ok c =
       ends.2,
       c.in-Ok.ensures,
       c.new.ensures
-          ∙ body_behind c.version_at-version.result s whole c.rest.result.now c.in-Ok.entry c.skip.result c.head_size.result c.version_at-version.ensures c.skip.ensures c.head_size.ensures c.rest.ensures c.in-Ok.ensures,
+          ∙ body_after c.version_at-version.result s whole c.rest.result.now c.in-Ok.entry c.skip.result c.head_size.result c.version_at-version.ensures c.skip.ensures c.head_size.ensures
+          c.rest.ensures c.in-Ok.ensures,
       c.version_at-version.ensures,
     )

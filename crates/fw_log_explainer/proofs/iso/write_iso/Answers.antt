@@ -3,7 +3,7 @@ use Rattle.std.specs.Option.{is_some}
 use Rattle.fw_log_names.specs.Names.{format_name}
 use Rattle.fw_log_names.specs.Texts.{hex}
 use Rattle.fw_log_explain.specs.Lines.{block_word, format_text, iso_text, stream_text}
-use Rattle.fw_log_explainer.proofs.JoinLaws.{behind_row, one_more, parts_of_iso}
+use Rattle.fw_log_explainer.proofs.JoinLaws.{after_row, one_more, parts_of_iso}
 use Rattle.fw_log_explainer.proofs.iso.write_iso.Goals as goal
 
 pub returns : goal.returns
@@ -16,7 +16,7 @@ returns c =
     let last : List ℕ = block_word (is_some p.block) ++ codes "\n" in (
       omega (arith, c.write_presence.ensures.end),
       one_more row (stream ++ format) last _ _
-          (one_more row stream format _ _ (behind_row row stream _ _ c.write_cycle-at.ensures.text c.write_stream-at.ensures.text) c.write_format-at.ensures.text)
+          (one_more row stream format _ _ (after_row row stream _ _ c.write_cycle-at.ensures.text c.write_stream-at.ensures.text) c.write_format-at.ensures.text)
           (c.write_presence.ensures.text ∙ ap (λ (b : Bool). take c.write_format-at.result c.write_format-at.new.out ++ (block_word b ++ codes "\n")) c.is_some.ensures)
           ∙ ap (λ (l : List ℕ). row ++ (stream ++ l ++ last)) c.in_ok-words.ensures
           ∙ ap (λ (l : List ℕ). row ++ l) (parts_of_iso stream (codes " ") (format_text (format_name p.cip) p.cip) (block_word (is_some p.block)) (codes "\n")),

@@ -9,10 +9,10 @@ use Rattle.fw_log_json_packets.proofs.digits.write_digits.Goals as goal
 byte_more : (base bytes : List ℕ) (place d : ℕ) (before digits row : List ℕ) → place < length bytes → before ≡ base ++ hex_bytes (take place bytes)
     → digits ≡ byte_digits (get_or bytes place d) → row ≡ before ++ digits → row ≡ base ++ hex_bytes (take (place + 1) bytes)
 byte_more base bytes place d before digits row within e f g =
-    let front : List ℕ = take place bytes in
-    g ∙ ap (λ (t : List ℕ). t ++ digits) e ∙ append_assoc base (hex_bytes front) digits
-    ∙ ap (λ (t : List ℕ). base ++ t) (ap (λ (t : List ℕ). hex_bytes front ++ t) f
-    ∙ sym (flat_map-append byte_digits front (get_or bytes place d ∷ [])) ∙ ap (λ (b : List ℕ). hex_bytes b) (sym (take_more bytes place d within)))
+    let prefix : List ℕ = take place bytes in
+    g ∙ ap (λ (t : List ℕ). t ++ digits) e ∙ append_assoc base (hex_bytes prefix) digits
+    ∙ ap (λ (t : List ℕ). base ++ t) (ap (λ (t : List ℕ). hex_bytes prefix ++ t) f
+    ∙ sym (flat_map-append byte_digits prefix (get_or bytes place d ∷ [])) ∙ ap (λ (b : List ℕ). hex_bytes b) (sym (take_more bytes place d within)))
 
 pub loop-place-preserved : goal.loop-place-preserved
 loop-place-preserved c =

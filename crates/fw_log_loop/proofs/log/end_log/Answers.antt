@@ -1,5 +1,5 @@
 use Rattle.std.proofs.Common.{List, ℕ, refl, subst}
-use Rattle.fw_outside.specs.Outside.{Grows, AppendsFront}
+use Rattle.fw_outside.specs.Outside.{Grows, AppendsPrefix}
 use Rattle.fw_log_loop.proofs.Closings.{closed_by, refused_by}
 use Rattle.fw_log_loop.proofs.log.end_log.Goals as goal
 
@@ -26,7 +26,7 @@ returns-in-Ok-print-clause-ends g c entries bytes h t =
 
 pub returns-clause-ends : goal.returns-clause-ends
 returns-clause-ends g c entries bytes h t =
-    let G : List ℕ → Type 0 = AppendsFront (g.K.Sink.held c.args.sink.now) (g.K.Sink.held c.print.new.sink) in (
+    let G : List ℕ → Type 0 = AppendsPrefix (g.K.Sink.held c.args.sink.now) (g.K.Sink.held c.print.new.sink) in (
       c.in_default.ensures.log entries bytes h,
       record {
         last = c.in-Ok-into_bytes.text.items;

@@ -5,7 +5,7 @@ use Rattle.fw_outside.proofs.Parts.{end_from_zero}
 use Rattle.fw_log_loop.specs.Readings.{Form}
 use Rattle.fw_log_loop.specs.Pieces.{DecodedTo, StopsAt, PrintsMore}
 use Rattle.fw_log_loop.proofs.Printings.{stops_at_read, gets_end}
-use Rattle.fw_log_loop.proofs.Decodings.{decoded_first, decoded_more, ended, interrupted, stopped_in, passed, cut_at, few_taken, few_behind, total_of, end_read}
+use Rattle.fw_log_loop.proofs.Decodings.{decoded_first, decoded_more, ended, interrupted, stopped_in, passed, cut_at, few_taken, few_following, total_of, end_read}
 use Rattle.fw_log_loop.proofs.log.read_pieces.Goals as goal
 
 pub loop-count-init : goal.loop-count-init
@@ -66,8 +66,8 @@ returns-in-Err-clause-reads g c =
     let took = subst T (sym (cut_at n c.in-Ok.count xs less)) c.in-Ok.ensures.bytes.0 in
     let within : length (take n xs) ≤ c.loop-count.left = omega (arith, c.min-within.ensures, length-take-le n xs fits) in
     let few = few_taken n c.in-Ok.count xs less c.in-Ok.ensures.fits.0 size in
-    let S : Form → Type 0 = λ form. (front rest : List ℕ) × (front ++ rest ≡ take n xs)
-    × StopsAt form g.O.Reading.rules (g.O.Reading.took c.print_bytes.new.output) (g.K.Sink.held c.loop-count.sink) (g.K.Sink.held c.print_bytes.new.sink) d.entries d.bytes front c.in-Err.ending in
+    let S : Form → Type 0 = λ form. (prefix rest : List ℕ) × (prefix ++ rest ≡ take n xs)
+    × StopsAt form g.O.Reading.rules (g.O.Reading.took c.print_bytes.new.output) (g.K.Sink.held c.loop-count.sink) (g.K.Sink.held c.print_bytes.new.sink) d.entries d.bytes prefix c.in-Err.ending in
     stopped_in (g.met.O.Reading.each c.args.output.now) g.O.Reading.rules (g.O.Reading.took c.print_bytes.new.output) (g.S.Source.left c.read.new.self) (g.K.Sink.held c.print_bytes.new.sink)
     (take n xs) (drop n (take c.in-Ok.count xs)) c.in-Err.ending d took within few
     (subst S i.same (c.in-Err.ensures.text d.entries d.bytes d.read d.took))
@@ -103,7 +103,7 @@ returns-then-within-count-clause-reads g c =
     (take n xs) c.print_bytes.new.reader in
     passed (g.met.O.Reading.each c.args.output.now) (λ es t. t) (g.S.Source.left c.read.new.self) (g.K.Sink.held c.print_bytes.new.sink) c.print_bytes.new.reader (take n xs)
     (drop n (take c.in-Ok.count xs)) d took full some
-    (few_behind (length (take n xs)) (few_taken n c.in-Ok.count xs less c.in-Ok.ensures.fits.0 size))
+    (few_following (length (take n xs)) (few_taken n c.in-Ok.count xs less c.in-Ok.ensures.fits.0 size))
     (subst P i.same (c.in_default-print_bytes.ensures.text d.entries d.bytes d.read d.took))
 
 pub loop-count-preserved : goal.loop-count-preserved

@@ -24,7 +24,7 @@ loop-rest-preserved-in-Some g c =
     let i = c.loop-rest.invariant in
     let rest : List ℕ = c.loop-rest.rest.now in
     let used = c.in-Some.used in
-    let new = c.pass.new.reader in
+    let new = c.take_raw.new.reader in
     let passed = c.in_ok-used.ensures in
     let up = when_some c.in_ok-used.field-0 used (CountsUp c.loop-rest.reader rest new) c.in-Some.is passed.counts in
     let from = sym (rest_from rest used) in
@@ -36,12 +36,12 @@ loop-rest-preserved-in-Some g c =
       text = λ entries bytes h t.
           let p = i.text entries bytes h t in
           let es : List Timed = entries ++ p.gathers.more in
-          let P : List ℕ → Type 0 = λ x. GatheredTo (g.O.Reading.form c.args.output.now).text (g.O.Reading.took c.pass.new.self) (g.O.Reading.gathered c.args.output.now)
-          (g.O.Reading.gathered c.pass.new.self) entries bytes c.args.piece.now x new in
-          let S : Form → Type 0 = λ form. Passes form.text (g.O.Reading.took c.pass.new.self) (g.O.Reading.gathered c.loop-rest.output) (g.O.Reading.gathered c.pass.new.self) es
+          let P : List ℕ → Type 0 = λ x. GatheredTo (g.O.Reading.form c.args.output.now).text (g.O.Reading.took c.take_raw.new.self) (g.O.Reading.gathered c.args.output.now)
+          (g.O.Reading.gathered c.take_raw.new.self) entries bytes c.args.piece.now x new in
+          let S : Form → Type 0 = λ form. Passes form.text (g.O.Reading.took c.take_raw.new.self) (g.O.Reading.gathered c.loop-rest.output) (g.O.Reading.gathered c.take_raw.new.self) es
           ((bytes ++ p.done) ++ take used rest) new in
           let passes = when_some c.in_ok-used.field-0 used
-          (λ n. Passes (g.O.Reading.form c.loop-rest.output).text (g.O.Reading.took c.pass.new.self) (g.O.Reading.gathered c.loop-rest.output) (g.O.Reading.gathered c.pass.new.self) es
+          (λ n. Passes (g.O.Reading.form c.loop-rest.output).text (g.O.Reading.took c.take_raw.new.self) (g.O.Reading.gathered c.loop-rest.output) (g.O.Reading.gathered c.take_raw.new.self) es
           ((bytes ++ p.done) ++ take n rest) new)
           c.in-Some.is (passed.history es (bytes ++ p.done) p.gathers.read p.gathers.took) in
           subst P from (gathered_passed (g.met.O.Reading.each c.args.output.now) new used p (subst S i.same passes));
@@ -51,13 +51,13 @@ loop-rest-preserved-in-Some g c =
 pub returns-in-Err-clause-text : goal.returns-in-Err-clause-text
 returns-in-Err-clause-text g c entries bytes h t =
     let i = c.loop-rest.invariant in
-    let r = c.pass.new.reader in
+    let r = c.take_raw.new.reader in
     let rest : List ℕ = c.loop-rest.rest.now in
     let kept = when_none c.in_ok-used.field-0 (none_else c.in_ok-used.field-0 c.in_default.not-Some) c.in_ok-used.ensures.kept in
     let f : Feeds r.stand r.taken rest (Err c.in-Err.fault) c.feed.new.reader = c.in-Err.ensures.fed in
     let p = by_both (λ x o. GatheredTo (g.O.Reading.form c.args.output.now).text (g.O.Reading.took o) (g.O.Reading.gathered c.args.output.now)
     (g.O.Reading.gathered o) entries bytes c.args.piece.now rest x) kept.0 kept.1 (i.text entries bytes h t) in
-    gathered_fault (g.O.Reading.took c.pass.new.self) c.feed.new.reader c.in-Err.fault p f (λ es t. t)
+    gathered_fault (g.O.Reading.took c.take_raw.new.self) c.feed.new.reader c.in-Err.fault p f (λ es t. t)
 
 pub take-requires-clause-body : goal.take-requires-clause-body
 take-requires-clause-body g c = c.as_slice.ensures ∙ given_body c.in-Ok.fed c.in-Some-entry.entry c.in-Some-entry.is c.in-Ok.ensures.body
@@ -65,7 +65,7 @@ take-requires-clause-body g c = c.as_slice.ensures ∙ given_body c.in-Ok.fed c.
 pub loop-rest-preserved : goal.loop-rest-preserved
 loop-rest-preserved g c =
     let i = c.loop-rest.invariant in
-    let r = c.pass.new.reader in
+    let r = c.take_raw.new.reader in
     let rest : List ℕ = c.loop-rest.rest.now in
     let fed = c.in-Ok.fed in
     let t = c.in-Some-entry.entry in
@@ -87,8 +87,8 @@ loop-rest-preserved g c =
           let P : List ℕ → Type 0 = λ x. GatheredTo (g.O.Reading.form c.args.output.now).text (g.O.Reading.took c.take.new.self) (g.O.Reading.gathered c.args.output.now)
           (g.O.Reading.gathered c.take.new.self) entries bytes c.args.piece.now x new in
           let read = c.in-Ok.ensures.history es (bytes ++ p.done) p.gathers.read in
-          let A : Form → Type 0 = λ form. g.O.Reading.gathered c.take.new.self ≡ g.O.Reading.gathered c.pass.new.self ++ form.text es (t ∷ []) in
-          let took = takes_none (g.O.Reading.form c.pass.new.self).text g.O.Reading.rules.rejects (g.O.Reading.took c.take.new.self) (g.O.Reading.gathered c.pass.new.self)
+          let A : Form → Type 0 = λ form. g.O.Reading.gathered c.take.new.self ≡ g.O.Reading.gathered c.take_raw.new.self ++ form.text es (t ∷ []) in
+          let took = takes_none (g.O.Reading.form c.take_raw.new.self).text g.O.Reading.rules.rejects (g.O.Reading.took c.take.new.self) (g.O.Reading.gathered c.take_raw.new.self)
           (g.O.Reading.gathered c.take.new.self) es t c.in_ok-refusal.field-0
           (none_else c.in_ok-refusal.field-0 c.in_default-2.not-Some) (c.in_ok-refusal.ensures.took es (few_read new fed t p read c.in-Some-entry.is small) p.gathers.took) in
           subst P from (gathered_some (g.met.O.Reading.each c.args.output.now) new fed t p read c.in-Some-entry.is took.0 (subst A (c.in_ok-used.ensures.same ∙ i.same) took.1));
@@ -98,7 +98,7 @@ loop-rest-preserved g c =
 pub returns-in_default-entry-clause-text : goal.returns-in_default-entry-clause-text
 returns-in_default-entry-clause-text g c entries bytes h t0 =
     let i = c.loop-rest.invariant in
-    let r = c.pass.new.reader in
+    let r = c.take_raw.new.reader in
     let rest : List ℕ = c.loop-rest.rest.now in
     let fed = c.in-Ok.fed in
     let new = c.feed.new.reader in
@@ -112,7 +112,7 @@ returns-in_default-entry-clause-text g c entries bytes h t0 =
 pub returns-in-Some-2-clause-text : goal.returns-in-Some-2-clause-text
 returns-in-Some-2-clause-text g c entries bytes h t0 =
     let i = c.loop-rest.invariant in
-    let r = c.pass.new.reader in
+    let r = c.take_raw.new.reader in
     let rest : List ℕ = c.loop-rest.rest.now in
     let fed = c.in-Ok.fed in
     let t = c.in-Some-entry.entry in
@@ -125,10 +125,10 @@ returns-in-Some-2-clause-text g c entries bytes h t0 =
     (g.O.Reading.gathered o) entries bytes c.args.piece.now rest x) kept.0 kept.1 (i.text entries bytes h t0) in
     let es : List Timed = entries ++ p.gathers.more in
     let read = c.in-Ok.ensures.history es (bytes ++ p.done) p.gathers.read in
-    let took = takes_some (g.O.Reading.form c.pass.new.self).text g.O.Reading.rules.rejects (g.O.Reading.took c.take.new.self) (g.O.Reading.gathered c.pass.new.self)
+    let took = takes_some (g.O.Reading.form c.take_raw.new.self).text g.O.Reading.rules.rejects (g.O.Reading.took c.take.new.self) (g.O.Reading.gathered c.take_raw.new.self)
     (g.O.Reading.gathered c.take.new.self) es t c.in_ok-refusal.field-0 c.in-Some-2.refusal c.in-Some-2.is
     (c.in_ok-refusal.ensures.took es (few_read new fed t p read c.in-Some-entry.is small) p.gathers.took) in
-    gathered_last g.O.Reading.rules new fed t c.in-Some-2.refusal p f read c.in-Some-entry.is (g.met.O.Reading.accepted c.pass.new.self) took.0 took.1
+    gathered_last g.O.Reading.rules new fed t c.in-Some-2.refusal p f read c.in-Some-entry.is (g.met.O.Reading.accepted c.take_raw.new.self) took.0 took.1
 
 pub returns-clause-text : goal.returns-clause-text
 returns-clause-text g c entries bytes h t = gathered_all (c.loop-rest.invariant.text entries bytes h t) (search rules)

@@ -3,7 +3,7 @@ use Rattle.std.proofs.lemmas.List.{take_all, length-drop}
 use Rattle.std.proofs.lemmas.Result.{on_ok_weaker}
 use Rattle.fw_log_text.specs.Line.{id_text}
 use Rattle.fw_log_text.specs.Resets.{head_text}
-use Rattle.fw_log_text.proofs.ResetLaws.{long, ids_behind, head_is}
+use Rattle.fw_log_text.proofs.ResetLaws.{long, ids_after, head_is}
 use Rattle.fw_log_text.proofs.resets.put_reset_bytes.Goals as goal
 
 pub slice_bounds-put_ids-count : goal.slice_bounds-put_ids-count
@@ -27,4 +27,4 @@ returns c r f s =
     on_ok_weaker c.put_ids.result
     (λ e. e ∙ ap (λ (t : List ℕ). t ++ ids) c.in_ok-put_head.ensures ∙ append_assoc c.args.text.now (head_text c.head_of-head.result) ids
     ∙ ap (λ (x : List ℕ). c.args.text.now ++ x) (head_is r c.head_of-head.result head))
-    (c.put_ids.ensures r.ids (all ∙ ids_behind r c.args.bytes.now c.head_of-head.result.count s head.count))
+    (c.put_ids.ensures r.ids (all ∙ ids_after r c.args.bytes.now c.head_of-head.result.count s head.count))

@@ -5,7 +5,7 @@ use Rattle.fw_log_entry.specs.declared.entry.Entry.{Entry}
 use Rattle.fw_log_entry.specs.declared.entry.Entry.TheVariants.{Iso}
 use Rattle.fw_log.specs.Passing.{HasBody}
 use Rattle.fw_log.specs.declared.plain.PlainBody.{PlainBody}
-use Rattle.fw_log_explain.specs.Explained.{Room}
+use Rattle.fw_log_explain.specs.Explained.{ExplainerState}
 use Rattle.fw_log_explain.specs.Lines.{line}
 use Rattle.fw_log_requests.specs.Requests.{standing_after}
 use Rattle.fw_log_words.proofs.explanation.put_body.Goals as goal
@@ -20,7 +20,7 @@ pub returns-in-Reset-clause-line : goal.returns-in-Reset-clause-line
 returns-in-Reset-clause-line c e m =
     let P : PlainBody → Type 0 = λ b. HasBody b e in
     let made = subst P c.in-Reset.is m in
-    let old : Room = c.args.explainer.now in
+    let old : ExplainerState = c.args.explainer.now in
     on_ok_weaker c.put_reset.result (λ l. l ∙ ap (λ (w : Entry). old.text ++ line old.requests (record { cycle = c.args.cycle; what = w })) (sym made.1))
     (c.put_reset.ensures.line made.0 made.2 (made.3 ∙ sym c.as_slice-in-Reset.ensures))
 
@@ -28,7 +28,7 @@ pub returns-in-Reset-clause-requests : goal.returns-in-Reset-clause-requests
 returns-in-Reset-clause-requests c e m =
     let P : PlainBody → Type 0 = λ b. HasBody b e in
     let made = subst P c.in-Reset.is m in
-    let old : Room = c.args.explainer.now in
+    let old : ExplainerState = c.args.explainer.now in
     on_ok_weaker c.put_reset.result (λ l. l ∙ ap (λ (w : Entry). standing_after w old.requests) (sym made.1)) c.put_reset.ensures.requests
 
 pub put_packet_from-requires : goal.put_packet_from-requires
@@ -43,7 +43,7 @@ returns-in-Packet-clause-line c e m =
     let P : PlainBody → Type 0 = λ b. HasBody b e in
     let made = subst P c.in-Packet.is m in
     let S : List ℕ → Type 0 = Spells made.0 in
-    let old : Room = c.args.explainer.now in
+    let old : ExplainerState = c.args.explainer.now in
     on_ok_weaker c.put_packet_from.result (λ l. l ∙ ap (λ (w : Entry). old.text ++ line old.requests (record { cycle = c.args.cycle; what = w })) (sym made.1))
     (c.put_packet_from.ensures.line made.0 (subst S (sym c.as_slice.ensures) made.2))
 
@@ -52,7 +52,7 @@ returns-in-Packet-clause-requests c e m =
     let P : PlainBody → Type 0 = λ b. HasBody b e in
     let made = subst P c.in-Packet.is m in
     let S : List ℕ → Type 0 = Spells made.0 in
-    let old : Room = c.args.explainer.now in
+    let old : ExplainerState = c.args.explainer.now in
     on_ok_weaker c.put_packet_from.result (λ l. l ∙ ap (λ (w : Entry). standing_after w old.requests) (sym made.1))
     (c.put_packet_from.ensures.requests made.0 (subst S (sym c.as_slice.ensures) made.2))
 
@@ -67,7 +67,7 @@ returns-in-Iso-clause-line c e m =
     let P : PlainBody → Type 0 = λ b. HasBody b e in
     let made = subst P c.in-Iso.is m in
     let is = made.1 ∙ ap Iso (sym (c.whole_iso.ensures.same made.0 made.2 (made.3 ∙ sym c.as_slice-in-Iso.ensures))) in
-    let old : Room = c.args.explainer.now in
+    let old : ExplainerState = c.args.explainer.now in
     on_ok_weaker c.put_iso_from.result (λ l. l ∙ ap (λ (w : Entry). old.text ++ line old.requests (record { cycle = c.args.cycle; what = w })) (sym is))
     c.put_iso_from.ensures.line
 
@@ -75,5 +75,5 @@ pub returns-in-Iso-clause-requests : goal.returns-in-Iso-clause-requests
 returns-in-Iso-clause-requests c e m =
     let P : PlainBody → Type 0 = λ b. HasBody b e in
     let made = subst P c.in-Iso.is m in
-    let old : Room = c.args.explainer.now in
+    let old : ExplainerState = c.args.explainer.now in
     on_ok_weaker c.put_iso_from.result (λ l. l ∙ ap (λ (w : Entry). standing_after w old.requests) (sym made.1)) c.put_iso_from.ensures.requests

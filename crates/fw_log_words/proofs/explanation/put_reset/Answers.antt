@@ -4,7 +4,7 @@ use Rattle.fw_log_entry.specs.Log.{ResetFits, body}
 use Rattle.fw_log_entry.specs.declared.entry.Entry.TheVariants.{Reset}
 use Rattle.fw_log_entry.specs.declared.entry.ResetEntry.{ResetEntry}
 use Rattle.fw_log_text.proofs.ResetLaws.{long}
-use Rattle.fw_log_explain.specs.Explained.{Room}
+use Rattle.fw_log_explain.specs.Explained.{ExplainerState}
 use Rattle.fw_log_explain.specs.Lines.{line}
 use Rattle.fw_log_words.proofs.LatestLaws.{again_is, later_is}
 use Rattle.fw_log_words.proofs.explanation.put_reset.Goals as goal
@@ -26,13 +26,13 @@ pub returns-then-is_told-clause-line : goal.returns-then-is_told-clause-line
 returns-then-is_told-clause-line c r f s =
     let again = c.in_ok-is_told.ensures.line c.if-is_told.true in
     let is = again_is again.0 r c.args.bytes.now _ _ again.1 f s again.2 (later_is c.args.bytes.now) c.quadlet_at-epoch.ensures.value in
-    let old : Room = c.args.explainer.now in
+    let old : ExplainerState = c.args.explainer.now in
     again.3 ∙ ap (λ (e : ResetEntry). old.text ++ line old.requests (record { cycle = c.args.cycle; what = Reset e })) is
 
 pub returns-clause-line : goal.returns-clause-line
 returns-clause-line c r f s =
     let same = c.in_ok-is_told.ensures.other c.if-is_told.false in
-    let t : ResetEntry → Room → List ℕ = λ n (o : Room). o.text ++ line o.requests (record { cycle = c.args.cycle; what = Reset n }) in
+    let t : ResetEntry → ExplainerState → List ℕ = λ n (o : ExplainerState). o.text ++ line o.requests (record { cycle = c.args.cycle; what = Reset n }) in
     on_ok_weaker c.put_reset_from.result
     (λ e. e ∙ ap (t c.make_reset.result.now) same ∙ ap (λ (n : ResetEntry). t n c.args.explainer.now) (c.make_reset.ensures r f s))
     c.put_reset_from.ensures.line

@@ -53,7 +53,8 @@ loop-port-preserved-in-Some c =
     }
 
 child_at : (c : In-None) → field_of c.args.ids.now c.args.node (c.loop-port.port - 1) ≡ 3
-child_at c = child_of c.fields_of-fields.result c.args.ids.now c.args.node c.loop-port.port c.from.result c.loop-port-test.true c.loop-port.auto.port c.from.ensures c.fields_of-fields.ensures c.if-fields-from-eq-CHILD.true
+child_at c = child_of c.fields_of-fields.result c.args.ids.now c.args.node c.loop-port.port c.from.result c.loop-port-test.true c.loop-port.auto.port c.from.ensures c.fields_of-fields.ensures
+    c.if-fields-from-eq-CHILD.true
 
 pub returns-in-None-clause-missing : goal.returns-in-None-clause-missing
 returns-in-None-clause-missing c =

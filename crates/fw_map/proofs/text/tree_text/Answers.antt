@@ -13,10 +13,10 @@ loop-node-preserved c = c.in_ok-put_node.ensures ∙ (ap (λ (x : List ℕ). x +
 pub loop-node-2-init : goal.loop-node-2-init
 loop-node-2-init c =
     let all : c.loop-node.node ≡ c.args.tree.now.count = omega (arith, c.loop-node.auto.node-end, c.loop-node-test.false) in
-    let front : string_bytes c.loop-node.text ≡ node_lines c.args.tree.now c.args.tree.now.count = c.loop-node.invariant ∙ ap (node_lines c.args.tree.now) all in (
+    let prefix : string_bytes c.loop-node.text ≡ node_lines c.args.tree.now c.args.tree.now.count = c.loop-node.invariant ∙ ap (node_lines c.args.tree.now) all in (
       [],
       no_row,
-      c.in_ok-write.ensures.bytes ∙ (ap (λ (x : List ℕ). x ++ (codes "speeds" ++ 10 ∷ [])) front
+      c.in_ok-write.ensures.bytes ∙ (ap (λ (x : List ℕ). x ++ (codes "speeds" ++ 10 ∷ [])) prefix
           ∙ sym (append-nil (node_lines c.args.tree.now c.args.tree.now.count ++ (codes "speeds" ++ 10 ∷ [])))),
     )
 

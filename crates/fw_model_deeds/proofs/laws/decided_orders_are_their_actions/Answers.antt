@@ -1,4 +1,5 @@
-use Rattle.fw_model_deeds.proofs.Decided.{actions_are_decided, decided_is_carried}
+use Rattle.fw_model_run.proofs.Decided.{actions_are_decided}
+use Rattle.fw_model_deeds.proofs.Decided.{decided_is_carried}
 use Rattle.fw_model_deeds.proofs.laws.decided_orders_are_their_actions.Goals as goal
 
 pub returns : goal.returns

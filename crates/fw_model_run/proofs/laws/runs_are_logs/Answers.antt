@@ -1,4 +1,4 @@
-use Rattle.fw_model_run.proofs.Logs.{run_opens, run_spells, cut_opens, opens_front}
+use Rattle.fw_model_run.proofs.Logs.{run_opens, run_spells, cut_opens, opens_prefix}
 use Rattle.fw_model_run.proofs.laws.runs_are_logs.Goals as goal
 
 pub returns-clause-opens : goal.returns-clause-opens
@@ -11,4 +11,4 @@ pub returns-clause-cut : goal.returns-clause-cut
 returns-clause-cut c = cut_opens
 
 pub returns-clause-fronts : goal.returns-clause-fronts
-returns-clause-fronts c = opens_front
+returns-clause-fronts c = opens_prefix

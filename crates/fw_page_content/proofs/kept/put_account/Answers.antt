@@ -1,5 +1,5 @@
 use Rattle.fw_page_content.proofs.Common.{ap, refl, ◌∙◌, on_ok_weaker}
-use Rattle.fw_page_marks.proofs.TextLaws.{behind as two}
+use Rattle.fw_page_marks.proofs.TextLaws.{following as two}
 use Rattle.fw_page_content.specs.Kept.{account_text, flows, kept_text, orphans_text}
 use Rattle.fw_page_content.proofs.LedgerLaws.{by_ledger, by_none}
 use Rattle.fw_page_content.proofs.TextLaws.{put_as}

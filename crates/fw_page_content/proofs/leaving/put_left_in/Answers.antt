@@ -1,5 +1,5 @@
 use Rattle.fw_page_content.proofs.Common.{◌≡◌, ap, ◌∙◌, arith, on_ok_weaker}
-use Rattle.fw_page_marks.proofs.TextLaws.{behind as two}
+use Rattle.fw_page_marks.proofs.TextLaws.{following as two}
 use Rattle.fw_page_strip.proofs.LaneLaws.{begun, stepped}
 use Rattle.fw_page_content.specs.Leaving.{left_at, left_units, left_below, units_left, units_text}
 use Rattle.fw_page_content.proofs.LoopLaws.{no_left, more_left}

@@ -1,7 +1,7 @@
 use Rattle.std.proofs.Common.{codes}
 use Rattle.std.proofs.lemmas.Result.{on_ok_weaker}
 use Rattle.fw_log_names.specs.Texts.{hex}
-use Rattle.fw_log_registers.specs.declared.told.Told.TheVariants.{Word}
+use Rattle.fw_log_registers.specs.declared.told.RegisterValue.TheVariants.{Word}
 use Rattle.fw_log_registers.specs.Words.{told_text}
 use Rattle.fw_page_phrases.specs.Asks.{wrapped, code_word}
 use Rattle.fw_page_marks.proofs.TextLaws.{four}

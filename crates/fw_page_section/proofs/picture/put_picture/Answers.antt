@@ -1,11 +1,11 @@
 use Rattle.fw_page_section.proofs.Common.{◌++◌, codes, decimal, length, on_ok_weaker, subject_of, option_copied}
-use Rattle.fw_page_section.specs.Parts.{picture_front}
+use Rattle.fw_page_section.specs.Parts.{picture_prefix}
 use Rattle.fw_page_section.specs.Pictures.{height, stems_below, cables, nodes_below}
 use Rattle.fw_page_section.proofs.ChainLaws.{seven}
 use Rattle.fw_page_section.proofs.picture.put_picture.Goals as goal
 
 pub returns : goal.returns
-unfolding picture_front
+unfolding picture_prefix
 returns c =
     on_ok_weaker c.put_word-3.result (λ e. seven _ _ _ _ _ _ _ _ (codes "<div class=\"t\" style=\"height:" ++ decimal (height (option_copied c.args.tree))) (codes
     "px\"><svg class=\"f\" role=\"img\"><title>the tree of the bus</title><path class=\"g\" d=\"") (stems_below (subject_of c.args.section.now) (option_copied c.args.tree) (length

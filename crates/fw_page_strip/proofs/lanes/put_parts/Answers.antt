@@ -8,8 +8,9 @@ loop-channel-init c = λ m h e. bars_none m c.args.class c.args.before c.args.sh
 
 pub loop-channel-preserved : goal.loop-channel-preserved
 loop-channel-preserved c = λ m h e.
-    bars_more m c.args.class c.loop-channel.channel c.loop-channel.behind c.amount.result _ c.args.shapes.now.items c.loop-channel.shapes.items _ h.sound (omega arith) (c.loop-channel.invariant m h e)
-    (c.amount.ensures m h) c.in_ok-behind.ensures.text c.in_ok-behind.ensures.count
+    bars_more m c.args.class c.loop-channel.channel c.loop-channel.following c.amount.result _ c.args.shapes.now.items c.loop-channel.shapes.items _ h.sound (omega arith)
+    (c.loop-channel.invariant m h e)
+    (c.amount.ensures m h) c.in_ok-following.ensures.text c.in_ok-following.ensures.count
 
 pub returns : goal.returns
 returns c = λ m h e.

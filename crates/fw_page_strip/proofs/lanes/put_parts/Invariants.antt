@@ -6,4 +6,4 @@ use Rattle.fw_page_strip.proofs.LaneLaws.{BarsTo}
 use Rattle.fw_page_strip.proofs.lanes.put_parts.Given as goal
 
 abbrev pub invariant-loop-channel : goal.invariant-loop-channel
-invariant-loop-channel l = (m : Account) → StandsFor l.ledger m → l.before ≡ units_before m l.class → BarsTo m l.class l.channel l.behind l.fn.shapes.items l.shapes.items
+invariant-loop-channel l = (m : Account) → StandsFor l.ledger m → l.before ≡ units_before m l.class → BarsTo m l.class l.channel l.following l.fn.shapes.items l.shapes.items

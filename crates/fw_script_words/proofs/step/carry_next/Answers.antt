@@ -58,7 +58,7 @@ returns-in-Err-Refused-clause-goes g c left held after i =
 pub returns-in-Err-WriteFault-clause-goes : goal.returns-in-Err-WriteFault-clause-goes
 returns-in-Err-WriteFault-clause-goes g c left held after i =
     let d = rw c.in-Err-WriteFault.field-0-is at (c.in-Err-WriteFault.ensures.run i.commands i.actions i.log i.state i.run i.stands) in (
-      log_bytes (epoch_of i.state.account.latest) d.cut.given ++ d.cut.front,
+      log_bytes (epoch_of i.state.account.latest) d.cut.given ++ d.cut.prefix,
       d.cut.appended,
       λ after2 h. stopped (g.S.Source.left c.next.new.source) after2 c.next.new.self c.apply.new.self c.in-Ok-Some.command i
           (rw c.in-Ok-Some.field-0-is at c.in-Ok-Some.ensures.gives) (stops_there after after2 d h),

@@ -1,5 +1,5 @@
 use Rattle.std.proofs.Common.{◌≢◌}
-use Rattle.fw_script.specs.declared.stage.Stage.TheVariants.{Failed}
+use Rattle.fw_script.specs.declared.stage.ReaderStage.TheVariants.{Failed}
 use Rattle.fw_tests_scripts.proofs.scripts.run.Given as goal
 
 -- no fault was answered

@@ -1,5 +1,5 @@
 use Rattle.fw_trace.proofs.Common.{◌≡◌, ◌+◌, length, arith}
-use Rattle.fw_trace.proofs.TellingLaws.{told_on, told_front}
+use Rattle.fw_trace.proofs.TellingLaws.{told_on, told_prefix}
 use Rattle.fw_trace.proofs.telling.tell.Goals as goal
 
 pub returns-in-Ok-pass_much-clause-tells : goal.returns-in-Ok-pass_much-clause-tells
@@ -12,5 +12,5 @@ returns-in-Ok-pass_much-clause-tells g c = λ origin earlier bytes some x.
 pub returns-in-Err-clause-tells : goal.returns-in-Err-clause-tells
 returns-in-Err-clause-tells g c = λ origin earlier bytes some x.
     let part = c.in-Ok.ensures.takes _ _ x.read in
-    told_front origin c.args.tracer.now c.take_entries.new.tracer c.pass_much.new.tracer c.args.reader.now c.take_entries.new.reader c.args.count.now earlier bytes
+    told_prefix origin c.args.tracer.now c.take_entries.new.tracer c.pass_much.new.tracer c.args.reader.now c.take_entries.new.reader c.args.count.now earlier bytes
     c.args.passed.now.given.bytes c.pass_much.new.passed.given.bytes c.args.piece.now x part c.pass_much.ensures.given

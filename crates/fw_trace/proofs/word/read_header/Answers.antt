@@ -47,8 +47,8 @@ returns-in-Err-clause-begins g c =
     let base : Base = (c.args.telling.now.inner.ghost_name, (g.K.Sink.held old.passed.start.value, (g.K.Sink.faults old.passed.start.value, (old.origin.value, old.earlier.value.bytes)))) in
     let base' : Base = (sink.inner.ghost_name, (g.K.Sink.held new.passed.start.value, (g.K.Sink.faults new.passed.start.value, (new.origin.value, new.earlier.value.bytes)))) in
     let x = c.in-Err.ensures.bytes in
-    let grown = framed_grown base base' old.history.bytes new.history.bytes x.front x.appended in
-    let bytes : new.history.bytes ≡ x.front = grown.1 ∙ ap (λ (l : List ℕ). l ++ x.front) c.requires.history in
+    let grown = framed_grown base base' old.history.bytes new.history.bytes x.prefix x.appended in
+    let bytes : new.history.bytes ≡ x.prefix = grown.1 ∙ ap (λ (l : List ℕ). l ++ x.prefix) c.requires.history in
     header_stops new.origin.value new.tracer new.reader new.count new.earlier.value.bytes new.history.bytes x.rest new.passed.given.bytes new.lack new.passed.failed
     (g.K.Sink.held c.args.telling.now.inner.now) (g.K.Sink.held sink.inner.now) (g.K.Sink.held new.passed.start.value) (g.K.Sink.faults new.passed.start.value) (g.K.Sink.faults sink.inner.now)
     c.ending_of.result (ap (λ (q : Base). q.1.1.1.0) grown.0 ∙ c.requires.origin) (ap (λ (q : Base). q.1.1.1.1) grown.0 ∙ c.requires.earlier)
@@ -63,7 +63,7 @@ returns-in-Err-clause-reference g c =
     let base : Base = (c.args.telling.now.inner.ghost_name, (g.K.Sink.held old.passed.start.value, (g.K.Sink.faults old.passed.start.value, (old.origin.value, old.earlier.value.bytes)))) in
     let base' : Base = (sink.inner.ghost_name, (g.K.Sink.held new.passed.start.value, (g.K.Sink.faults new.passed.start.value, (new.origin.value, new.earlier.value.bytes)))) in
     let x = c.in-Err.ensures.bytes in
-    ap (λ (q : Base). q.0) (framed_grown base base' old.history.bytes new.history.bytes x.front x.appended).0
+    ap (λ (q : Base). q.0) (framed_grown base base' old.history.bytes new.history.bytes x.prefix x.appended).0
 
 pub returns-in-Err-clause-writes : goal.returns-in-Err-clause-writes
 returns-in-Err-clause-writes g c =
@@ -73,7 +73,7 @@ returns-in-Err-clause-writes g c =
     let base : Base = (c.args.telling.now.inner.ghost_name, (g.K.Sink.held old.passed.start.value, (g.K.Sink.faults old.passed.start.value, (old.origin.value, old.earlier.value.bytes)))) in
     let base' : Base = (sink.inner.ghost_name, (g.K.Sink.held new.passed.start.value, (g.K.Sink.faults new.passed.start.value, (new.origin.value, new.earlier.value.bytes)))) in
     let x = c.in-Err.ensures.bytes in
-    let same = (framed_grown base base' old.history.bytes new.history.bytes x.front x.appended).0 in
+    let same = (framed_grown base base' old.history.bytes new.history.bytes x.prefix x.appended).0 in
     rw c.ending_of.ensures
     (fault_writes new.lack new.passed.failed (g.K.Sink.held new.passed.start.value) (g.K.Sink.held sink.inner.now) (g.K.Sink.faults c.args.telling.now.inner.now)
     (g.K.Sink.faults new.passed.start.value)

@@ -10,7 +10,8 @@ pub loop-now-preserved : goal.loop-now-preserved
 loop-now-preserved c =
     let e = c.leave.ensures in
     record {
-      gone = gone_more c.args.g.now c.loop-now.round c.loop-now.now.stays c.leave.new.now.stays c.loop-now.parents c.leave.new.parents c.requires.range c.loop-now.invariant.gone e.after e.notes e.others (e.fewer c.loop-now-test.true);
+      gone = gone_more c.args.g.now c.loop-now.round c.loop-now.now.stays c.leave.new.now.stays c.loop-now.parents c.leave.new.parents c.requires.range c.loop-now.invariant.gone e.after e.notes
+          e.others (e.fewer c.loop-now-test.true);
       due = e.due;
     }
 

@@ -1,7 +1,7 @@
 use Rattle.fw_async.proofs.Common.{◌≡◌, ◌-◌, ◌++◌, ℕ, List, [], length, take, drop, None, arith, refl, ap, sym, subst, ◌∙◌, length-append, fault_of, IsPending, State}
 use Rattle.fw_async.specs.Reader.{EndsPacket}
 use Rattle.fw_async.proofs.FeedLaws.{same_state}
-use Rattle.fw_async.proofs.FrontLaws.{front_first}
+use Rattle.fw_async.proofs.PrefixLaws.{prefix_first}
 use Rattle.fw_async.proofs.JoinLaws.{is_joined, kept_all, kept_part, kept_packet, kept_fault, shown_whole, reads_part_at, reads_packet_at, holds_by, none_lost, has_room}
 use Rattle.fw_async.proofs.pieces.PacketReader.feed_fresh.Goals as goal
 
@@ -131,4 +131,4 @@ pub invariant_of-self-in-Some : goal.invariant_of-self-in-Some
 invariant_of-self-in-Some c =
     let clear : c.self.inside.fault ≡ None = ap (λ (s : State). s.fault) c.self.view_is ∙ c.requires.fresh in
     let P : List ℕ → Type 0 = IsPending in
-    holds_by c.clear.new.self c.self.inside.fault clear (subst P (sym c.clear.ensures) (front_first []))
+    holds_by c.clear.new.self c.self.inside.fault clear (subst P (sym c.clear.ensures) (prefix_first []))

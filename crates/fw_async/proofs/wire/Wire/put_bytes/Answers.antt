@@ -1,6 +1,6 @@
 use Rattle.fw_async.proofs.Common.{◌≢◌, ℕ, ◌++◌, [], ◌∷◌, List, take, arith, sym, ◌∙◌, ap, subst, IsKept, bytes_from}
 use Rattle.fw_async.proofs.ExactLaws.{whole_from_spells}
-use Rattle.fw_async.proofs.NeedLaws.{need_least}
+use Rattle.fw_async_fields.proofs.NeedLaws.{need_least}
 use Rattle.fw_async.proofs.WireLaws.{is_absent, room, put_kept, put_pairs}
 use Rattle.fw_async.proofs.wire.Wire.put_bytes.Goals as goal
 

@@ -6,7 +6,7 @@ use Rattle.fw_devices.specs.Network.{is_node, node_at}
 use Rattle.fw_model_run.specs.State.{State}
 use Rattle.fw_model_run.specs.Good.{IsGood}
 use Rattle.fw_bus_state.specs.declared.machine.Machine.{Machine}
-use Rattle.fw_bus.specs.Buses.{Standing, LendsNode}
+use Rattle.fw_bus.specs.Buses.{BusView, LendsNode}
 use Rattle.fw_bus_state.specs.Lingering.{HasLingering}
 use Rattle.fw_bus_state.specs.Reels.{HasHearers}
 use Rattle.fw_bus_state.specs.Stands.{HasNodes, StandsFor, seen}
@@ -23,6 +23,6 @@ pub returns : goal.returns
 returns c = record {
   lent = λ commands actions log s run st.
       let P : Machine → Type 0 = λ m. StandsFor m s in
-      let here : StandsFor c.self.inside.machine s = subst P (ap (λ (b : Standing). b.machine) (sym c.self.view_is)) st in
+      let here : StandsFor c.self.inside.machine s = subst P (ap (λ (b : BusView). b.machine) (sym c.self.view_is)) st in
       lent_of s c.self.inside.machine.devices.nodes c.args.device c.node.result (run_good run) here.devices.nodes here.devices.lingering here.devices.hearers c.node.ensures.none c.node.ensures.some;
 }

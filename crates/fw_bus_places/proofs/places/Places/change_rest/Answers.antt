@@ -34,7 +34,8 @@ good c n place =
     let numbers = c.told_apart-numbers in
     let r = c.rest_at-rest.result.now in
     let of = rest_of p words n place numbers.result.rest r numbers.ensures.rest c.rest_at-rest.ensures in
-    given_back p words n place r c.args.m.now c.lend.new.m c.change_frame.new.self c.set_flags.new.self c.wind_from.new.reel c.lay_from.new.wire c.lay_from-2.new.wire numbers.result.half_steps of c.lend.ensures
+    given_back p words n place r c.args.m.now c.lend.new.m c.change_frame.new.self c.set_flags.new.self c.wind_from.new.reel c.lay_from.new.wire c.lay_from-2.new.wire numbers.result.half_steps of
+    c.lend.ensures
     (c.change_frame.ensures n.devices (subst (λ (f : NetworkFrame). IsOf f c.as_slice.result.now numbers.result.nodes.now n.devices) (sym c.deref.ensures)
     (devices_of p words n place r c.as_slice.result.now numbers.result.nodes.now of c.as_slice.ensures numbers.ensures.nodes)))
     (c.set_flags.ensures ∙ (ap (λ (t : ControllerTable). record t { flags = r.dead }) c.change.ensures

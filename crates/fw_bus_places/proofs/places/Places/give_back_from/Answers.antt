@@ -29,7 +29,8 @@ good c n place =
     let words = c.args.words.now in
     let numbers = c.told_apart-numbers in
     let same = sym c.told_apart-from.ensures.rest ∙ (c.if-from-numbers.false ∙ numbers.ensures.rest) in
-    changed p now words c.args.m.now n c.requires.stands place same c.change.new.self c.change-2.new.self c.as_slice-2.result.now numbers.result.controllers.now c.wind_from.new.reel c.lay_from.new.wire
+    changed p now words c.args.m.now n c.requires.stands place same c.change.new.self c.change-2.new.self c.as_slice-2.result.now numbers.result.controllers.now c.wind_from.new.reel
+    c.lay_from.new.wire
     c.lay_from-2.new.wire numbers.result.half_steps
     (c.change.ensures n.devices (devices_are p now words c.args.m.now n c.requires.stands place same
     c.as_slice.result.now numbers.result.nodes.now c.as_slice.ensures numbers.ensures.nodes))

@@ -6,16 +6,16 @@ use Rattle.fw_bus_places.proofs.places.Places.keep.Goals as goal
 use Rattle.fw_bus_places.proofs.places.Places.keep.Goals.{After-keep_all_guessed}
 
 -- the numbers that stand before those of the nodes
-abbrev front : After-keep_all_guessed → List ℕ
-front c = c.in_ok-rest.rest ∷ c.in_ok-reel.reel ∷ c.in_ok-wire.wire ∷ c.in_ok-bids.bids ∷ c.args.m.now.half_steps ∷ c.from.result ∷ []
+abbrev prefix : After-keep_all_guessed → List ℕ
+prefix c = c.in_ok-rest.rest ∷ c.in_ok-reel.reel ∷ c.in_ok-wire.wire ∷ c.in_ok-bids.bids ∷ c.args.m.now.half_steps ∷ c.from.result ∷ []
 
-fronted : (c : After-keep_all_guessed) → c.extend_from_slice.new.self.items ≡ front c
-fronted c = c.in_ok-extend_from_slice.ensures.items ∙ ap (λ l. l ++ front c) c.clear.ensures.items
+fronted : (c : After-keep_all_guessed) → c.extend_from_slice.new.self.items ≡ prefix c
+fronted c = c.in_ok-extend_from_slice.ensures.items ∙ ap (λ l. l ++ prefix c) c.clear.ensures.items
 
 nodes_kept : (c : After-keep_all_guessed) → KeepsAll IsItself c.args.self.now.nodes c.keep_all_guessed.new.kept c.nodes.result.now c.extend_from_slice.new.self.items c.keep_all_guessed.new.out.items
-    → KeepsAll IsItself c.args.self.now.nodes c.keep_all_guessed.new.kept c.args.m.now.devices.nodes (front c) c.keep_all_guessed.new.out.items
+    → KeepsAll IsItself c.args.self.now.nodes c.keep_all_guessed.new.kept c.args.m.now.devices.nodes (prefix c) c.keep_all_guessed.new.out.items
 nodes_kept c kept =
-    let P : List NodeState → Type 0 = λ l. KeepsAll IsItself c.args.self.now.nodes c.keep_all_guessed.new.kept l (front c) c.keep_all_guessed.new.out.items in
+    let P : List NodeState → Type 0 = λ l. KeepsAll IsItself c.args.self.now.nodes c.keep_all_guessed.new.kept l (prefix c) c.keep_all_guessed.new.out.items in
     let Q : List ℕ → Type 0 = λ l. KeepsAll IsItself c.args.self.now.nodes c.keep_all_guessed.new.kept c.nodes.result.now l c.keep_all_guessed.new.out.items in
     subst P c.nodes.ensures (subst Q (fronted c) kept)
 

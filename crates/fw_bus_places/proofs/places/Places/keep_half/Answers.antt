@@ -11,14 +11,14 @@ keep_controllers-requires-clause-others c = λ d other.
     c.told_apart-from.result.controllers.now c.told_apart-from.ensures.controllers d other
 
 -- the numbers that stand before those of the nodes
-abbrev front : After-keep_nodes → List ℕ
-front c = c.in_ok-rest.rest ∷ c.told_apart-from.result.reel ∷ c.in_ok-wire.wire ∷ c.told_apart-from.result.bids ∷ c.args.m.now.half_steps ∷ c.from-count.result ∷ []
+abbrev prefix : After-keep_nodes → List ℕ
+prefix c = c.in_ok-rest.rest ∷ c.told_apart-from.result.reel ∷ c.in_ok-wire.wire ∷ c.told_apart-from.result.bids ∷ c.args.m.now.half_steps ∷ c.from-count.result ∷ []
 
 nodes_kept : (c : After-keep_nodes) → KeepsAll IsItself c.args.self.now.nodes c.keep_nodes.new.nodes c.args.m.now.devices.nodes c.extend_from_slice.new.self.items c.keep_nodes.new.out.items
-    → KeepsAll IsItself c.args.self.now.nodes c.keep_nodes.new.nodes c.args.m.now.devices.nodes (front c) c.keep_nodes.new.out.items
+    → KeepsAll IsItself c.args.self.now.nodes c.keep_nodes.new.nodes c.args.m.now.devices.nodes (prefix c) c.keep_nodes.new.out.items
 nodes_kept c kept =
     let Q : List ℕ → Type 0 = λ l. KeepsAll IsItself c.args.self.now.nodes c.keep_nodes.new.nodes c.args.m.now.devices.nodes l c.keep_nodes.new.out.items in
-    subst Q (c.in_ok-extend_from_slice.ensures.items ∙ ap (λ (l : List ℕ). l ++ front c) c.clear.ensures.items) kept
+    subst Q (c.in_ok-extend_from_slice.ensures.items ∙ ap (λ (l : List ℕ). l ++ prefix c) c.clear.ensures.items) kept
 
 pub returns-clause-place : goal.returns-clause-place
 returns-clause-place c =

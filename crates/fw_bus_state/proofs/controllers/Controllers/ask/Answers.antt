@@ -1,7 +1,7 @@
 use Rattle.fw_bus_state.proofs.Common.{◌≡◌, ℕ, Bool, true, false, cond, refl, ap, ◌∙◌, Listening, next}
 use Rattle.fw_cmp.specs.Losses.{after_turn, asked_by}
 use Rattle.fw_cmp.specs.Turns.{after_next}
-use Rattle.fw_cmp.specs.declared.directory.Directory.{Directory}
+use Rattle.fw_cmp_jobs.specs.declared.directory.Directory.{Directory}
 use Rattle.fw_bus_state.proofs.Tables.{table_set}
 use Rattle.fw_bus_state.proofs.Touched.{same_losses, touched}
 use Rattle.fw_bus_state.proofs.controllers.Controllers.ask.Goals as goal

@@ -2,7 +2,7 @@ use Rattle.fw_bus_state.proofs.Common.{◌≡◌, ◌<◌, ℕ, List, Bool, true
 use Rattle.fw_bus_state.proofs.Common.{sym, subst, ap, ◌∙◌, IsTrue, IsFalse, Listening, first_listening, next, IsAtRest, count_of}
 use Rattle.fw_cmp.specs.Losses.{after_turn, asked_by}
 use Rattle.fw_cmp.specs.Turns.{after_next}
-use Rattle.fw_cmp.specs.declared.directory.Directory.{Directory}
+use Rattle.fw_cmp_jobs.specs.declared.directory.Directory.{Directory}
 use Rattle.fw_cmp.proofs.Resting.{rest_same}
 use Rattle.fw_bus_state.proofs.Tables.{hearing_put, marked_put, table_set, unmarked}
 use Rattle.fw_bus_state.proofs.controllers.Controllers.next.Goals as goal
@@ -44,7 +44,9 @@ invariant_of-self c =
     let within : c.args.device < length items = omega (arith, size, c.requires.device) in
     let few = c.self.invariant.0.few in (
       search rules,
-      marked_put (λ (x : Listening). IsAtRest x.state) c.self.inside.calm items c.args.device c.from.result c.from-2.result c.is_idle.result c.next-next.new.self c.self.invariant.1 within few c.from.ensures c.from-2.ensures (rests c),
+      marked_put
+          (λ (x : Listening). IsAtRest x.state) c.self.inside.calm items c.args.device c.from.result c.from-2.result c.is_idle.result c.next-next.new.self c.self.invariant.1 within few
+          c.from.ensures c.from-2.ensures (rests c),
       marked_put
           (λ x. x ≡ first_listening) c.self.inside.fresh items c.args.device c.from.result c.from-3.result false c.next-next.new.self c.self.invariant.2 within few c.from.ensures c.from-3.ensures
           (unmarked _),

@@ -4,7 +4,8 @@ use Rattle.fw_bus_state.proofs.controllers.Controllers.start.Goals as goal
 
 pub returns : goal.returns
 returns c =
-    renewed c.self.inside c.args.self.now c.args.device c.from.result c.from-2.result false c.new.result c.self.view_is c.requires c.self.invariant.0 c.from.ensures c.from-2.ensures c.new.ensures.state
+    renewed c.self.inside c.args.self.now c.args.device c.from.result c.from-2.result false c.new.result c.self.view_is c.requires c.self.invariant.0 c.from.ensures c.from-2.ensures
+    c.new.ensures.state
 
 pub invariant_of-self : goal.invariant_of-self
 invariant_of-self c =

@@ -1,7 +1,7 @@
 use Rattle.fw_bus_state.proofs.Common.{◌≡◌, ◌<◌, ◌≤◌, ◌∙◌, ap, length, map, slice_set, sym, subst, take, arith, List, ℕ, passed, Network, node_at, count_at, counted_on}
 use Rattle.fw_bus_state.specs.Streaming.{AreStillFrom, counted_for}
 use Rattle.fw_bus_state.proofs.Counts.{counted_more, counted_size}
-use Rattle.fw_bus_state.proofs.Moving.{behind_at, behind_may, behind_size, moved_more}
+use Rattle.fw_bus_state.proofs.Moving.{following_at, after_may, after_size, moved_more}
 use Rattle.fw_bus_state.proofs.Still.{still_after, still_counts, still_devices}
 use Rattle.fw_bus_state.proofs.streams.Streams.pass_to.Goals as goal
 
@@ -9,7 +9,7 @@ pub counted-requires-clause-declared : goal.counted-requires-clause-declared
 counted-requires-clause-declared c =
     let d = c.loop-device.device in
     let nodes = c.args.devices.now.nodes in
-    let size = ap (λ (n : Network). length n.nodes) c.loop-device.invariant.tapes ∙ behind_size (passed c.args.cycles) nodes d in
+    let size = ap (λ (n : Network). length n.nodes) c.loop-device.invariant.tapes ∙ after_size (passed c.args.cycles) nodes d in
     let test = c.loop-device-test.true in
     let few = c.requires.still.few in
     omega (arith, test, few, size)
@@ -19,7 +19,7 @@ counted-requires-clause-tape c =
     let d = c.loop-device.device in
     let nodes = c.args.devices.now.nodes in
     let low : d < length nodes = let test = c.loop-device-test.true in let few = c.requires.still.few in omega (arith, test, few) in
-    behind_may c.args.cycles nodes d c.args.devices.now c.loop-device.devices c.loop-device.invariant.tapes low (c.requires.tapes d low)
+    after_may c.args.cycles nodes d c.args.devices.now c.loop-device.devices c.loop-device.invariant.tapes low (c.requires.tapes d low)
 
 pub loop-device-preserved : goal.loop-device-preserved
 loop-device-preserved c =
@@ -31,7 +31,7 @@ loop-device-preserved c =
     let low : d < length nodes = let test = c.loop-device-test.true in let few = c.requires.still.few in omega (arith, test, few) in
     let few : length nodes ≤ length c.self.inside.counts = let most = c.requires.room in let size = c.self.told in omega (arith, most, size) in
     let here : node_at now.nodes d ≡ node_at nodes d =
-    ap (λ (n : Network). node_at n.nodes d) c.loop-device.invariant.tapes ∙ behind_at (passed c.args.cycles) nodes d low in
+    ap (λ (n : Network). node_at n.nodes d) c.loop-device.invariant.tapes ∙ following_at (passed c.args.cycles) nodes d low in
     let value : c.counted.result ≡ counted_for c.args.cycles (node_at nodes d) (count_at counts d) =
     c.counted.ensures.count ∙ (λ i. counted_for c.args.cycles (here i) (count_at counts (c.from.ensures i))) in
     record {

@@ -1,5 +1,5 @@
 use Rattle.fw_cmp.proofs.Common.{arith, ◌≡◌, sym, ◌∙◌, ap, subst, Current, Asking, ControllerState, slot_at, CurrentFits, RunsFitting, SlotHasJobs}
-use Rattle.fw_cmp.proofs.Restoring.{none_set}
+use Rattle.fw_cmp_jobs.proofs.Restoring.{none_set}
 use Rattle.fw_cmp.specs.Turns.{slot_after}
 use Rattle.fw_cmp.proofs.Ended.{ended_fits}
 use Rattle.fw_cmp.proofs.agenda.Agenda.end.Goals as goal

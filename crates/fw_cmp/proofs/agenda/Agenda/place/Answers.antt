@@ -4,7 +4,7 @@ use Rattle.fw_cmp.specs.Refusals.{TakesSlot}
 use Rattle.fw_cmp.specs.Starts.{start}
 use Rattle.fw_cmp.proofs.Fitting.{start_fits}
 use Rattle.fw_cmp.proofs.GoingOn.{start_goes_on}
-use Rattle.fw_cmp.proofs.Restoring.{making_rests, none_set}
+use Rattle.fw_cmp_jobs.proofs.Restoring.{making_rests, none_set}
 use Rattle.fw_cmp.proofs.Starting.{taken_slot}
 use Rattle.fw_cmp.proofs.agenda.Agenda.place.Goals as goal
 

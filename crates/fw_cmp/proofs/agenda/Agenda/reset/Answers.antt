@@ -1,4 +1,4 @@
-use Rattle.fw_cmp.proofs.Common.{false≢true, ◌≡◌, List, [], refl, sym, ◌∙◌, ap, subst, Slot, Current, Task, CanGoOn, ControllerState, CurrentFits, current_reset, after_reset}
+use Rattle.fw_cmp.proofs.Common.{false≢true, ◌≡◌, List, [], refl, sym, ◌∙◌, ap, subst, Slot, Current, WaitingJob, CanGoOn, ControllerState, CurrentFits, current_reset, after_reset}
 use Rattle.fw_cmp.proofs.GoingOn.{reset_goes_on}
 use Rattle.fw_cmp.proofs.Fitting.{current_slots}
 use Rattle.fw_cmp.proofs.Ready.{with_slots}
@@ -19,7 +19,7 @@ is : (c : goal.After-reset) → after c ≡ after_reset c.args.epoch (before c)
 is c =
     let old : List Slot = c.self.inside.slots in
     let r : ControllerState = current_reset c.args.epoch (before c) (before c).current in
-    let ts : List Task = (before c).waiting in
+    let ts : List WaitingJob = (before c).waiting in
     let slots : c.overtake-current.new.slots ≡ r.slots = subst (λ (x : Current). c.overtake-current.new.slots
     ≡ (current_reset c.args.epoch (record { slots = old; waiting = ts; current = x }) x).slots) (at c) (c.overtake-current.ensures.slots ts) in
     let current : c.overtake-current.result ≡ r.current = subst (λ (x : Current). c.overtake-current.result

@@ -1,4 +1,4 @@
-use Rattle.fw_cmp.proofs.Common.{false≢true, ◌≡◌, List, [], refl, sym, ◌∙◌, ap, subst, Slot, Current, Task, CanGoOn, ControllerState, CurrentFits, lost_reset}
+use Rattle.fw_cmp.proofs.Common.{false≢true, ◌≡◌, List, [], refl, sym, ◌∙◌, ap, subst, Slot, Current, WaitingJob, CanGoOn, ControllerState, CurrentFits, lost_reset}
 use Rattle.fw_cmp.proofs.GoingOn.{lost_reset_goes_on}
 use Rattle.fw_cmp.specs.Resets.{after_lost_reset}
 use Rattle.fw_cmp.proofs.Fitting.{current_slots}
@@ -20,7 +20,7 @@ is : (c : goal.After-reset) → after c ≡ after_lost_reset c.args.epoch (befor
 is c =
     let old : List Slot = c.self.inside.slots in
     let r : ControllerState = lost_reset c.args.epoch (before c) (before c).current in
-    let ts : List Task = (before c).waiting in
+    let ts : List WaitingJob = (before c).waiting in
     let slots : c.overtake_unheard-current.new.slots ≡ r.slots =
     subst (λ (x : Current). c.overtake_unheard-current.new.slots ≡ (lost_reset c.args.epoch (record { slots = old; waiting = ts; current = x }) x).slots) (at c)
     (c.overtake_unheard-current.ensures.slots ts) in

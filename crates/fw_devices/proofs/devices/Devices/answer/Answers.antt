@@ -8,8 +8,8 @@ pub invariant_of-self : goal.invariant_of-self
 invariant_of-self c =
     let low : c.from.result < length c.self.inside.nodes.items = search rules in
     let P : NodeState → Type 0 = IsSameDevice c.index_mut.result.now in
-    let same = same_set c.self.inside.nodes.items c.from.result c.index_mut.result.now c.carry_out.new.self low c.index_mut.ensures.value
-    (subst P (sym c.carry_out.ensures.registers) (same_after (request_in c.args.packet.now) c.index_mut.result.now)) in
+    let same = same_set c.self.inside.nodes.items c.from.result c.index_mut.result.now c.answer_packet.new.self low c.index_mut.ensures.value
+    (subst P (sym c.answer_packet.ensures.registers) (same_after (request_in c.args.packet.now) c.index_mut.result.now)) in
     record {
       network = network_kept _ _ c.self.invariant.network refl refl refl same;
       few = c.self.invariant.few;

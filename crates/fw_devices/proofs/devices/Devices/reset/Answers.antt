@@ -28,7 +28,8 @@ invariant_of-self c =
     let b = c.begin.new.self in
     let N : Network → Type 0 = λ n. IsOnBus n.topology.cables c.args.initiator in
     let on = subst N (sym c.self.view_is) c.requires.on in
-    let w = left_of old c.args.initiator c.find.new.bus b c.deref.result.now c.deref_mut.result.now nodes on c.deref.ensures.value c.deref_mut.ensures.value c.find.ensures.found c.find.ensures.epoch c.begin.ensures c.reset_nodes.ensures.size c.reset_nodes.ensures.nodes in
+    let w = left_of old c.args.initiator c.find.new.bus b c.deref.result.now c.deref_mut.result.now nodes on c.deref.ensures.value c.deref_mut.ensures.value c.find.ensures.found
+    c.find.ensures.epoch c.begin.ensures c.reset_nodes.ensures.size c.reset_nodes.ensures.nodes in
     let same = same_devices old c.args.initiator b.numbering b.manager nodes b.entry w.steps in
     let written : (with_items c.self.inside.nodes nodes).items ≡ nodes = with_items_is c.self.inside.nodes nodes (let size = same.size in let long = c.self.inside.nodes.ok.0 in omega arith) in
     rw written (record {
@@ -54,7 +55,8 @@ returns c =
     let b = c.begin.new.self in
     let N : Network → Type 0 = λ n. IsOnBus n.topology.cables c.args.initiator in
     let on = subst N (sym c.self.view_is) c.requires.on in
-    let w = left_of old c.args.initiator c.find.new.bus b c.deref.result.now c.deref_mut.result.now nodes on c.deref.ensures.value c.deref_mut.ensures.value c.find.ensures.found c.find.ensures.epoch c.begin.ensures c.reset_nodes.ensures.size c.reset_nodes.ensures.nodes in
+    let w = left_of old c.args.initiator c.find.new.bus b c.deref.result.now c.deref_mut.result.now nodes on c.deref.ensures.value c.deref_mut.ensures.value c.find.ensures.found
+    c.find.ensures.epoch c.begin.ensures c.reset_nodes.ensures.size c.reset_nodes.ensures.nodes in
     let written : (with_items c.self.inside.nodes nodes).items ≡ nodes = with_items_is c.self.inside.nodes nodes (let same = w.steps.same in let long = c.self.inside.nodes.ok.0 in omega arith) in
     let few : c.self.inside.bus.entry.epoch + 1 < 2 ^ 32 = search rules in
     let P : List NodeState → Type 0 = λ items. IsReset old (record {

@@ -28,7 +28,8 @@ returns-clause-walks g c = λ script n d only m.
     let cut = c.in_ok-cut.cut in
     let same : v.here.items ≡ w.here.items = cc (c.is_cut.ensures.here) in
     let row : Row = record { ending = f.ending; ended = c.counted.result; cut = c.counted-2.result; first = c.in_ok-first.first; lines = f.lines } in
-    ends_so g.P.Keeper.Kept D script c.args.explored.now only n c.args.place d w.pasts v.pasts z.pasts w.kept.places v.kept.places z.kept.places w.here.items v.here.items self.levels self.rows c.requires.place
+    ends_so g.P.Keeper.Kept D script c.args.explored.now only n c.args.place d w.pasts v.pasts z.pasts w.kept.places v.kept.places z.kept.places w.here.items v.here.items self.levels self.rows
+    c.requires.place
     c.requires.here m
     c.is_cut.ensures.pasts c.is_cut.ensures.places same c.finish.ensures.pasts c.finish.ensures.places cut (λ s l. c.in_ok-cut.ensures.cut script s only l) row (λ s l. c.in_ok-finish.ensures.finished
     script s l)

@@ -4,7 +4,7 @@ use Rattle.fw_bus.specs.Buses.{IsCommand}
 use Rattle.fw_explore_meaning.specs.Moves.{commands_of}
 use Rattle.fw_explore_told.specs.Sayings.{said_all, unmarked_from}
 use Rattle.fw_explore_meaning.proofs.EndingLaws.{finished}
-use Rattle.fw_explore.proofs.BehindForms.{carried_from}
+use Rattle.fw_explore.proofs.AfterForms.{carried_from}
 use Rattle.fw_explore.proofs.Numbers.{had_led, kept_at, kept_led, machine_kept, two_numbers}
 use Rattle.fw_explore.proofs.step.Walker.finish.Given as given
 use Rattle.fw_explore.proofs.step.Walker.finish.Goals as goal
@@ -29,13 +29,13 @@ returns-clause-finished g c script w l =
     let here = c.args.self.now.here.items in
     let stands = c.in_ok-give_back.ensures.stands l.machine l.leads.state (kept_at Kept here c.deref.result.now c.deref.ensures.value l.machine
     (kept_led D script x pasts Kept w here l)) l.leads.stands in
-    let behind = c.in_ok-carry_behind.ensures.carried script (commands_of x w) l.leads.out l.leads.state l.leads.behind stands in
+    let following = c.in_ok-carry_after.ensures.carried script (commands_of x w) l.leads.out l.leads.state l.leads.following stands in
     let same = c.in_ok-past.ensures ∙ c.past.ensures l.past (had_led D script x pasts Kept w here l) in
-    let from = carried_from D script (commands_of x w) c.as_slice-behind.result.now x.behind.items l.past c.in_ok-past.past c.carry_behind.new.past c.new-refused.result.items
-    c.carry_behind.new.refused.items
-    c.new-lines.result.items c.carry_behind.new.lines.items c.as_slice-behind.ensures.value same c.new-refused.ensures.items c.new-lines.ensures.items behind in
-    finished D script x l.half l.past c.carry_behind.new.past l.machine w l.leads c.carry_behind.new.refused.items c.carry_behind.new.lines.items from c.in_ok-ending.ending.items
-    (c.in_ok-ending.ensures ∙ ap (λ (z : List ℕ). said_all c.carry_behind.new.past.said ++ unmarked_from c.carry_behind.new.past.done 0 x.movers.items ++ z) c.as_slice.ensures.value)
+    let from = carried_from D script (commands_of x w) c.as_slice-following.result.now x.following.items l.past c.in_ok-past.past c.carry_after.new.past c.new-refused.result.items
+    c.carry_after.new.refused.items
+    c.new-lines.result.items c.carry_after.new.lines.items c.as_slice-following.ensures.value same c.new-refused.ensures.items c.new-lines.ensures.items following in
+    finished D script x l.half l.past c.carry_after.new.past l.machine w l.leads c.carry_after.new.refused.items c.carry_after.new.lines.items from c.in_ok-ending.ending.items
+    (c.in_ok-ending.ensures ∙ ap (λ (z : List ℕ). said_all c.carry_after.new.past.said ++ unmarked_from c.carry_after.new.past.done 0 x.movers.items ++ z) c.as_slice.ensures.value)
 
-pub carry_behind-requires-clause-behind : goal.carry_behind-requires-clause-behind
-carry_behind-requires-clause-behind g c = subst (All (λ (l : Line). IsCommand l.command)) (sym c.as_slice-behind.ensures.value) c.requires.explored.behind
+pub carry_after-requires-clause-following : goal.carry_after-requires-clause-following
+carry_after-requires-clause-following g c = subst (All (λ (l : Line). IsCommand l.command)) (sym c.as_slice-following.ensures.value) c.requires.explored.following

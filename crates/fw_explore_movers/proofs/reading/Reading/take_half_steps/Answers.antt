@@ -7,7 +7,7 @@ use Rattle.fw_explore_movers.proofs.reading.Reading.take_half_steps.Goals as goa
 pub returns : goal.returns
 returns c = λ word other no_then e.
     let m : Mover = record { line = c.args.line; command = c.in-Ok.command; kind = HalfSteps; word = c.args.number } in
-    let old : Read = record { most = c.self.inside.most; movers = c.self.inside.movers.items; behind = c.self.inside.behind.items; follows = c.self.inside.follows } in
+    let old : Read = record { most = c.self.inside.most; movers = c.self.inside.movers.items; following = c.self.inside.following.items; follows = c.self.inside.follows } in
     let h = c.in-Ok.ensures in
     let same = c.as_slice.ensures.value in
     subst (Reads c.args.number word c.args.self.now)

@@ -12,3 +12,6 @@ invariant_of-self c =
 pub returns-clause-taken : goal.returns-clause-taken
 returns-clause-taken c = λ yes l r h fits manager nodes.
     c.take_bus.ensures.taken yes l r (subst (λ (t : Tables). StandsFor t l) (sym c.self.view_is) h) fits manager nodes
+
+pub returns-clause-exactly : goal.returns-clause-exactly
+returns-clause-exactly c = λ l h. c.take_bus.ensures.exactly l (subst (λ (t : Tables). StandsFor t l) (sym c.self.view_is) h)

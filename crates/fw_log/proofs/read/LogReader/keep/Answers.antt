@@ -30,8 +30,8 @@ overflow_add-place c =
     let start : c.start.result ≡ c.args.self.now.stand.start = c.start.ensures ∙ ap (λ (r : State). r.stand.start) c.self.view_is in
     omega (arith, start, e.past, e.ends.within, c.requires.room)
 
-pub behind-self-inside-requires : goal.behind-self-inside-requires
-behind-self-inside-requires c =
+pub position_after-self-inside-requires : goal.position_after-self-inside-requires
+position_after-self-inside-requires c =
     let e = kept_entry c.args.self.now.stand c.args.self.now.taken c.args.piece.now c.in-Ok-Some.found c.requires.pending
     (found_as _ _ _ _ _ (Some c.in-Ok-Some.found) c.in-Ok-Some.is c.in-Ok-Some.field-0-is c.requires.found) in
     omega (arith, e.some)
@@ -72,7 +72,7 @@ returns-in-Ok-Some-clause-fed c =
       (
         subst P (sym same) e.ends,
         same_state _ _ c.clear.new.self [] c.self.inside.fault None
-            (c.behind-self-inside.ensures ∙ same_stand (c.start.result + c.in-Ok-Some.found.end)
+            (c.position_after-self-inside.ensures ∙ same_stand (c.start.result + c.in-Ok-Some.found.end)
             (c.args.self.now.stand.start + length (c.args.self.now.taken ++ take (c.in-Ok-Some.found.end - length c.as_slice.result.now) c.args.piece.now))
             c.in-Ok-Some.found.entry.cycle _ _ c.in-Ok-Some.found.version
             (version_at c.args.self.now.stand (c.args.self.now.taken ++ take (c.in-Ok-Some.found.end - length c.as_slice.result.now) c.args.piece.now))

@@ -1,6 +1,6 @@
 use Rattle.std.proofs.Common.{◌++◌, ◌∙◌, ap}
 use Rattle.fw_log_entry.specs.declared.entry.Entry.TheVariants.{Reset}
-use Rattle.fw_log_explain.specs.Explained.{Room}
+use Rattle.fw_log_explain.specs.Explained.{ExplainerState}
 use Rattle.fw_log_explain.specs.Lines.{line}
 use Rattle.fw_log_explain.proofs.LatestLaws.{told_again}
 use Rattle.fw_log_explainer.proofs.explainer.Explainer.put_reset_again.Goals as goal
@@ -12,5 +12,5 @@ returns-in-Ok-clause-line c t =
       x.1,
       x.2,
       told_again _ _ _ c.args.cycle c.args.epoch c.args.self.now.requests x.0 x.3 c.in-Ok.ensures
-          ∙ ap (λ (s : Room). s.text ++ line c.args.self.now.requests (record { cycle = c.args.cycle; what = Reset (record x.0 { epoch = c.args.epoch }) })) c.self.view_is,
+          ∙ ap (λ (s : ExplainerState). s.text ++ line c.args.self.now.requests (record { cycle = c.args.cycle; what = Reset (record x.0 { epoch = c.args.epoch }) })) c.self.view_is,
     )

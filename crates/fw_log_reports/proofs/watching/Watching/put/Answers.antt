@@ -24,13 +24,13 @@ returns-in-Packet-clause-lines c e m before w =
     let L : Entry → Type 0 = λ x. OnOk c.put_packet.result (c.put_packet.new.self.told.text ≡ c.args.self.now.watch.told.text ++ watched before (at_cycle c.args.cycle x ∷ [])) in
     subst L (sym made.1) (c.put_packet.ensures.lines made.0 (subst S (sym c.as_slice.ensures) made.2) before w)
 
-pub returns-in-Packet-clause-behind : goal.returns-in-Packet-clause-behind
-returns-in-Packet-clause-behind c e m before w =
+pub returns-in-Packet-clause-following : goal.returns-in-Packet-clause-following
+returns-in-Packet-clause-following c e m before w =
     let P : PlainBody → Type 0 = λ b. HasBody b e in
     let made = subst P c.in-Packet.is m in
     let S : List ℕ → Type 0 = Spells made.0 in
     let L : Entry → Type 0 = λ x. OnOk c.put_packet.result (Watches c.put_packet.new.self (before ++ at_cycle c.args.cycle x ∷ [])) in
-    subst L (sym made.1) (c.put_packet.ensures.behind made.0 (subst S (sym c.as_slice.ensures) made.2) before w)
+    subst L (sym made.1) (c.put_packet.ensures.following made.0 (subst S (sym c.as_slice.ensures) made.2) before w)
 
 pub whole_iso-requires : goal.whole_iso-requires
 whole_iso-requires c =
@@ -46,13 +46,13 @@ returns-in-Iso-clause-lines c e m before w =
     let L : Entry → Type 0 = λ x. OnOk c.put_iso.result (c.put_iso.new.self.told.text ≡ c.args.self.now.watch.told.text ++ watched before (at_cycle c.args.cycle x ∷ [])) in
     subst L (sym is) (c.put_iso.ensures.lines before w)
 
-pub returns-in-Iso-clause-behind : goal.returns-in-Iso-clause-behind
-returns-in-Iso-clause-behind c e m before w =
+pub returns-in-Iso-clause-following : goal.returns-in-Iso-clause-following
+returns-in-Iso-clause-following c e m before w =
     let P : PlainBody → Type 0 = λ b. HasBody b e in
     let made = subst P c.in-Iso.is m in
     let is : e ≡ Iso c.whole_iso.result = made.1 ∙ ap Iso (sym (c.whole_iso.ensures.same made.0 made.2 (made.3 ∙ sym c.as_slice-in-Iso.ensures))) in
     let L : Entry → Type 0 = λ x. OnOk c.put_iso.result (Watches c.put_iso.new.self (before ++ at_cycle c.args.cycle x ∷ [])) in
-    subst L (sym is) (c.put_iso.ensures.behind before w)
+    subst L (sym is) (c.put_iso.ensures.following before w)
 
 pub read_whole_bus-requires : goal.read_whole_bus-requires
 read_whole_bus-requires c =
@@ -69,11 +69,11 @@ returns-in-Reset-clause-lines c e m before w =
     let L : Entry → Type 0 = λ x. OnOk c.put_reset.result (c.put_reset.new.self.told.text ≡ c.args.self.now.watch.told.text ++ watched before (at_cycle c.args.cycle x ∷ [])) in
     subst L (sym made.1) (c.put_reset.ensures.lines made.0 bus before w)
 
-pub returns-in-Reset-clause-behind : goal.returns-in-Reset-clause-behind
-returns-in-Reset-clause-behind c e m before w =
+pub returns-in-Reset-clause-following : goal.returns-in-Reset-clause-following
+returns-in-Reset-clause-following c e m before w =
     let P : PlainBody → Type 0 = λ b. HasBody b e in
     let made = subst P c.in-Reset.is m in
     let B : ResetEntry → Type 0 = IsBusOf made.0 in
     let bus = subst B (sym c.deref.ensures) (c.read_whole_bus.ensures.bus made.0 made.2 (made.3 ∙ sym c.as_slice-in-Reset.ensures)) in
     let L : Entry → Type 0 = λ x. OnOk c.put_reset.result (Watches c.put_reset.new.self (before ++ at_cycle c.args.cycle x ∷ [])) in
-    subst L (sym made.1) (c.put_reset.ensures.behind made.0 bus before w)
+    subst L (sym made.1) (c.put_reset.ensures.following made.0 bus before w)

@@ -7,6 +7,7 @@ pub loop-n-preserved : goal.loop-n-preserved
 loop-n-preserved c = record {
   rows = length-set c.loop-n.rows c.loop-n.n _ ∙ c.loop-n.invariant.rows;
   sizes = length-set c.loop-n.sizes c.loop-n.n _ ∙ c.loop-n.invariant.sizes;
-  table = numbers_more c.loop-n.n c.row_of-size.result.1 c.loop-n.rows c.loop-n.sizes c.row_of-size.result.0 c.loop-n-test.true c.loop-n.invariant.rows c.loop-n.invariant.sizes c.loop-n.invariant.table
+  table = numbers_more c.loop-n.n c.row_of-size.result.1 c.loop-n.rows c.loop-n.sizes c.row_of-size.result.0 c.loop-n-test.true c.loop-n.invariant.rows c.loop-n.invariant.sizes
+      c.loop-n.invariant.table
       (record { within = c.row_of-size.ensures.within; digits = c.row_of-size.ensures.digits });
 }

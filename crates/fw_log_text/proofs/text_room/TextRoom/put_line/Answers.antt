@@ -4,7 +4,7 @@ use Rattle.std.proofs.lemmas.Grind.{take-set_at}
 use Rattle.std.proofs.lemmas.List.{with_items_is}
 use Rattle.std.specs.Vec.{with_items}
 use Rattle.fw_log_text.specs.Line.{quadlets_text}
-use Rattle.fw_log_text.proofs.JoinLaws.{line_behind}
+use Rattle.fw_log_text.proofs.JoinLaws.{line_after}
 use Rattle.fw_log_text.proofs.text_room.TextRoom.put_line.Goals as goal
 
 pub returns : goal.returns
@@ -23,12 +23,12 @@ returns c =
     let same-3 = with_items_is (with_items (with_items room c.write_row-at.new.out) c.write_row-at-2.new.out) out long-3 in
     let before : take c.self.inside.filled c.deref_mut.result.now ≡ text =
     ap (take c.self.inside.filled) c.deref_mut.ensures.value ∙ c.in_ok-make_room.ensures.same ∙ c.self.view_is in
-    let front : take first c.deref_mut-2.result.now ≡ text ++ c.args.front =
-    ap (take first) same ∙ c.write_row-at.ensures.text ∙ ap (λ (t : List ℕ). t ++ c.args.front) before in
-    let word : take second c.deref_mut-3.result.now ≡ (text ++ c.args.front) ++ c.args.word =
-    ap (take second) same-2 ∙ c.write_row-at-2.ensures.text ∙ ap (λ (t : List ℕ). t ++ c.args.word) front in
-    let all : take third out ≡ ((text ++ c.args.front) ++ c.args.word) ++ quadlets_text c.args.bytes.now =
+    let prefix : take first c.deref_mut-2.result.now ≡ text ++ c.args.prefix =
+    ap (take first) same ∙ c.write_row-at.ensures.text ∙ ap (λ (t : List ℕ). t ++ c.args.prefix) before in
+    let word : take second c.deref_mut-3.result.now ≡ (text ++ c.args.prefix) ++ c.args.word =
+    ap (take second) same-2 ∙ c.write_row-at-2.ensures.text ∙ ap (λ (t : List ℕ). t ++ c.args.word) prefix in
+    let all : take third out ≡ ((text ++ c.args.prefix) ++ c.args.word) ++ quadlets_text c.args.bytes.now =
     c.write_quadlets-at.ensures.text ∙ ap (λ (t : List ℕ). t ++ quadlets_text c.args.bytes.now) word in
     let there : third < length out = omega (arith, ap length c.deref_mut.ensures.value, c.in_ok-make_room.ensures.room) in
     ap (λ (xs : List ℕ). take (third + 1) (set xs third 10)) same-3 ∙ take-set_at out third (third + 1) 10 refl there
-    ∙ ap (λ (t : List ℕ). t ++ 10 ∷ []) all ∙ line_behind text c.args.front c.args.word (quadlets_text c.args.bytes.now)
+    ∙ ap (λ (t : List ℕ). t ++ 10 ∷ []) all ∙ line_after text c.args.prefix c.args.word (quadlets_text c.args.bytes.now)

@@ -34,7 +34,8 @@ loop-a-preserved-then-a-b c =
       b = c.loop-a.invariant.b;
       at_a = w.right;
       at_b = omega (arith, w.left, c.loop-a.invariant.at_b);
-      walk = λ nodes k. first_up c.args.self.now c.requires.tree nodes c.loop-a.a c.loop-a.b d c.loop-a.least c.min-least-then-a-b.result c.if-a-b.true c.parent_of-a.ensures.parent c.loop-a.invariant.at_a w.which w.left (c.loop-a.invariant.walk nodes k);
+      walk = λ nodes k. first_up c.args.self.now c.requires.tree nodes c.loop-a.a c.loop-a.b d c.loop-a.least c.min-least-then-a-b.result c.if-a-b.true c.parent_of-a.ensures.parent
+          c.loop-a.invariant.at_a w.which w.left (c.loop-a.invariant.walk nodes k);
     }
 
 pub loop-a-preserved : goal.loop-a-preserved
@@ -48,7 +49,8 @@ loop-a-preserved c =
       b = c.parent_of-b.ensures.low;
       at_a = omega (arith, w.left, c.loop-a.invariant.at_a);
       at_b = w.right;
-      walk = λ nodes k. second_up c.args.self.now c.requires.tree nodes c.loop-a.a c.loop-a.b d c.loop-a.least c.min-least-else-a-b.result less c.parent_of-b.ensures.parent c.loop-a.invariant.at_b w.which w.left (c.loop-a.invariant.walk nodes k);
+      walk = λ nodes k. second_up c.args.self.now c.requires.tree nodes c.loop-a.a c.loop-a.b d c.loop-a.least c.min-least-else-a-b.result less c.parent_of-b.ensures.parent c.loop-a.invariant.at_b
+          w.which w.left (c.loop-a.invariant.walk nodes k);
     }
 
 pub returns-clause-walk : goal.returns-clause-walk

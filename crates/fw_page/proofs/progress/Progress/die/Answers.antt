@@ -9,4 +9,4 @@ returns-in_default c = λ st h. died_alone st c.args.self.now _ c.args.device _ 
 
 pub returns : goal.returns
 returns c = λ st h. died_known st c.args.self.now _ c.args.device _ c.in-Some.node refl c.die.ensures c.node.ensures.node c.in-Some.is (c.give_up.ensures
-    ∙ ap (map (given_up (first_id + c.in-Some.node))) c.deref_mut.ensures.value) h
+    ∙ ap (map (given_up (first_id + c.in-Some.node))) c.deref_mut.ensures.value) c.forget.ensures h

@@ -1,4 +1,4 @@
-use Rattle.fw_page.proofs.Common.{◌≡◌, [], ◌++◌, on_ok_weaker, plain_front}
+use Rattle.fw_page.proofs.Common.{◌≡◌, [], ◌++◌, on_ok_weaker, plain_prefix}
 use Rattle.fw_page.specs.Rows.{gap_class}
 use Rattle.fw_page.proofs.PlainLaws.{gap_none, gap_said}
 use Rattle.fw_page.proofs.progress.Progress.put_passed.Goals as goal
@@ -8,6 +8,6 @@ returns-then-passed-lt2 c = λ st h. gap_none c.args.passed st _ c.if-passed-lt2
 
 pub returns : goal.returns
 returns c = λ st h.
-    let first : c.open_plain.new.text.items ≡ c.args.text.now.items ++ plain_front [] (gap_class c.args.passed) st = let a = c.in_ok-open_plain.ensures st h in let b = c.gap_class.ensures in cc in
+    let first : c.open_plain.new.text.items ≡ c.args.text.now.items ++ plain_prefix [] (gap_class c.args.passed) st = let a = c.in_ok-open_plain.ensures st h in let b = c.gap_class.ensures in cc in
     on_ok_weaker c.close_plain.result (λ e. gap_said c.args.passed st _ _ _ _ _ _ c.if-passed-lt2.false first c.in_ok-put_number.ensures c.in_ok-put_word.ensures c.in_ok-put_millis.ensures e)
     (c.close_plain.ensures st h)

@@ -1,4 +1,4 @@
-use Rattle.fw_page.proofs.Common.{◌≡◌, ◌++◌, [], codes, ap, sym, on_ok_weaker, three, State, becomes, then_do, plain_front}
+use Rattle.fw_page.proofs.Common.{◌≡◌, ◌++◌, [], codes, ap, sym, on_ok_weaker, three, State, becomes, then_do, plain_prefix}
 use Rattle.fw_page_phrases.specs.Notes.{break_text}
 use Rattle.fw_page_section.proofs.ChainLaws.{two}
 use Rattle.fw_page.specs.State.{says}
@@ -17,7 +17,7 @@ returns c =
     on_ok_weaker c.close_plain.result (λ d. moves_as (λ st. then_do (before st) note) (why c.args.reason) _ _ _ _ (λ st h. ap (λ r. why r st) (sym c.in-Some.is))
     (moves_more before note _ _ _ _ _ _ c.in_ok-put_before.ensures
     (λ s k. (
-      three _ _ _ _ (plain_front [] (codes "nt") s) (codes "The log ends here: " ++ break_text b) (plain_back s) (c.in_ok-open_plain.ensures s k) (two _ _ _ (codes "The log ends here: ")
+      three _ _ _ _ (plain_prefix [] (codes "nt") s) (codes "The log ends here: " ++ break_text b) (plain_back s) (c.in_ok-open_plain.ensures s k) (two _ _ _ (codes "The log ends here: ")
           (break_text b) c.in_ok-put_word.ensures c.in_ok-put_break.ensures)
           (d s k),
       k,

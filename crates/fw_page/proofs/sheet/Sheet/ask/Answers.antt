@@ -3,7 +3,7 @@ use Rattle.fw_log_entry.specs.Log.{body}
 use Rattle.fw_log_entry.specs.declared.entry.Entry.TheVariants.{Async}
 use Rattle.fw_page_phrases.specs.Standing.{with_request}
 use Rattle.fw_page.proofs.StepLaws.{moves_silent}
-use Rattle.fw_page.proofs.FrameLaws.{standing_shown, asked_shown}
+use Rattle.fw_page.proofs.FrameLaws.{asked_shown}
 use Rattle.fw_page.proofs.sheet.Sheet.ask.Goals as goal
 
 pub returns : goal.returns
@@ -14,6 +14,5 @@ returns c = λ p e.
     let spells : Spells p c.args.bytes.now = record { fits = rw e at c.requires.fits; same = sym (c.requires.bytes ∙ ap body e) } in
     let kept = subst (λ (b : List ℕ). Spells p b) (sym (c.in_ok-extend_from_slice.ensures.items ∙ ap (λ x. x ++ c.args.bytes.now) c.clear.ensures.items)) spells in
     moves_silent (λ st. record (with_entry (Async p) (record st { standing = with_request q st.number st.standing })) { held = Asks cycle st.number q p }) s _ _ (λ st h.
-    let stands = standing_shown st s _ (with_request q st.number st.standing) refl (c.ask.ensures ∙ (λ i. with_request q (h.number i) ((c.deref_mut.ensures.value ∙ h.standing) i))) h in
-    let followed = rw e at (c.follow.ensures.shows _ stands) in
+    let followed = rw e at (c.follow.ensures.shows _ (c.stand.ensures.shows st h)) in
     asked_shown _ c.follow.new.self _ cycle c.follow.new.self.number st.number q p refl (sym followed.number) kept followed)

@@ -1,4 +1,4 @@
-use Rattle.fw_page.proofs.Common.{◌≡◌, true, codes, None, ap, ◌∙◌, front_of, request_front}
+use Rattle.fw_page.proofs.Common.{◌≡◌, true, codes, None, ap, ◌∙◌, prefix_of, request_prefix}
 use Rattle.fw_page.specs.Requests.{alone}
 use Rattle.fw_page_content.specs.Exchanges.{alone_marks, alone_words}
 use Rattle.fw_page.proofs.DoneLaws.{row_done}
@@ -12,8 +12,8 @@ pub returns : goal.returns
 returns c = λ p s.
     let q = c.args.request.now in
     let same : c.in-Some.p ≡ p = let a = c.kept_packet.ensures p s in let b = c.in-Some.is in cc in
-    row_done c.put_row.result (alone c.args.cycle c.args.number q p) (front_of c.request_head-head.result) c.put_alone_marks.new.marks.items c.put_alone_words.new.words.items None
+    row_done c.put_row.result (alone c.args.cycle c.args.number q p) (prefix_of c.request_head-head.result) c.put_alone_marks.new.marks.items c.put_alone_words.new.words.items None
     c.args.self.now.progress _ c.args.self.now.text.items _
-    (λ st h. row_same st _ _ _ _ _ _ None (c.request_head-head.ensures ∙ ap (λ rows. request_front rows true q (codes " w8") c.args.number c.args.cycle) h.nodes)
+    (λ st h. row_same st _ _ _ _ _ _ None (c.request_head-head.ensures ∙ ap (λ rows. request_prefix rows true q (codes " w8") c.args.number c.args.cycle) h.nodes)
     (gathered _ _ _ c.in_ok-put_alone_marks.ensures c.clear.ensures.items ∙ ap (λ rows. alone_marks rows q.asked) h.nodes)
     (gathered _ _ _ c.in_ok-put_alone_words.ensures c.clear-2.ensures.items ∙ ap (alone_words q) same)) c.put_row.ensures.does

@@ -1,4 +1,4 @@
-use Rattle.fw_page.proofs.Common.{true, ap, ◌∙◌, on_ok_weaker, front_of, own_front}
+use Rattle.fw_page.proofs.Common.{true, ap, ◌∙◌, on_ok_weaker, prefix_of, own_prefix}
 use Rattle.std.specs.Option.{option_map}
 use Rattle.fw_page_phrases.specs.Asking.{class_of}
 use Rattle.fw_page_content.specs.Exchanges.{answer_marks, answer_words, request_of}
@@ -17,7 +17,7 @@ returns c =
     let told = rw same at c.told_by.ensures in
     let class = c.class-class.ensures ∙ ap class_of (rw same at c.answer_kind.ensures) in
     on_ok_weaker c.put_row.result
-    (answer_done cycle p s (front_of c.own_head-head.result) c.put_answer_marks.new.marks.items c.put_answer_words.new.words.items c.args.self.now.progress c.count_later.new.self
+    (answer_done cycle p s (prefix_of c.own_head-head.result) c.put_answer_marks.new.marks.items c.put_answer_words.new.words.items c.args.self.now.progress c.count_later.new.self
     c.put_row.new.self.progress
     c.args.self.now.text.items c.put_row.new.self.text.items
     (λ st h.
@@ -30,7 +30,7 @@ returns c =
     record {
       found = c.end_request-ended.ensures.found st h;
       shows = after;
-      front = c.own_head-head.ensures ∙ (λ i. own_front (number i) (class i) (devices i) cycle);
+      prefix = c.own_head-head.ensures ∙ (λ i. own_prefix (number i) (class i) (devices i) cycle);
       marks = gathered _ _ _ c.in_ok-put_answer_marks.ensures c.clear.ensures.items ∙ (λ i. answer_marks (ended.nodes i) (head i) (told i));
       words = gathered _ _ _ c.in_ok-put_answer_words.ensures c.clear-2.ensures.items ∙ ap (λ o. answer_words o p) same;
     }))

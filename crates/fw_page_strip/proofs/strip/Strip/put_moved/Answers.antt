@@ -8,7 +8,8 @@ returns-clause-text c = λ l h.
     moved_as (shown c.self.inside.before) c.args.self.now c.draw.new.self l
     (option_copied c.args.ledger) c.is_some.result c.args.dot c.args.text.now.items c.put_halves.new.text.items c.put_dot.new.text.items
     c.put_changes.new.text.items c.self.view_is (c.in_ok-draw.ensures l h) (c.is_some.ensures ∙ some_copied c.args.ledger) h
-    (halves_put c.args.text.now.items c.put_halves.new.text.items c.deref.result.now c.deref-2.result.now c.self.inside.before.lanes.items c.draw.new.self.lanes.items c.deref.ensures.value c.deref-2.ensures.value c.in_ok-put_halves.ensures)
+    (halves_put c.args.text.now.items c.put_halves.new.text.items c.deref.result.now c.deref-2.result.now c.self.inside.before.lanes.items c.draw.new.self.lanes.items c.deref.ensures.value
+    c.deref-2.ensures.value c.in_ok-put_halves.ensures)
     c.in_ok-put_dot.ensures c.in_ok-put_changes.ensures
 
 pub returns-clause-painted : goal.returns-clause-painted

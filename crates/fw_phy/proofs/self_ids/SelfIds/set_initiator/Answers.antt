@@ -11,4 +11,6 @@ one_more : (f : PhyPacket → PhyPacket) (xs ys : List PhyPacket) (i : ℕ) (d y
 one_more f xs ys i d y low size h e = ap (slice_set ys i) e ∙ map_over_more f xs ys i (get_or ys i d) low h (get_or_default ys i d (get_or ys i d) (omega arith))
 
 pub loop-packet-preserved : goal.loop-packet-preserved
-loop-packet-preserved c = one_more (begun_by c.args.phy) c.as_mut_slice-packets.result.now c.loop-packet.packets c.loop-packet.packet-index _ c.note_initiator.new.packet c.loop-packet-test.true c.loop-packet.auto.packets c.loop-packet.invariant c.note_initiator.ensures
+loop-packet-preserved c = one_more
+    (begun_by c.args.phy) c.as_mut_slice-packets.result.now c.loop-packet.packets c.loop-packet.packet-index _ c.note_initiator.new.packet c.loop-packet-test.true c.loop-packet.auto.packets
+    c.loop-packet.invariant c.note_initiator.ensures

@@ -15,10 +15,10 @@ loop-fault-init g c = record {
 pub loop-fault-preserved : goal.loop-fault-preserved
 loop-fault-preserved g c =
     let i = c.loop-fault.invariant in
-    let s = nothing_given c.loop-fault.self c.step.new.self (g.S.Source.left c.loop-fault.source)
-    (g.S.Source.left c.step.new.source) c.in-Ok-false.field-0 c.step.new.out c.in-Ok-false.field-0-test c.in-Ok-false.ensures.steps in
+    let s = nothing_given c.loop-fault.self c.read_more.new.self (g.S.Source.left c.loop-fault.source)
+    (g.S.Source.left c.read_more.new.source) c.in-Ok-false.field-0 c.read_more.new.out c.in-Ok-false.field-0-test c.in-Ok-false.ensures.steps in
     record {
-      goes_on = goes_in_turn c.args.self.now c.loop-fault.self c.step.new.self (g.S.Source.left c.args.source.now) (g.S.Source.left c.loop-fault.source) (g.S.Source.left c.step.new.source)
+      goes_on = goes_in_turn c.args.self.now c.loop-fault.self c.read_more.new.self (g.S.Source.left c.args.source.now) (g.S.Source.left c.loop-fault.source) (g.S.Source.left c.read_more.new.source)
           i.goes_on s.0;
       more = s.1;
       unasked = λ w. let u = i.unasked w in let v = c.in-Ok-false.ensures.unasked u.1 in (v.0 ∙ u.0, v.1);
@@ -28,25 +28,25 @@ loop-fault-preserved g c =
 
 pub returns-in-Ok-true-clause-advances : goal.returns-in-Ok-true-clause-advances
 returns-in-Ok-true-clause-advances g c =
-    let s = command_given c.loop-fault.self c.step.new.self (g.S.Source.left c.loop-fault.source)
-    (g.S.Source.left c.step.new.source) c.in-Ok-true.field-0 c.step.new.out c.in-Ok-true.field-0-test c.in-Ok-true.ensures.steps in
-    advances_by c.args.self.now s.0 c.step.new.self (g.S.Source.left c.args.source.now) (g.S.Source.left c.step.new.source) (Ok (Some c.step.new.out)) c.requires.open
-    (goes_in_turn c.args.self.now c.loop-fault.self s.0 (g.S.Source.left c.args.source.now) (g.S.Source.left c.loop-fault.source) (g.S.Source.left c.step.new.source)
+    let s = command_given c.loop-fault.self c.read_more.new.self (g.S.Source.left c.loop-fault.source)
+    (g.S.Source.left c.read_more.new.source) c.in-Ok-true.field-0 c.read_more.new.out c.in-Ok-true.field-0-test c.in-Ok-true.ensures.steps in
+    advances_by c.args.self.now s.0 c.read_more.new.self (g.S.Source.left c.args.source.now) (g.S.Source.left c.read_more.new.source) (Ok (Some c.read_more.new.out)) c.requires.open
+    (goes_in_turn c.args.self.now c.loop-fault.self s.0 (g.S.Source.left c.args.source.now) (g.S.Source.left c.loop-fault.source) (g.S.Source.left c.read_more.new.source)
     c.loop-fault.invariant.goes_on s.1) s.2
 
 pub returns-in-Ok-true-clause-stage : goal.returns-in-Ok-true-clause-stage
 returns-in-Ok-true-clause-stage g c =
-    let s = command_given c.loop-fault.self c.step.new.self (g.S.Source.left c.loop-fault.source)
-    (g.S.Source.left c.step.new.source) c.in-Ok-true.field-0 c.step.new.out c.in-Ok-true.field-0-test c.in-Ok-true.ensures.steps in
-    stage_after c.args.self.now.stage s.0 c.step.new.self (Ok (Some c.step.new.out)) c.requires.open s.2
+    let s = command_given c.loop-fault.self c.read_more.new.self (g.S.Source.left c.loop-fault.source)
+    (g.S.Source.left c.read_more.new.source) c.in-Ok-true.field-0 c.read_more.new.out c.in-Ok-true.field-0-test c.in-Ok-true.ensures.steps in
+    stage_after c.args.self.now.stage s.0 c.read_more.new.self (Ok (Some c.read_more.new.out)) c.requires.open s.2
 
 pub returns-in-Err-clause-advances : goal.returns-in-Err-clause-advances
 returns-in-Err-clause-advances g c =
     let s = c.in-Err.ensures.steps in
-    advances_by c.args.self.now s.0 c.step.new.self (g.S.Source.left c.args.source.now) (g.S.Source.left c.step.new.source) (Err c.in-Err.fault) c.requires.open
-    (goes_in_turn c.args.self.now c.loop-fault.self s.0 (g.S.Source.left c.args.source.now) (g.S.Source.left c.loop-fault.source) (g.S.Source.left c.step.new.source)
+    advances_by c.args.self.now s.0 c.read_more.new.self (g.S.Source.left c.args.source.now) (g.S.Source.left c.read_more.new.source) (Err c.in-Err.fault) c.requires.open
+    (goes_in_turn c.args.self.now c.loop-fault.self s.0 (g.S.Source.left c.args.source.now) (g.S.Source.left c.loop-fault.source) (g.S.Source.left c.read_more.new.source)
     c.loop-fault.invariant.goes_on s.1) s.2
 
 pub returns-in-Err-clause-stage : goal.returns-in-Err-clause-stage
 returns-in-Err-clause-stage g c =
-    let s = c.in-Err.ensures.steps in stage_after c.args.self.now.stage s.0 c.step.new.self (Err c.in-Err.fault) c.requires.open s.2
+    let s = c.in-Err.ensures.steps in stage_after c.args.self.now.stage s.0 c.read_more.new.self (Err c.in-Err.fault) c.requires.open s.2

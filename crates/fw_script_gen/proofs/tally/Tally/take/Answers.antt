@@ -14,7 +14,8 @@ failed (Err e) P Q h q = q e
 pub returns-in_err-self : goal.returns-in_err-self
 returns-in_err-self c epoch log more fit e h =
     let w = c.loop-size.invariant epoch log more fit e h in
-    let x = walked_full c.entry_size.result c.in-Some.size _ c.counted_in.result w c.in-Some.is c.entry_size.ensures.first c.entry_size.ensures.none c.split_at.ensures.front c.counted_in.ensures c.in_err-self.ensures in
+    let x = walked_full c.entry_size.result c.in-Some.size _ c.counted_in.result w c.in-Some.is c.entry_size.ensures.first c.entry_size.ensures.none c.split_at.ensures.front c.counted_in.ensures
+    c.in_err-self.ensures in
     failed c.from_residual.result _ _ c.from_residual.ensures.0 (λ k. x)
 
 pub loop-size-preserved : goal.loop-size-preserved

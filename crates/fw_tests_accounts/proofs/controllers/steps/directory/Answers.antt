@@ -3,7 +3,7 @@ use Rattle.std.specs.Prelude.{IfSome, slice_get, replicate}
 use Rattle.std.proofs.lemmas.Bool.{cases_eq, cases_lt}
 use Rattle.std.proofs.lemmas.List.{get_or-set_other, get_or-replicate, get_or_past}
 use Rattle.std.proofs.lemmas.Option.{slice_get-get_or, slice_get_past}
-use Rattle.fw_cmp.specs.Nodes.{joined}
+use Rattle.fw_cmp_jobs.specs.Nodes.{joined}
 use Rattle.fw_tests_accounts.proofs.controllers.steps.directory.Goals as goal
 
 abbrev IsNode : Option ℕ → Type 0

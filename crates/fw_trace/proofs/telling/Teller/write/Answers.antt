@@ -16,4 +16,4 @@ invariant_of-self g c =
     }
 
 pub returns-in-Some-clause-bytes : goal.returns-in-Some-clause-bytes
-returns-in-Some-clause-bytes g c = record { front = c.args.piece.now; rest = []; parts = sym (append-nil c.args.piece.now); appended = c.and-self.ensures }
+returns-in-Some-clause-bytes g c = record { prefix = c.args.piece.now; rest = []; parts = sym (append-nil c.args.piece.now); appended = c.and-self.ensures }

@@ -6,7 +6,7 @@ use Rattle.fw_tree.proofs.SelfIdLaws.{one_more, of_first}
 use Rattle.fw_tree.proofs.cabling.Cabling.self_ids.Goals as goal
 
 pub loop-node-init : goal.loop-node-init
-loop-node-init c = rw c.new.ensures (record { packets = no_node; size = omega arith })
+loop-node-init c = rw c.clear.ensures (record { packets = no_node; size = omega arith })
 
 pub devices_of-devices-requires : goal.devices_of-devices-requires
 devices_of-devices-requires c = record { nodes = c.requires.numbering.nodes; few = count_most c.args.self.now c.args.n.now c.requires.numbering }
@@ -31,7 +31,8 @@ returns-clause-fit c =
     λ d h. low_of c.self.inside.facts c.self.inside.count c.self.inside.cables c.args.self.now c.args.n.now c.self.view_is s c.requires.numbering d h in
     packets_fit (take c.self.inside.count c.self.inside.facts) c.self.inside.cables c.args.n.now.number c.args.n.now.parent_port c.args.initiator c.loop-node.node c.loop-node.out s.devices
     (omega arith)
-    (of_first c.self.inside.facts c.self.inside.cables c.args.n.now.number c.args.n.now.parent_port c.args.initiator c.self.inside.count c.loop-node.node c.loop-node.out low c.loop-node.invariant.packets)
+    (of_first c.self.inside.facts c.self.inside.cables c.args.n.now.number c.args.n.now.parent_port c.args.initiator c.self.inside.count c.loop-node.node c.loop-node.out low
+    c.loop-node.invariant.packets)
 
 pub returns-clause-packets : goal.returns-clause-packets
 returns-clause-packets c =

@@ -10,8 +10,8 @@ returns-clause-lines c before w =
     (at_cycle c.args.cycle (Iso c.args.p.now)) c.self.view_is c.deref_mut.ensures.value w n)
     (c.step_iso.ensures.lines)
 
-pub returns-clause-behind : goal.returns-clause-behind
-returns-clause-behind c before w =
+pub returns-clause-following : goal.returns-clause-following
+returns-clause-following c before w =
     on_both c.step_iso.result
     (λ n m. room_watches c.args.self.now _ c.self.inside.journal c.self.inside.state.value c.deref_mut.result.now before
     (at_cycle c.args.cycle (Iso c.args.p.now)) c.self.view_is c.deref_mut.ensures.value w n m)

@@ -10,8 +10,8 @@ returns-clause-lines c whole x before w =
     (at_cycle c.args.cycle (ResetOf whole)) c.self.view_is c.deref_mut.ensures.value w n)
     (c.step_reset.ensures.lines whole x)
 
-pub returns-clause-behind : goal.returns-clause-behind
-returns-clause-behind c whole x before w =
+pub returns-clause-following : goal.returns-clause-following
+returns-clause-following c whole x before w =
     on_both c.step_reset.result
     (λ n m. room_watches c.args.self.now _ c.self.inside.journal c.self.inside.state.value c.deref_mut.result.now before
     (at_cycle c.args.cycle (ResetOf whole)) c.self.view_is c.deref_mut.ensures.value w n m)

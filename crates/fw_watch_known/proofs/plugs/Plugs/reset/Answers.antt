@@ -7,7 +7,7 @@ use Rattle.fw_watch_known.proofs.UsedLaws.{none_used, reset_counted}
 use Rattle.fw_watch_known.proofs.plugs.Plugs.reset.Goals as goal
 
 pub loop-i-init : goal.loop-i-init
-loop-i-init c = record { front = refl; size = ap length c.self.view_is }
+loop-i-init c = record { prefix = refl; size = ap length c.self.view_is }
 
 pub loop-i-preserved : goal.loop-i-preserved
 loop-i-preserved c =

@@ -1,0 +1,5 @@
+pub mod Common
+pub mod ReadingLaws
+pub mod SoundLaws
+pub mod NeedLaws
+pub mod NodeLaws

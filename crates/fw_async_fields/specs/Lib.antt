@@ -1,0 +1,4 @@
+pub mod Tcode
+pub mod NodeIds
+pub mod Data
+pub mod Reading

@@ -1,7 +1,0 @@
-use Rattle.fw_bus_engine.proofs.Common.{length}
-use Rattle.fw_bus_engine.proofs.PlayerTurns.{Playing}
-use Rattle.fw_bus_engine.proofs.playing.put_players.Given as goal
-
-abbrev pub invariant-loop-channel : goal.invariant-loop-channel
-invariant-loop-channel g l =
-    Playing (record { blocks = goal.F-post g l.desk.blocks; vendor = goal.H-post g l.desk.vendor }) l.machine l.gone (length l.fn.players) l.channel l.fn.heard l.heard l.players l.fn.room l.room

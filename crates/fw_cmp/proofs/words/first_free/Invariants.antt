@@ -1,6 +1,0 @@
-use Rattle.fw_cmp.proofs.Common.{◌≡◌, None, find_to}
-use Rattle.fw_cmp.specs.Plugs.{is_bit}
-use Rattle.fw_cmp.proofs.words.first_free.Given as goal
-
-abbrev pub invariant-loop-i : goal.invariant-loop-i
-invariant-loop-i l = find_to l.i (is_bit l.word) ≡ None

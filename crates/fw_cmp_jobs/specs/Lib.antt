@@ -1,0 +1,11 @@
+pub mod Connections
+pub mod Plugs
+pub mod Decisions
+pub mod Stages
+pub mod Nodes
+pub mod Requests
+pub mod Fits
+pub mod Slots
+pub mod Known
+pub mod Jobs
+pub mod Answers

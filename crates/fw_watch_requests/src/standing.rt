@@ -1,0 +1,225 @@
+//! The requests at watched registers that stand.
+
+ghost use Rattle.std.specs.Prelude.{◌≡◌, ◌%◌, ◌==◌, ◌++◌, ◌∷◌, true, false, [], None, if◌then◌else◌};
+ghost use Rattle.fw_async.specs.Reader.{IsPacket, Spells};
+ghost use Rattle.fw_async.specs.declared.packet.Packet.{Packet as AsyncPacket};
+ghost use Rattle.fw_watch_requests.specs.Standing.{asked, is_of, latest, standing_following, without_answered, without_same, without_source, with_request, answered, read_answer, lock_answer, answer_of};
+
+use crate::asked::{Answer, Asked, Asking};
+use crate::glance::{Kind, head_at, kind_at, offset_at, rcode_at, swap_at};
+use crate::queue::Queue;
+use crate::taking::{make_room, take_answered, take_same};
+use fw_async::{Head, Packet, whole_packet};
+use fw_words::{COMPARE_SWAP, quadlet_at};
+use std::marker::Model;
+
+/// How many last numbers of nodes are told apart when a request of a new one's is looked for.
+const ASKERS: usize = 64;
+
+/// The requests at watched registers that no response has answered since the latest bus reset, the oldest first: at most 256, of
+/// which the oldest makes room for a new one. Mostly the oldest is answered first, and none has the source of a new one: nothing is
+/// looked for then.
+#[derive(Drop)]
+pub struct OutstandingRequests {
+    queue: Queue,
+    // Whether an outstanding request may be of a node_ID that ends in these six bits.
+    askers: [bool; ASKERS],
+}
+
+impl Model for OutstandingRequests {
+    ghost use Rattle.std.specs.Prelude.{List};
+    ghost use Rattle.fw_watch_requests.specs.declared.asked.Asked.{Asked};
+    ghost use Rattle.fw_watch_requests.specs.Kept.{AreKept};
+
+    ghost Value = { List Asked };
+
+    ghost view = { λ s. s.queue };
+
+    ghost invariant = { λ s. AreKept s.askers s.queue };
+}
+
+// The last six bits of the node_ID of who asks.
+#[inline(always)]
+fn asker_of(head: &Head) -> usize
+    ensures { result ≡ head.now.source % 64 }
+{
+    usize::from(head.source) % ASKERS
+}
+
+impl OutstandingRequests {
+    /// None.
+    pub fn new() -> OutstandingRequests
+        ensures { result ≡ [] }
+    {
+        OutstandingRequests {
+            queue: Queue::new(),
+            askers: [false; ASKERS],
+        }
+    }
+
+    /// A bus reset ends all.
+    pub fn reset(&mut self)
+        ensures { self.new ≡ [] }
+    {
+        self.queue.clear();
+        self.askers = [false; ASKERS];
+    }
+
+    // A request that asks for no word of a watched register: it ends one of the same requester, node and label.
+    #[inline(always)]
+    fn end_same(&mut self, head: &Head)
+        ensures { self.new ≡ without_same head.now self.old }
+    {
+        take_same(&mut self.queue, head, self.askers[asker_of(head)]);
+    }
+
+    // A request takes the place of one of the same requester, node and label.
+    #[inline(always)]
+    fn add_request(&mut self, head: &Head, new: Asked)
+        requires { is_of head.now new ≡ true }
+        ensures { self.new ≡ latest (without_same head.now self.old ++ new ∷ []) }
+    {
+        let asker = asker_of(head);
+        take_same(&mut self.queue, head, self.askers[asker]);
+        make_room(&mut self.queue);
+        self.queue.push(new);
+        self.askers[asker] = true;
+    }
+
+    // A request at an offset takes the place of one of the same requester, node and label.
+    #[inline(always)]
+    #[tactic(auto, unfolding(crate::specs::Standing::is_of))]
+    fn ask(&mut self, head: &Head, offset: u64, asking: Asking)
+        ensures { self.new ≡ with_request (asked head.now offset asking) (without_same head.now self.old) }
+    {
+        match Asked::new(head, offset, asking) {
+            Some(new) => self.add_request(head, new),
+            None => self.end_same(head),
+        }
+    }
+
+    /// Those of a node whose controller died end.
+    pub fn end_of(&mut self, source: u16)
+        ensures { self.new ≡ without_source source self.old }
+    {
+        self.queue.take_source(source);
+    }
+
+    // The request that a response answers, which stands no longer.
+    #[inline(always)]
+    fn take_answered(&mut self, read: bool, head: &Head) -> Option<Asked>
+        ensures value { result ≡ answered read head.now self.old }
+        ensures known { self.new ≡ without_answered read head.now self.old }
+    {
+        let asked = take_answered(&mut self.queue, read, head);
+        if self.queue.as_slice().is_empty() {
+            self.askers = [false; ASKERS];
+        }
+        asked
+    }
+
+    // The answer that a response to a read is.
+    #[inline(always)]
+    fn take_read(&mut self, head: &Head, rcode: u8, value: u32) -> Option<Answer>
+        ensures value { result ≡ if rcode == 0 then read_answer (answered true head.now self.old) value else None }
+        ensures known { self.new ≡ without_answered true head.now self.old }
+    {
+        match self.take_answered(true, head) {
+            Some(q) if rcode == 0 => q.answer(Some(value)),
+            _ => None,
+        }
+    }
+
+    // The answer that a response to a lock is.
+    #[inline(always)]
+    fn take_lock(&mut self, head: &Head, rcode: u8, function: u8, bytes: &[u8]) -> Option<Answer>
+        ensures value { result ≡ if rcode == 0 then lock_answer (answered false head.now self.old) function bytes.now else None }
+        ensures known { self.new ≡ without_answered false head.now self.old }
+    {
+        match self.take_answered(false, head) {
+            Some(q) if rcode == 0 => q.answer(q.asking.old_word(function, bytes)),
+            _ => None,
+        }
+    }
+
+    /// Takes a packet: a request is outstanding from then on, and a response ends the one that it answers. The answer that the packet is,
+    /// if it is a complete response to a request that was outstanding.
+    #[tactic(auto, unfolding(crate::specs::Standing::standing_following, crate::specs::Standing::answer_of))]
+    pub fn take(&mut self, p: &Packet) -> Option<Answer>
+        ensures value { result ≡ answer_of self.old p.now }
+        ensures known { self.new ≡ standing_following p.now self.old }
+    {
+        match p {
+            Packet::WriteQuadlet { head, .. }
+            | Packet::WriteBlock { head, .. }
+            | Packet::ReadBlock { head, .. } => {
+                self.end_same(head);
+                None
+            }
+            Packet::ReadQuadlet { head, offset } => {
+                self.ask(head, *offset, Asking::Read);
+                None
+            }
+            Packet::Lock {
+                head,
+                offset,
+                function,
+                bytes,
+            } => {
+                self.ask(head, *offset, Asking::of_lock(*function, bytes.as_slice()));
+                None
+            }
+            Packet::ReadQuadletReply { head, rcode, value } => {
+                self.take_read(head, *rcode, *value)
+            }
+            Packet::LockReply {
+                head,
+                rcode,
+                function,
+                bytes,
+            } => self.take_lock(head, *rcode, *function, bytes.as_slice()),
+            Packet::WriteReply { .. } | Packet::ReadBlockReply { .. } | Packet::CycleStart { .. } =>
+                None,
+        }
+    }
+
+    /// As `take`, from the bytes of the packet: of the usual forms no packet is made of them.
+    #[inline(always)]
+    pub fn take_bytes(&mut self, bytes: &[u8]) -> Option<Answer>
+        requires { IsPacket bytes.now }
+        ensures value { (p : AsyncPacket) → Spells p bytes.now → result ≡ answer_of self.old p }
+        ensures known { (p : AsyncPacket) → Spells p bytes.now → self.new ≡ standing_following p self.old }
+    {
+        match kind_at(bytes) {
+            Kind::Write => {
+                self.end_same(&head_at(bytes));
+                None
+            }
+            Kind::Read => {
+                self.ask(&head_at(bytes), offset_at(bytes), Asking::Read);
+                None
+            }
+            Kind::Swap => {
+                self.ask(
+                    &head_at(bytes),
+                    offset_at(bytes),
+                    Asking::Swap(swap_at(bytes)),
+                );
+                None
+            }
+            Kind::ReadReply => {
+                self.take_read(&head_at(bytes), rcode_at(bytes), quadlet_at(bytes, 12).0)
+            }
+            Kind::SwapReply => {
+                self.take_lock(
+                    &head_at(bytes),
+                    rcode_at(bytes),
+                    COMPARE_SWAP,
+                    &bytes[16..20],
+                )
+            }
+            Kind::WriteReply => None,
+            Kind::Other => self.take(&whole_packet(bytes)),
+        }
+    }
+}

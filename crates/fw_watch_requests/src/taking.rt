@@ -1,0 +1,102 @@
+//! What is done with the outstanding requests: mostly the oldest is answered, and none is of a new one's requester.
+
+ghost use Rattle.std.specs.Prelude.{◌≡◌, ◌<◌, ◌≤◌, ◌++◌, ◌∷◌, true, false, [], List, IfSome, length};
+ghost use Rattle.std.specs.List.{position};
+ghost use Rattle.fw_watch_requests.specs.declared.asked.Asked.{Asked as AnAsked};
+ghost use Rattle.fw_watch_requests.specs.Standing.{answers, latest, without_answered, without_same, answered};
+ghost use Rattle.fw_watch_requests.specs.Kept.{AreApart, AreOthers};
+
+use crate::asked::Asked;
+use crate::queue::Queue;
+use fw_async::Head;
+
+/// How many requests are outstanding at most.
+const MOST: usize = 256;
+
+// The place of the request that a response answers.
+fn place_of(rows: &[Asked], read: bool, head: &Head) -> Option<usize>
+    ensures value { result ≡ position (answers read head.now) rows.now }
+    ensures there { IfSome result (λ at. at < length rows.now) }
+{
+    rows.iter().position(|q| q.is_answered(read, head))
+}
+
+// The request that a response answers.
+#[tactic(auto, unfolding(crate::specs::Standing::answered))]
+fn asked_at(rows: &[Asked], read: bool, head: &Head) -> Option<Asked>
+    ensures { result ≡ answered read head.now rows.now }
+{
+    match place_of(rows, read, head) {
+        Some(at) => Some(rows[at]),
+        None => None,
+    }
+}
+
+// The first request, if a response answers it.
+#[inline(always)]
+fn first_answered(rows: &[Asked], read: bool, head: &Head) -> Option<Asked>
+    ensures { IfSome result (λ q. (answers read head.now q ≡ true) × ((rest : List AnAsked) × (rows.now ≡ q ∷ rest))) }
+{
+    match rows.first() {
+        Some(first) if first.is_answered(read, head) => Some(*first),
+        _ => None,
+    }
+}
+
+// Takes the request away that a response answers, wherever it stands, and answers it.
+#[inline(never)]
+fn take_later(queue: &mut Queue, read: bool, head: Head) -> Option<Asked>
+    ensures value { result ≡ answered read head queue.old }
+    ensures known { queue.new ≡ without_answered read head queue.old }
+{
+    let asked = asked_at(queue.as_slice(), read, &head);
+    queue.take_answered(read, &head);
+    asked
+}
+
+/// Takes the request away that a response answers, mostly the first, and answers it.
+#[inline(always)]
+pub(crate) fn take_answered(queue: &mut Queue, read: bool, head: &Head) -> Option<Asked>
+    requires { AreApart queue.old }
+    ensures value { result ≡ answered read head.now queue.old }
+    ensures known { queue.new ≡ without_answered read head.now queue.old }
+{
+    match first_answered(queue.as_slice(), read, head) {
+        Some(first) => {
+            queue.take_first();
+            Some(first)
+        }
+        None => take_later(queue, read, *head),
+    }
+}
+
+// Takes those away that are of the same requester, node and label as a request, wherever they stand.
+#[inline(never)]
+fn take_all_same(queue: &mut Queue, head: Head)
+    ensures { queue.new ≡ without_same head queue.old }
+{
+    queue.take_same(&head);
+}
+
+/// Takes those away that are of the same requester, node and label as a request, if one may be from its source.
+#[inline(always)]
+pub(crate) fn take_same(queue: &mut Queue, head: &Head, may_be: bool)
+    requires { may_be ≡ false → AreOthers head.now queue.old }
+    ensures { queue.new ≡ without_same head.now queue.old }
+{
+    if may_be {
+        take_all_same(queue, *head);
+    }
+}
+
+/// The oldest request makes room for a new one, if as many stand as can.
+#[inline(always)]
+pub(crate) fn make_room(queue: &mut Queue)
+    requires { length queue.old ≤ 256 }
+    ensures room { length queue.new < 256 }
+    ensures latest { (new : AnAsked) → queue.new ++ new ∷ [] ≡ latest (queue.old ++ new ∷ []) }
+{
+    if queue.as_slice().len() == MOST {
+        queue.take_first();
+    }
+}
