@@ -7,7 +7,8 @@ use Rattle.fw_async.specs.Reader.{Feeds, FeedsTo, EndsPacket, EndsNothing, IsRef
 use Rattle.fw_async.specs.declared.reader.Fed.{Fed}
 use Rattle.fw_async_fields.proofs.NeedLaws.{need_done, no_whole_prefix, fault_stays}
 use Rattle.fw_async.proofs.FeedLaws.{further, stays}
-use Rattle.fw_async.proofs.SpelledLaws.{spelled_none, spelled_need, no_proper_prefix}
+use Rattle.fw_async.proofs.SpelledLaws.{spelled_none}
+use Rattle.fw_async.proofs.SpelledSizeLaws.{spelled_need, no_proper_prefix}
 use Rattle.fw_async.proofs.SameLaws.{same_packet}
 
 pub whole_from_spells : (p : Packet) (bytes : List ℕ) → Spells p bytes → length bytes ≡ need bytes

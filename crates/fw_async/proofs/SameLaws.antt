@@ -1,40 +1,41 @@
--- One list of bytes is the spelling of one packet.
+-- The fields that stand in the bytes of a packet; one list of bytes is the spelling of one packet.
 use Rattle.fw_async.proofs.Common.{◌≡◌, ℕ, ◌+◌, ◌/◌, ◌%◌, ◌^◌, ◌<◌, List, [], ◌∷◌, ◌++◌, length, take, drop, replicate, arith, refl, ap, sym, ◌∙◌, ◌==◌, if◌then◌else◌, to_be_bytes, w32, field}
 use Rattle.fw_async.proofs.Common.{quadlet_at, packed, HeadFits, Fits, spelling, head_fields, size, padding, padded, tcode_of, Head, Packet, WriteQuadlet, WriteBlock, WriteReply, ReadQuadlet}
 use Rattle.fw_async.proofs.Common.{ReadQuadletReply, CycleStart, Lock, LockReply}
 use Rattle.std.proofs.Common.{◌*◌}
 use Rattle.std.proofs.Math.Seq.{take-append_seam}
 use Rattle.fw_async.specs.declared.packet.Packet.TheVariants.{ReadBlock, ReadBlockReply}
+use Rattle.fw_async.specs.Reader.{Spells}
 use Rattle.fw_async.proofs.SpelledLaws.{back, first_fits, spelled_tcode, size_in, lock_few, reply_few}
 
 -- the head that stands in quadlets 0 and 1
-head_with : ℕ → ℕ → ℕ → ℕ → ℕ → Head
+unfoldable pub head_with : ℕ → ℕ → ℕ → ℕ → ℕ → Head
 head_with a b c d e = record { destination = a; tl = b; rt = c; pri = d; source = e }
 
 head_of : (h : Head) → h ≡ head_with h.destination h.tl h.rt h.pri h.source
 unfolding head_with
 head_of h = refl
 
-abbrev head_at : ℕ → ℕ → Head
+abbrev pub head_at : ℕ → ℕ → Head
 head_at a b = head_with (field a 0 15) (field a 16 21) (field a 22 23) (field a 28 31) (field b 0 15)
 
-abbrev offset_at : ℕ → ℕ → ℕ
+abbrev pub offset_at : ℕ → ℕ → ℕ
 offset_at b c = field b 16 31 * 2 ^ 32 + c
 
-abbrev rcode_at : List ℕ → ℕ
+abbrev pub rcode_at : List ℕ → ℕ
 rcode_at bytes = field (quadlet_at bytes 4) 16 19
 
-abbrev length_at : List ℕ → ℕ
+abbrev pub length_at : List ℕ → ℕ
 length_at bytes = field (quadlet_at bytes 12) 0 15
 
-abbrev function_at : List ℕ → ℕ
+abbrev pub function_at : List ℕ → ℕ
 function_at bytes = field (quadlet_at bytes 12) 16 31
 
-abbrev data_at : List ℕ → List ℕ
+abbrev pub data_at : List ℕ → List ℕ
 data_at bytes = take (length_at bytes) (drop 16 bytes)
 
 -- the packet of a tcode with these fields
-packet_by : ℕ → Head → ℕ → ℕ → ℕ → ℕ → ℕ → List ℕ → Packet
+unfoldable pub packet_by : ℕ → Head → ℕ → ℕ → ℕ → ℕ → ℕ → List ℕ → Packet
 packet_by t h o r v len low bytes =
     if t == 0 then WriteQuadlet h o v
     else if t == 1 then WriteBlock h o bytes
@@ -48,7 +49,7 @@ packet_by t h o r v len low bytes =
     else LockReply h r low bytes
 
 -- the packet that the bytes are, if they are one
-abbrev packet_at : List ℕ → Packet
+abbrev pub packet_at : List ℕ → Packet
 packet_at bytes =
     packet_by (tcode_of bytes) (head_at (quadlet_at bytes 0) (quadlet_at bytes 4)) (offset_at (quadlet_at bytes 4) (quadlet_at bytes 8))
     (rcode_at bytes) (quadlet_at bytes 12) (length_at bytes) (function_at bytes) (data_at bytes)
@@ -197,3 +198,7 @@ spelled_back (LockReply h r f bytes) fits =
 
 pub same_packet : (p q : Packet) → Fits p → Fits q → spelling p ≡ spelling q → p ≡ q
 same_packet p q f g e = sym (spelled_back p f) ∙ ap packet_at e ∙ spelled_back q g
+
+-- the packet that bytes are has the fields that stand in them
+pub packet_is : (p : Packet) (bytes : List ℕ) → Spells p bytes → packet_at bytes ≡ p
+packet_is p bytes s = ap packet_at (sym s.same) ∙ spelled_back p s.fits

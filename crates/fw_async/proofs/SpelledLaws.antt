@@ -1,21 +1,19 @@
--- A spelling shows no fault, and is as long as it needs.
-use Rattle.fw_async.proofs.Common.{◌≡◌, ℕ, zero, suc, ◌+◌, ◌-◌, ◌/◌, ◌%◌, ◌^◌, ◌≤◌, ◌<◌, List, [], ◌∷◌, ◌++◌, get_or, length, drop, replicate, nat_lt, Bool, true, false, IsTrue, Option, Some, None}
-use Rattle.fw_async.proofs.Common.{arith, refl, ap, sym, subst, ◌∙◌, ◌==◌, ◌||◌, if◌then◌else◌, length-append, nat_tests, to_be_bytes, w32, field, quadlet_at, packed, HeadFits, Fits, spelling}
-use Rattle.fw_async.proofs.Common.{head_fields, size, padding, padded, is_lock_size, is_reply_size, has_data, fault_in_quadlet_0, fault_in_quadlet_1, fault_in_quadlet_2, fault_in_quadlet_3}
-use Rattle.fw_async.proofs.Common.{fault_in_padding, fault_of, need, tcode_of, end_of_data, PacketFault, Head, Packet, WriteQuadlet, WriteBlock, WriteReply, ReadQuadlet, ReadQuadletReply, CycleStart}
-use Rattle.fw_async.proofs.Common.{Lock, LockReply}
+-- A spelling shows no fault.
+use Rattle.fw_async.proofs.Common.{◌≡◌, ℕ, zero, suc, ◌+◌, ◌-◌, ◌%◌, ◌^◌, ◌≤◌, ◌<◌, List, [], ◌∷◌, ◌++◌, get_or, length, drop, replicate, nat_lt, Bool, true, false, IsTrue, Option, Some, None, arith}
+use Rattle.fw_async.proofs.Common.{refl, ap, sym, subst, ◌∙◌, ◌==◌, ◌||◌, if◌then◌else◌, length-append, nat_tests, to_be_bytes, w32, field, quadlet_at, packed, HeadFits, Fits, spelling, head_fields}
+use Rattle.fw_async.proofs.Common.{size, padding, padded, is_lock_size, is_reply_size, has_data, fault_in_quadlet_0, fault_in_quadlet_1, fault_in_quadlet_2, fault_in_quadlet_3, fault_in_padding}
+use Rattle.fw_async.proofs.Common.{fault_of, tcode_of, end_of_data, PacketFault, Head, Packet, WriteQuadlet, WriteBlock, WriteReply, ReadQuadlet, ReadQuadletReply, CycleStart, Lock, LockReply}
 use Rattle.std.proofs.Common.{add_assoc, add-zero}
-use Rattle.std.proofs.lemmas.List.{get_or-append-add, get_or-replicate, length-replicate, nil_from_length}
+use Rattle.std.proofs.lemmas.List.{get_or-append-add, get_or-replicate, length-replicate}
 use Rattle.std.proofs.lemmas.Nat.{from_be_bytes-to_be_bytes_4}
 use Rattle.std.specs.Option.{option_map}
 use Rattle.fw_words.specs.Quadlet.{first_set}
 use Rattle.fw_words.proofs.FirstSet.{first_set_zero}
-use Rattle.fw_async_fields.specs.Tcode.{has_quadlet_3, is_response, is_block, is_lock}
+use Rattle.fw_async_fields.specs.Tcode.{is_response, is_block, is_lock}
 use Rattle.fw_async_fields.specs.Reading.{or_else}
 use Rattle.fw_async_fields.specs.declared.PacketFault.TheVariants.{Reserved, TooLong, BadLength}
 use Rattle.fw_async.specs.declared.packet.Packet.TheVariants.{ReadBlock, ReadBlockReply}
 use Rattle.fw_async_fields.proofs.ReadingLaws.{padding_next}
-use Rattle.fw_async_fields.proofs.NeedLaws.{need_of, need_done, need_most}
 
 pub back : (a : ℕ) (rest : List ℕ) → a < 2 ^ 32 → quadlet_at (to_be_bytes w32 a ++ rest) 0 ≡ a
 back a rest h = from_be_bytes-to_be_bytes_4 a h
@@ -132,7 +130,7 @@ padding_clear : (prefix : List ℕ) (k at : ℕ) → at ≡ length prefix → fa
 padding_clear prefix k at e = zeros_clear (prefix ++ replicate k 0) at (length (prefix ++ replicate k 0) - at) (λ i less. after_zeros prefix k at i (length (prefix ++ replicate k 0) - at) e refl less)
 
 -- four quadlets, bytes and their padding
-abbrev with_data : ℕ → ℕ → ℕ → ℕ → List ℕ → List ℕ
+abbrev pub with_data : ℕ → ℕ → ℕ → ℕ → List ℕ → List ℕ
 with_data a b c d bytes = to_be_bytes w32 a ++ (to_be_bytes w32 b ++ (to_be_bytes w32 c ++ (to_be_bytes w32 d ++ padded bytes)))
 
 data_clear : (a b c low : ℕ) (bytes : List ℕ) → length bytes < 2 ^ 16 → low < 2 ^ 16
@@ -192,71 +190,3 @@ spelled_none (LockReply h r f bytes) fits =
     let s = size_in (length bytes) f (padded bytes) (reply_few (length bytes) fits.4) (omega (arith, fits.3)) in
     clear all 11 (spelled_tcode 11 h (drop 4 all) (omega arith) fits.0) refl (response_second 11 h.source r (drop 8 all) fits.0.4 fits.1) (response_third 11 (drop 12 all))
     (lock_size 11 (quadlet_at all 12) (length bytes) f refl s.function s.count fits.2 fits.3 fits.4) (λ b. data_clear _ _ 0 f bytes (reply_few (length bytes) fits.4) (omega (arith, fits.3)))
-
--- A spelling is as long as it needs.
-need_at : (bytes : List ℕ) (t : ℕ) → tcode_of bytes ≡ t → need bytes ≡ need_of (length bytes) (has_quadlet_3 t) (has_data t) (field (quadlet_at bytes 12) 0 15)
-need_at bytes t e = ap (λ k. need_of (length bytes) (has_quadlet_3 k) (has_data k) (field (quadlet_at bytes 12) 0 15)) e
-
-data_need : (n len : ℕ) → n ≡ 16 + len + padding len → need_of n true true len ≡ n
-data_need n len e = grind (arith, nat_tests)
-
-data_length : (a b c d : ℕ) (bytes : List ℕ) → length (with_data a b c d bytes) ≡ 16 + length bytes + padding (length bytes)
-data_length a b c d bytes = omega (arith, length-append bytes (replicate (padding (length bytes)) 0), length-replicate {A = ℕ} (padding (length bytes)) 0)
-
-need_data : (a b c low : ℕ) (bytes : List ℕ) → length bytes < 2 ^ 16 → low < 2 ^ 16
-    → need_of (length (with_data a b c (size (length bytes) low) bytes)) true true (field (quadlet_at (with_data a b c (size (length bytes) low) bytes) 12) 0 15)
-    ≡ length (with_data a b c (size (length bytes) low) bytes)
-need_data a b c low bytes few small =
-    let len : field (quadlet_at (to_be_bytes w32 (size (length bytes) low) ++ padded bytes) 0) 0 15 ≡ length bytes =
-    ap (λ q. field q 0 15) (size_of (length bytes) low (padded bytes) few small) ∙ size_len (length bytes) low few small in
-    rw len (data_need (length (with_data a b c (size (length bytes) low) bytes)) (length bytes) (data_length a b c (size (length bytes) low) bytes))
-
-pub spelled_need : (p : Packet) → Fits p → need (spelling p) ≡ length (spelling p)
-spelled_need (WriteQuadlet h o v) fits =
-    let all = spelling (WriteQuadlet h o v) in
-    need_at all 0 (spelled_tcode 0 h (drop 4 all) (omega arith) fits.0) ∙ refl
-spelled_need (WriteBlock h o bytes) fits =
-    let all = spelling (WriteBlock h o bytes) in
-    need_at all 1 (spelled_tcode 1 h (drop 4 all) (omega arith) fits.0)
-    ∙ need_data (packed (head_fields 1 h) 0) (packed ((16, h.source) ∷ (16, o / 2 ^ 32) ∷ []) 0) (o % 2 ^ 32) 0 bytes (omega (arith, fits.2)) (omega arith)
-spelled_need (WriteReply h r) fits =
-    let all = spelling (WriteReply h r) in
-    need_at all 2 (spelled_tcode 2 h (drop 4 all) (omega arith) fits.0) ∙ refl
-spelled_need (ReadQuadlet h o) fits =
-    let all = spelling (ReadQuadlet h o) in
-    need_at all 4 (spelled_tcode 4 h (drop 4 all) (omega arith) fits.0) ∙ refl
-spelled_need (ReadBlock h o len) fits =
-    let all = spelling (ReadBlock h o len) in
-    need_at all 5 (spelled_tcode 5 h (drop 4 all) (omega arith) fits.0) ∙ refl
-spelled_need (ReadQuadletReply h r v) fits =
-    let all = spelling (ReadQuadletReply h r v) in
-    need_at all 6 (spelled_tcode 6 h (drop 4 all) (omega arith) fits.0) ∙ refl
-spelled_need (ReadBlockReply h r bytes) fits =
-    let all = spelling (ReadBlockReply h r bytes) in
-    need_at all 7 (spelled_tcode 7 h (drop 4 all) (omega arith) fits.0)
-    ∙ need_data (packed (head_fields 7 h) 0) (packed ((16, h.source) ∷ (4, r) ∷ (12, 0) ∷ []) 0) 0 0 bytes (omega (arith, fits.2)) (omega arith)
-spelled_need (CycleStart h o time) fits =
-    let all = spelling (CycleStart h o time) in
-    need_at all 8 (spelled_tcode 8 h (drop 4 all) (omega arith) fits.0) ∙ refl
-spelled_need (Lock h o f bytes) fits =
-    let all = spelling (Lock h o f bytes) in
-    need_at all 9 (spelled_tcode 9 h (drop 4 all) (omega arith) fits.0)
-    ∙ need_data (packed (head_fields 9 h) 0) (packed ((16, h.source) ∷ (16, o / 2 ^ 32) ∷ []) 0) (o % 2 ^ 32) f bytes (lock_few f (length bytes) fits.4) (omega (arith, fits.3))
-spelled_need (LockReply h r f bytes) fits =
-    let all = spelling (LockReply h r f bytes) in
-    need_at all 11 (spelled_tcode 11 h (drop 4 all) (omega arith) fits.0)
-    ∙ need_data (packed (head_fields 11 h) 0) (packed ((16, h.source) ∷ (4, r) ∷ (12, 0) ∷ []) 0) 0 f bytes (reply_few (length bytes) fits.4) (omega (arith, fits.3))
-
--- No packet is longer than 528 bytes.
-pub spelled_most : (p : Packet) → Fits p → length (spelling p) ≤ 528
-spelled_most p f = omega (arith, need_most (spelling p) (spelled_none p f), spelled_need p f)
-
-no_more : (n : ℕ) (more : List ℕ) → n + length more ≡ n → more ≡ []
-no_more n more e = nil_from_length more (omega arith)
-
--- No spelling is a proper prefix of another.
-pub no_proper_prefix : (p q : Packet) (more : List ℕ) → Fits p → Fits q → spelling q ≡ spelling p ++ more → more ≡ []
-no_proper_prefix p q more f g e =
-    let done : need (spelling p ++ more) ≡ length (spelling p) = need_done (spelling p) more (sym (spelled_need p f)) in
-    let all : need (spelling p ++ more) ≡ length (spelling p ++ more) = let P : List ℕ → Type 0 = λ s. need s ≡ length s in subst P e (spelled_need q g) in
-    no_more (length (spelling p)) more (sym (length-append (spelling p) more) ∙ sym all ∙ done)

@@ -93,6 +93,8 @@ impl PacketRoom {
     }
 
     /// Puts a packet in place of what was there.
+    // Inlined: where the kind of the packet is known, so is what is put.
+    #[inline(always)]
     pub fn put(&mut self, p: &Packet)
         requires { Fits p.now }
         ensures { self.new ≡ spelling p.now }

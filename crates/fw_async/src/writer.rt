@@ -193,7 +193,7 @@ pub fn write_packet_at(p: &Packet, out: &mut [u8], at: usize) -> usize
 }
 
 /// Writes a packet's bytes over the beginning of `out`, and answers how many they are.
-#[tactic(auto, using(crate::proofs::SpelledLaws::spelled_most))]
+#[tactic(auto, using(crate::proofs::SpelledSizeLaws::spelled_most))]
 pub(crate) fn spell_over(p: &Packet, out: &mut [u8; 528]) -> usize
     requires { Fits p.now }
     ensures bytes { take result out.new ≡ spelling p.now }

@@ -4,7 +4,7 @@ use Rattle.std.proofs.Common.{◌≡◌, ◌⊎◌, ◌==◌, inl, inr, false, c
 use Rattle.std.proofs.lemmas.Option.{same_Some}
 use Rattle.fw_model_account.specs.Account.{Account}
 use Rattle.fw_model_account.specs.Fold.{no_account, next_account, account_from, account_of}
-use Rattle.fw_ledger.specs.declared.tables.Tables.{Tables}
+use Rattle.fw_account_tables.specs.declared.tables.Tables.{Tables}
 use Rattle.fw_model_account.proofs.Fold.{account_from-append}
 use Rattle.fw_model_audit.specs.Looked.{Looked, Other, labelled, looked}
 use Rattle.fw_model_audit.specs.Faults.{HasNoFault, IsVerdict}

@@ -25,16 +25,17 @@ use Rattle.fw_model_audit.specs.Faults.{HasNoFault}
 use Rattle.fw_model_audit.specs.Judged.{judged, judged_answer, judged_at, judged_quadlet, not_allowed, watched_offset}
 use Rattle.fw_model_audit.specs.Looked.{Response, Looked, Asks, Replies, Shows, Happens, Other, looked, quadlet_in, IsAnswer}
 use Rattle.fw_ledger.specs.Refused.{IsAnswered, ShowsAnswer, GoesOn, response_in}
-use Rattle.fw_ledger.specs.Stands.{AskedFor, Follows, StandsFor}
+use Rattle.fw_account_tables.specs.Stands.{AskedFor, Follows, StandsFor}
 use Rattle.fw_ledger.specs.Swapped.{account_swapped, is_lock_of, swap_done}
 use Rattle.fw_ledger.specs.declared.answer.Answer.{Answer}
-use Rattle.fw_ledger.specs.declared.tables.Asked.TheVariants.{Read as ReadAsked, Swap as SwapAsked}
-use Rattle.fw_ledger.specs.declared.tables.Tables.{Tables}
+use Rattle.fw_account_tables.specs.declared.tables.Asked.TheVariants.{Read as ReadAsked, Swap as SwapAsked}
+use Rattle.fw_account_tables.specs.declared.tables.Tables.{Tables}
 use Rattle.fw_ledger.proofs.LockReplies.{lock_goes}
 use Rattle.fw_ledger.proofs.Replies.{IsEnded, reply_labelled, request_labelled, request_shows}
 use Rattle.fw_model_audit.specs.declared.fault.AuditFault.{AuditFault}
 use Rattle.fw_audit.specs.Found.{Judges, StandsAfter}
-use Rattle.fw_audit.proofs.Verdicts.{answer_judged, goes_after, goes_verdict, no_answer_verdict}
+use Rattle.fw_audit.proofs.AnswerLaws.{answer_judged}
+use Rattle.fw_audit.proofs.Verdicts.{goes_after, goes_verdict, no_answer_verdict}
 
 -- a request to read a quadlet was taken
 pub read_clear : (l : Account) (h : Head) (offset : ℕ) (new : Tables) → IsSound l → (h.tl == label_code Procedure) ≡ true

@@ -6,9 +6,9 @@ use Rattle.std.specs.Prelude.{◌≡◌, Option, Some, None, List, Result, Ok, E
 use Rattle.fw_model_account.specs.Account.{Account}
 use Rattle.fw_model_account.specs.Fold.{next_account, account_of}
 use Rattle.fw_ledger.specs.Refused.{ShowsAnswer}
-use Rattle.fw_ledger.specs.Stands.{StandsFor}
+use Rattle.fw_account_tables.specs.Stands.{StandsFor}
 use Rattle.fw_ledger.specs.declared.answer.Answer.{Answer}
-use Rattle.fw_ledger.specs.declared.tables.Tables.{Tables}
+use Rattle.fw_account_tables.specs.declared.tables.Tables.{Tables}
 use Rattle.fw_model_audit.specs.Looked.{looked}
 use Rattle.fw_model_audit.specs.Faults.{HasNoFault, IsVerdict}
 use Rattle.fw_model_audit.specs.Audited.{IsAudited, EndsFaulty}

@@ -7,7 +7,8 @@ ghost use Rattle.fw_model_audit.specs.Looked.{Response, Replies};
 ghost use Rattle.fw_model_audit.specs.Judged.{judged};
 
 use crate::words::{judge_quadlet, not_allowed};
-use fw_ledger::{Answer, Asked};
+use fw_account_tables::Asked;
+use fw_ledger::Answer;
 use fw_model_audit::AuditFault;
 
 /// The fault of an answer that ends a request, if it is complete and at a watched offset: it shows no quadlet, or is to a

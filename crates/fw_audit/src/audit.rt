@@ -8,7 +8,7 @@ ghost use Rattle.fw_log_entry.specs.declared.entry.ShownEntry.{ShownEntry};
 ghost use Rattle.fw_log_entry.specs.Log.{Fits, ResetFits};
 ghost use Rattle.fw_model_account.specs.Account.{Account};
 ghost use Rattle.fw_ledger.specs.Resets.{HasNoNewOutput};
-ghost use Rattle.fw_ledger.specs.Stands.{StandsFor};
+ghost use Rattle.fw_account_tables.specs.Stands.{StandsFor};
 ghost use Rattle.fw_model_audit.specs.Looked.{looked};
 ghost use Rattle.fw_model_audit.specs.Faults.{IsVerdict};
 ghost use Rattle.fw_model_audit.specs.declared.fault.AuditFault.{AuditFault as Fault};

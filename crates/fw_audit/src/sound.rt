@@ -11,16 +11,17 @@ ghost use Rattle.fw_words.specs.declared.swap.TheConstants.{COMPARE_SWAP};
 ghost use Rattle.fw_log_entry.specs.declared.entry.Entry.TheVariants.{Async};
 ghost use Rattle.fw_model_account.specs.Account.{Account};
 ghost use Rattle.fw_ledger.specs.Refused.{GoesOn};
-ghost use Rattle.fw_ledger.specs.Stands.{Stands, StandsFor};
-ghost use Rattle.fw_ledger.specs.Swaps.{IsThere, register_named};
+ghost use Rattle.fw_account_tables.specs.Stands.{Stands, StandsFor};
+ghost use Rattle.fw_account_tables.specs.Swaps.{IsThere, register_named};
 ghost use Rattle.fw_ledger.specs.Swapped.{account_swapped};
 ghost use Rattle.fw_model_audit.specs.Judged.{judged_at, watched_offset};
 ghost use Rattle.fw_audit.specs.Found.{Judges};
 
 use crate::watch::watched_offset;
+use fw_account_tables::{Asked, Register};
 use fw_async::Head;
 use fw_async_glance::{Glance, glance_at};
-use fw_ledger::{Answer, Asked, Ledger, Register};
+use fw_ledger::{Answer, Ledger};
 use fw_terms::Label;
 use fw_words::Swap;
 

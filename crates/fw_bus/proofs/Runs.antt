@@ -18,7 +18,7 @@ use Rattle.fw_model_run.proofs.Recovery.{recovers}
 use Rattle.fw_model_run.proofs.Runs.{run_steps, steps_then}
 use Rattle.fw_model_run.proofs.Sounds.{sound_throughout}
 use Rattle.fw_model_run.proofs.Logs.{cut_opens, run_spells}
-use Rattle.fw_model_run.proofs.Settling.{enough}
+use Rattle.fw_model_run.proofs.EnoughRounds.{enough}
 use Rattle.fw_model_run.proofs.Steps.{steps_good}
 use Rattle.fw_model_run.proofs.Times.{first_good}
 use Rattle.fw_bus_state.specs.declared.machine.Machine.{Machine}

@@ -13,7 +13,8 @@ use Rattle.fw_model_run.specs.Actions.{Ask, Answer, AccessFits, IsSpared}
 use Rattle.fw_bus_state.specs.Orders.{is_guarded, is_guarded_by}
 use Rattle.fw_bus_engine.specs.Transacting.{IsRequest}
 use Rattle.fw_bus_engine.proofs.Asked.{unguarded_follows}
-use Rattle.fw_bus_engine.proofs.Responder.{AnswersBy, answered_by, asks_request, devices_follow, response_is}
+use Rattle.fw_bus_engine.proofs.Responder.{AnswersBy, asks_request, response_is}
+use Rattle.fw_bus_engine.proofs.AnsweredNodes.{answered_by, devices_follow}
 use Rattle.fw_bus_state.proofs.Latest.{on_number}
 use Rattle.fw_model_run.specs.Named.{is_guarded_at}
 

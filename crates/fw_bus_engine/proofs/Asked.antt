@@ -13,7 +13,7 @@ use Rattle.fw_model_run.specs.Named.{is_guarded_at}
 use Rattle.fw_bus_state.specs.Orders.{is_guarded}
 use Rattle.fw_bus_state.proofs.Hearing.{hear_same}
 use Rattle.fw_bus_state.proofs.Lingers.{unchanged_same}
-use Rattle.fw_bus_engine.proofs.Responder.{FollowsRequest}
+use Rattle.fw_bus_engine.proofs.AnsweredNodes.{FollowsRequest}
 
 -- ---- registers that a request of the script leaves
 

@@ -16,15 +16,18 @@ use Rattle.fw_model_run.specs.Elections.{with_candidate}
 use Rattle.fw_model_run.proofs.Bidding.{asked_fits}
 use Rattle.fw_model_run.proofs.Candidates.{candidate_manager}
 use Rattle.fw_model_run.proofs.Grows.{Number}
-use Rattle.fw_model_run.proofs.Contending.{bid_reply}
+use Rattle.fw_model_run.proofs.BidSteps.{bid_reply}
 use Rattle.fw_bus_state.specs.Bids.{candidate_asks, packet_of_bid}
 use Rattle.fw_bus_state.proofs.Wires.{stands_at}
 use Rattle.fw_bus_state.specs.Candidates.{candidate_in}
 use Rattle.fw_bus_engine.specs.Contending.{Contender, BidStands}
 use Rattle.fw_bus_engine.specs.Exchanging.{IsCarriedOut, IsOutstanding}
 use Rattle.fw_bus_state.specs.Stands.{manager_device}
-use Rattle.fw_bus_engine.proofs.Bidding.{Nexts, answers_bid, bidder_lives, known, manager_number, one_stands, own_place, own_same, seat, to_same}
-use Rattle.fw_bus_engine.proofs.Responder.{Response, Stands, answered_by, outstanding, response_written}
+use Rattle.fw_bus_engine.proofs.BidAsks.{Nexts}
+use Rattle.fw_bus_engine.proofs.BidHears.{answers_bid}
+use Rattle.fw_bus_engine.proofs.Bidding.{bidder_lives, known, manager_number, one_stands, own_place, own_same, seat, to_same}
+use Rattle.fw_bus_engine.proofs.Responder.{Response, Stands, outstanding, response_written}
+use Rattle.fw_bus_engine.proofs.AnsweredNodes.{answered_by}
 use Rattle.fw_bus_state.proofs.Besides.{candidate_same}
 
 -- ---- the nodes

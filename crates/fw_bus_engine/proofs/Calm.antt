@@ -10,7 +10,7 @@ use Rattle.fw_model_run.specs.HalfSteps.{is_busy_at}
 use Rattle.fw_model_run.proofs.Idle.{half_stays}
 use Rattle.fw_bus_engine.specs.Performing.{RoundTo, OneRound}
 use Rattle.fw_bus_state.specs.Stands.{EndsAt}
-use Rattle.fw_bus_engine.proofs.Doings.{does_silent}
+use Rattle.fw_bus_engine.proofs.OneAction.{does_silent}
 use Rattle.fw_bus_engine.proofs.Halves.{half_leaves}
 use Rattle.fw_bus_state.proofs.Heard.{lost_same}
 use Rattle.fw_model_run.proofs.Taking.{Taken, listens, keeps_deaf, forces_reset, taken_as}

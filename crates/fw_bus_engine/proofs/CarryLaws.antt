@@ -8,7 +8,7 @@ use Rattle.fw_model_run.specs.Actions.{Finish}
 use Rattle.fw_model_run.specs.Given.{AsksNoDesk}
 use Rattle.fw_model_run.proofs.Given.{carries_given, given_append}
 use Rattle.fw_bus_engine.specs.Framing.{CarriesWithDesk}
-use Rattle.fw_bus_engine.proofs.Doings.{does_as}
+use Rattle.fw_bus_engine.proofs.OneAction.{does_as}
 
 -- if all that was to be done is what the desk gives, so is what was done
 pub given_prefix : {T E : Type 0} {D : DeskRelations} {m now : Machine} {a b : Option (List ℕ)} {k l : ℕ} {r : Result T E} (o : Order)

@@ -24,7 +24,8 @@ use Rattle.fw_model_run.proofs.SendsAll.{can_send_all}
 use Rattle.fw_model_run.proofs.Units.{request_kept}
 use Rattle.fw_bus_engine.specs.Framing.{CarriesWithDesk, Commands, IsWrite}
 use Rattle.fw_bus_state.proofs.DeckNodes.{decks_set}
-use Rattle.fw_bus_engine.proofs.Doings.{Follows, GoesOn, does_as, does_cut}
+use Rattle.fw_bus_engine.proofs.Doings.{Follows, GoesOn, does_cut}
+use Rattle.fw_bus_engine.proofs.OneAction.{does_as}
 use Rattle.fw_bus_engine.proofs.Responder.{AnswersBy, asks_request, response_is}
 use Rattle.fw_bus_state.proofs.Latest.{on_number}
 use Rattle.fw_bus_engine.proofs.ExchangeTurns.{Exchanged, Exchanges}

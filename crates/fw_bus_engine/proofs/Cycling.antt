@@ -13,10 +13,12 @@ use Rattle.fw_model_run.proofs.Counting.{packets_are}
 use Rattle.fw_model_run.proofs.Runs.{carries_steps}
 use Rattle.fw_bus_engine.specs.Cycling.{WritesCycle, WritesCycles}
 use Rattle.fw_bus_engine.specs.Filling.{FillsBy, Gathers, Passes}
-use Rattle.fw_bus_engine.proofs.Desks.{by_where, where_by, where_cut, where_nothing, where_then, where_when}
-use Rattle.fw_bus_engine.proofs.Doings.{GoesOn, faults_then}
+use Rattle.fw_bus_engine.proofs.Desks.{by_where, where_by, where_nothing, where_when}
+use Rattle.fw_bus_engine.proofs.DeskCalls.{where_cut, where_then}
+use Rattle.fw_bus_engine.proofs.Doings.{GoesOn}
+use Rattle.fw_bus_engine.proofs.OneAction.{faults_then}
 use Rattle.fw_bus_engine.proofs.Gathering.{fills_after, gathers_all, gathers_cut, gathers_out}
-use Rattle.fw_bus_engine.proofs.OneCycle.{begun, came, some_device}
+use Rattle.fw_bus_engine.proofs.BegunCycles.{begun, came, some_device}
 use Rattle.fw_model_run.specs.Recording.{heard_in, with_block}
 
 -- ---- cycles one after another

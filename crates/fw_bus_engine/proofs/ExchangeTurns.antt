@@ -28,7 +28,8 @@ use Rattle.fw_bus_engine.proofs.Common.{
 }
 use Rattle.fw_bus_engine.proofs.Common.{at_cycle, at_most, IsGood, State, epoch_of, Machine, Gives, between, StandsFor, Performs, Performed, TakesTwoActions}
 use Rattle.fw_bus_engine.specs.Exchanging.{GivesBoth, CutOff, Second}
-use Rattle.fw_bus_engine.proofs.Doings.{IsNoReset, does_as, faults_then, one_step, talk_steps, two_epoch, two_prefix, two_grew}
+use Rattle.fw_bus_engine.proofs.Doings.{IsNoReset, talk_steps, two_epoch, two_prefix, two_grew}
+use Rattle.fw_bus_engine.proofs.OneAction.{does_as, faults_then, one_step}
 
 -- ---- two entries, of actions that the state decides
 

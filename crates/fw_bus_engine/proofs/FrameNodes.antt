@@ -14,7 +14,7 @@ use Rattle.fw_devices.specs.Decks.{with_tape}
 use Rattle.fw_model_run.specs.Spaces.{manager_words}
 use Rattle.fw_model_run.proofs.FrameWrites.{write_by}
 use Rattle.fw_bus_state.specs.Lingering.{LingersAs}
-use Rattle.fw_bus_engine.proofs.Responder.{FollowsRequest, devices_follow, kinds_set, nodes_set}
+use Rattle.fw_bus_engine.proofs.AnsweredNodes.{FollowsRequest, devices_follow, kinds_set, nodes_set}
 use Rattle.fw_bus_state.proofs.Latest.{on_number}
 use Rattle.fw_bus_state.proofs.Lingers.{lingers_kept, unchanged_same}
 use Rattle.fw_bus_state.proofs.Nodes.{node_kept}

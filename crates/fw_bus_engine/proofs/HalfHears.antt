@@ -20,7 +20,8 @@ use Rattle.fw_model_run.proofs.Apart.{controllers_of, all_hear}
 use Rattle.fw_bus_engine.specs.Serving.{Sent}
 use Rattle.fw_bus_engine.proofs.Exchanges.{Exchange, standing_of, exchange_of, exchange_within, exchange_addresses, carried}
 use Rattle.fw_bus_engine.proofs.HalfNodes.{state_with, answer_follows}
-use Rattle.fw_bus_engine.proofs.Responder.{FollowsRequest, answered_by, asks_request, devices_follow, response_is}
+use Rattle.fw_bus_engine.proofs.AnsweredNodes.{FollowsRequest, answered_by, devices_follow}
+use Rattle.fw_bus_engine.proofs.Responder.{asks_request, response_is}
 use Rattle.fw_model_run.specs.Spaces.{answer_packet}
 use Rattle.fw_bus_state.specs.Stands.{HasDevices, devices_at}
 use Rattle.fw_bus_engine.proofs.HalfTurns.{stands_with, table_with}

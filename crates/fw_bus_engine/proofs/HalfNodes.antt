@@ -13,7 +13,7 @@ use Rattle.fw_model_run.specs.State.{while_talking}
 use Rattle.fw_model_run.specs.Spaces.{manager_words}
 use Rattle.fw_bus_engine.proofs.Places.{HasTarget, Addresses, output_stands, input_stands, same_output, same_input, same_bandwidth, same_half, no_manager_id, managed, manager_is}
 use Rattle.fw_bus_engine.proofs.Swaps.{IsAnswered, follows, passes}
-use Rattle.fw_bus_engine.proofs.Responder.{FollowsRequest}
+use Rattle.fw_bus_engine.proofs.AnsweredNodes.{FollowsRequest}
 use Rattle.fw_model_controllers.specs.Lingering.{LingerUnchanged}
 use Rattle.fw_model_run.specs.Dubs.{dub_between}
 

@@ -1,5 +1,6 @@
 pub mod Common
 pub mod Responder
+pub mod AnsweredNodes
 pub mod FrameNodes
 pub mod FrameTurns
 pub mod Sending
@@ -8,6 +9,7 @@ pub mod Linked
 pub mod TapeTurns
 pub mod Tying
 pub mod CommandTurns
+pub mod OneAction
 pub mod Doings
 pub mod ExchangeTurns
 pub mod Swaps
@@ -44,16 +46,22 @@ pub mod Began
 pub mod NewDevices
 pub mod NewCables
 pub mod SecondTurns
+pub mod SecondEnds
 pub mod Rests
 pub mod Waits
 pub mod Bidding
+pub mod BidAsks
+pub mod BidHears
 pub mod BidNodes
 pub mod BidTimes
 pub mod CarryLaws
 pub mod Gathering
 pub mod Desks
+pub mod DeskCalls
 pub mod CycleTurns
+pub mod PacketTurns
 pub mod Packets
+pub mod BegunCycles
 pub mod OneCycle
 pub mod Cycling
 pub mod Leaves

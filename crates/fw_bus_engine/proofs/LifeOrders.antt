@@ -9,7 +9,8 @@ use Rattle.fw_model_run.specs.Actions.{Die, CarryOut, Start}
 use Rattle.fw_model_run.specs.Afterwards.{after_death}
 use Rattle.fw_model_run.specs.Carrying.{dies, dies_late, dies_idle, starts, goes_on}
 use Rattle.fw_model_run.proofs.Settling.{half_turn}
-use Rattle.fw_bus_engine.proofs.Doings.{Follows, GoesOn, acts_follow, one_step}
+use Rattle.fw_bus_engine.proofs.Doings.{Follows, GoesOn, acts_follow}
+use Rattle.fw_bus_engine.proofs.OneAction.{one_step}
 use Rattle.fw_cmp.specs.Losses.{MayTurn}
 use Rattle.fw_bus_state.proofs.Heard.{may_rest}
 

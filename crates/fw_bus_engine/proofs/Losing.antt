@@ -13,7 +13,8 @@ use Rattle.fw_model_run.specs.Actions.{Lose, TellLoss}
 use Rattle.fw_model_run.specs.Afterwards.{after_loss, stage_of}
 use Rattle.fw_model_run.specs.Carrying.{loses}
 use Rattle.fw_model_run.proofs.Apart.{all_lose}
-use Rattle.fw_bus_engine.proofs.Doings.{Follows, GoesOn, acts_follow, one_step}
+use Rattle.fw_bus_engine.proofs.Doings.{Follows, GoesOn, acts_follow}
+use Rattle.fw_bus_engine.proofs.OneAction.{one_step}
 use Rattle.fw_bus_engine.specs.Serving.{Sent, Serves}
 use Rattle.fw_bus_engine.proofs.HalfHears.{takes_hears}
 use Rattle.fw_bus_engine.proofs.HalfTurns.{table_with}

@@ -18,7 +18,7 @@ use Rattle.fw_bus_state.specs.Orders.{joins_in}
 use Rattle.fw_bus_engine.proofs.Began.{MayBegin}
 use Rattle.fw_bus_engine.proofs.ResetTurns.{reset_of, some_nodes, ready_on, counting_in, few_epochs}
 use Rattle.fw_bus_state.proofs.Standing.{resets_stand}
-use Rattle.fw_bus_engine.proofs.Doings.{does_one}
+use Rattle.fw_bus_engine.proofs.OneAction.{does_one}
 use Rattle.fw_bus_state.specs.Stands.{seen}
 
 -- what a cable between these ends makes of the devices, of which the first is on the bus or not, and the second

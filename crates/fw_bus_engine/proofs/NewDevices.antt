@@ -37,7 +37,7 @@ use Rattle.fw_bus_state.proofs.Renumbered.{extends_declared}
 use Rattle.fw_bus_engine.proofs.Began.{MayBegin}
 use Rattle.fw_bus_engine.proofs.ResetTurns.{reset_of}
 use Rattle.fw_bus_state.proofs.Standing.{resets_stand}
-use Rattle.fw_bus_engine.proofs.Doings.{does_one}
+use Rattle.fw_bus_engine.proofs.OneAction.{does_one}
 use Rattle.fw_model_run.proofs.Around.{more_beside}
 use Rattle.fw_bus_state.proofs.Hearing.{hearers_declared}
 use Rattle.fw_bus_state.specs.Stands.{seen}

@@ -17,7 +17,8 @@ use Rattle.fw_bus_engine.specs.Cycling.{SendsHeard, HearsTo, heard_among}
 use Rattle.fw_bus_state.specs.Recording.{hearing_of}
 use Rattle.fw_bus_engine.specs.Resetting.{passed_in}
 use Rattle.fw_bus_state.proofs.DeckNodes.{mapped_at}
-use Rattle.fw_bus_engine.proofs.Desks.{LeadsTo, where_nothing, where_then, where_when}
+use Rattle.fw_bus_engine.proofs.DeskCalls.{LeadsTo, where_then}
+use Rattle.fw_bus_engine.proofs.Desks.{where_nothing, where_when}
 use Rattle.fw_bus_engine.proofs.Doings.{Follows}
 use Rattle.fw_bus_state.proofs.Talking.{talker_is, talks_here}
 use Rattle.fw_model_run.specs.Recording.{block_among, block_of}

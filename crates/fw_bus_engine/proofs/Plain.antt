@@ -15,7 +15,7 @@ use Rattle.fw_bus_engine.specs.Filling.{Fills}
 use Rattle.fw_bus_engine.specs.Playing.{ahead, counts_ahead, nodes_ahead, recorded}
 use Rattle.fw_bus_engine.proofs.CycleTurns.{comes_alone, started}
 use Rattle.fw_bus_engine.proofs.Doings.{ready_after}
-use Rattle.fw_bus_engine.proofs.OneCycle.{begun_in, root_few}
+use Rattle.fw_bus_engine.proofs.BegunCycles.{begun_in, root_few}
 use Rattle.fw_bus_engine.proofs.SecondTurns.{passed_by}
 use Rattle.fw_bus_engine.proofs.Steady.{recording_stays, rooted_here}
 

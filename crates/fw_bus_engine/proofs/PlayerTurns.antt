@@ -16,8 +16,8 @@ use Rattle.fw_bus_engine.specs.declared.cycle_streams.TalkingPlug.{TalkingPlug}
 use Rattle.fw_bus_engine.specs.Cycling.{HearsTo, PutsIntoRoom}
 use Rattle.fw_bus_engine.specs.Playing.{AreTalkingPlugs, IsAt, IsTalkingPlug, TakesTurn, ahead, counts_ahead, nodes_ahead}
 use Rattle.fw_bus_engine.proofs.Ahead.{may_back, tape_passed}
-use Rattle.fw_bus_engine.proofs.CycleTurns.{ready_talker, packet_done}
-use Rattle.fw_bus_engine.proofs.Doings.{no_faults}
+use Rattle.fw_bus_engine.proofs.PacketTurns.{ready_talker, packet_done}
+use Rattle.fw_bus_engine.proofs.OneAction.{no_faults}
 use Rattle.fw_bus_engine.proofs.Packets.{packets_none, packets_skip, packets_then, packets_whole, talkers_pass, unheard_same}
 use Rattle.fw_bus_engine.proofs.Players.{past_end, turned}
 

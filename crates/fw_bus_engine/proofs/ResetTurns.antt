@@ -10,7 +10,7 @@ use Rattle.fw_model_run.specs.Afterwards.{after_reset_entry, counting}
 use Rattle.fw_model_run.proofs.Cables.{on_is_bus, on_some}
 use Rattle.fw_bus_state.proofs.WireResets.{wire_empty, reset_stands_none}
 use Rattle.fw_bus_state.proofs.Renumbered.{manager_reset, kinds_reset}
-use Rattle.fw_bus_engine.proofs.Doings.{does_one}
+use Rattle.fw_bus_engine.proofs.OneAction.{does_one}
 use Rattle.fw_bus_state.proofs.Standing.{resets_stand}
 use Rattle.fw_bus_engine.proofs.Began.{MayBegin, entry_is, first_is, resets_now, nodes_now, lingering_now, hearers_now, decks_now, directory_now, table_now, streams_now}
 use Rattle.fw_bus_state.specs.Bids.{HasBids}

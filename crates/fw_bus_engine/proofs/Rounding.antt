@@ -5,7 +5,8 @@ use Rattle.fw_bus_engine.proofs.Common.{MOST_HALF_STEPS, State, is_living, numbe
 use Rattle.fw_bus_engine.proofs.Common.{living_same}
 use Rattle.std.proofs.lemmas.List.{map-append, length-append}
 use Rattle.fw_bus_engine.specs.Performing.{RoundTo, OneRound}
-use Rattle.fw_bus_engine.proofs.Doings.{GoesOn, Follows, does_when, does_cut, does_nothing, does_then}
+use Rattle.fw_bus_engine.proofs.Doings.{GoesOn, Follows, does_cut, does_then}
+use Rattle.fw_bus_engine.proofs.OneAction.{does_when, does_nothing}
 use Rattle.fw_bus_engine.proofs.Halves.{AllLive, all_live, all_live_still, halves_after, halves_given}
 use Rattle.fw_bus_state.proofs.Living.{living_list}
 use Rattle.fw_bus_state.proofs.Numbers.{numbers_prefix, numbers_more}

@@ -28,7 +28,8 @@ use Rattle.fw_model_run.specs.Carrying.{SendsAll, quiet, sends}
 use Rattle.fw_model_run.specs.Frames.{next_told}
 use Rattle.fw_model_run.proofs.SendsAll.{can_send_all, sent_less}
 use Rattle.fw_bus_engine.specs.Framing.{SendsNext, SendsFirst, frames_of}
-use Rattle.fw_bus_engine.proofs.Doings.{Follows, GoesOn, does_cut, does_nothing, does_then, no_faults}
+use Rattle.fw_bus_engine.proofs.Doings.{Follows, GoesOn, does_cut, does_then}
+use Rattle.fw_bus_engine.proofs.OneAction.{does_nothing, no_faults}
 use Rattle.fw_bus_engine.proofs.FrameTurns.{next_is, quiet_stands, taken_of}
 
 -- ---- results

@@ -11,7 +11,8 @@ use Rattle.fw_model_run.specs.Actions.{Rest, Unsettled}
 use Rattle.fw_model_run.specs.Carrying.{Rounds}
 use Rattle.fw_model_run.proofs.Runs.{rounds_steps}
 use Rattle.fw_bus_engine.specs.Performing.{TellsUnsettled, OneRound, RoundsFirst, SomeRounds}
-use Rattle.fw_bus_engine.proofs.Doings.{GoesOn, Follows, does_as, does_cut, does_nothing, does_then, no_faults, one_step}
+use Rattle.fw_bus_engine.proofs.Doings.{GoesOn, Follows, does_cut, does_then}
+use Rattle.fw_bus_engine.proofs.OneAction.{does_as, does_nothing, no_faults, one_step}
 use Rattle.fw_bus_engine.proofs.Halves.{halves_after, living_still, rounds_given}
 use Rattle.fw_bus_state.proofs.Living.{living_list}
 use Rattle.fw_model_run.proofs.Taking.{Taken, listens, keeps_deaf, forces_reset, taken_as}

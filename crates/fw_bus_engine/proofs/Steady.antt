@@ -20,7 +20,7 @@ use Rattle.fw_bus_state.specs.Recording.{recording_in, recording_by, recording_o
 use Rattle.fw_bus_state.proofs.DeckNodes.{mapped_at}
 use Rattle.fw_bus_state.proofs.Listening.{listens, listens_now, no_tape, no_unit, off_bus, recorded_at, tied_records}
 use Rattle.fw_bus_engine.proofs.Ahead.{system_same, transport_same}
-use Rattle.fw_bus_engine.proofs.OneCycle.{root_of}
+use Rattle.fw_bus_engine.proofs.BegunCycles.{root_of}
 
 -- ---- the root
 

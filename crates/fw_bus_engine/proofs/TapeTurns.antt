@@ -22,7 +22,8 @@ use Rattle.fw_model_run.proofs.Units.{tape_kept, tape_is}
 use Rattle.fw_bus_state.specs.Orders.{has_deck_in}
 use Rattle.fw_bus_state.proofs.Living.{few_devices as few_names}
 use Rattle.fw_bus_state.proofs.DeckNodes.{decks_set}
-use Rattle.fw_bus_engine.proofs.Doings.{Follows, GoesOn, does_cut, does_nothing}
+use Rattle.fw_bus_engine.proofs.Doings.{Follows, GoesOn, does_cut}
+use Rattle.fw_bus_engine.proofs.OneAction.{does_nothing}
 use Rattle.fw_bus_engine.proofs.FrameNodes.{with_node, with_decks, deck_stands, off_waits, tape_registers}
 use Rattle.fw_bus_engine.proofs.Sending.{all_steps}
 

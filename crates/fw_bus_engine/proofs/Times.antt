@@ -4,7 +4,8 @@ use Rattle.fw_bus_engine.proofs.Common.{Timed, MOST_HALF_STEPS, State, is_living
 use Rattle.fw_bus_engine.proofs.Common.{IsGood, Machine, between, is_living_in, Performs, Performed, living_same}
 use Rattle.fw_bus_engine.proofs.Common.{StandsFor, Transition, steps_then}
 use Rattle.std.proofs.Common.{add-one}
-use Rattle.fw_bus_engine.proofs.Doings.{GoesOn, acts_follow, does_cut, does_none, does_then, one_step}
+use Rattle.fw_bus_engine.proofs.Doings.{GoesOn, acts_follow, does_cut, does_then}
+use Rattle.fw_bus_engine.proofs.OneAction.{does_none, one_step}
 use Rattle.fw_bus_engine.proofs.Halves.{half_given, half_leaves}
 
 -- ---- the same action so many times

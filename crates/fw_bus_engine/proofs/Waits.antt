@@ -7,7 +7,8 @@ use Rattle.fw_model_run.specs.Afterwards.{after_cycles, after_second}
 use Rattle.fw_model_run.specs.Carrying.{waits, waits_over}
 use Rattle.fw_model_run.proofs.Times.{second_ends}
 use Rattle.fw_bus_engine.specs.Resetting.{RestsAfterSecond}
-use Rattle.fw_bus_engine.proofs.Doings.{GoesOn, one_step, does_as, does_silent, does_then, does_cut, acts_follow, ready_after}
+use Rattle.fw_bus_engine.proofs.Doings.{GoesOn, does_then, does_cut, acts_follow, ready_after}
+use Rattle.fw_bus_engine.proofs.OneAction.{one_step, does_as, does_silent}
 use Rattle.fw_bus_engine.proofs.SecondTurns.{pass_turns, passed_by}
 
 -- ---- what is known of the time

@@ -40,7 +40,7 @@ pub(crate) fn send(
     wire.put_bytes(from, packet);
 }
 
-/// The request of node `from` that stands on the wire: the node that it goes to reads its bytes off the wire and carries it out. The
+/// The request of node `from` that is on the wire: the node that it goes to reads its bytes off the wire and carries it out. The
 /// device of that node, and the reply in the response, whose bytes are in the room then.
 #[inline(always)]
 pub(crate) fn serve(

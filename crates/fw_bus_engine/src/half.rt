@@ -109,7 +109,7 @@ fn ask_other<K: Sink>(
     }
 }
 
-/// A request stands: it is carried out, and the response is written. The controller does not hear it, which counts as a bus
+/// A request is outstanding: it is carried out, and the response is written. The controller does not hear it, which counts as a bus
 /// reset.
 pub(crate) fn lose_response<K: Sink>(
     machine: &mut Machine,

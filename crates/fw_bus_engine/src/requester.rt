@@ -14,19 +14,19 @@ use fw_outside::{Failed, Sink};
 
 /// Who makes requests, half step by half step: the controllers of devices, or their candidates for the bus manager.
 pub(crate) trait Requester {
-    /// That of a device may take a half step.
+    /// The requester of a device may take a half step.
     ghost May: { Holds };
 
-    /// A request of it stands.
+    /// A request of it is outstanding.
     ghost Awaits: { Holds };
 
-    /// None stands, and it may say what it does next.
+    /// None is outstanding, and it may say what it does next.
     ghost Rests: { Holds };
 
     /// Its half step leads from the one machine to the other, before it is counted, and this is to be written of it.
     ghost Turns: { Turn };
 
-    /// Whether a request of it stands.
+    /// Whether a request of it is outstanding.
     fn has_request(machine: &Machine, device: u8) -> bool
         requires ready { IsReady machine.now }
         requires may { May machine.now device }
@@ -39,7 +39,7 @@ pub(crate) trait Requester {
         requires awaits { Awaits machine.old device }
         ensures { (p : AsyncPacket) × Spells p packet.new × Turns machine.old machine.new device (Some (Async p)) };
 
-    /// What it does next is written. A request that goes out stands on the wire then.
+    /// What it does next is written. A request that goes out is on the wire then.
     fn ask<K: Sink>(
         machine: &mut Machine,
         device: u8,
@@ -70,7 +70,7 @@ pub(crate) fn turn<R: Requester, K: Sink>(
     }
 }
 
-/// A request stands: it is carried out, and the response is written.
+/// A request is outstanding: it is carried out, and the response is written.
 #[inline(always)]
 pub(crate) fn hear<R: Requester, K: Sink>(
     machine: &mut Machine,

@@ -87,14 +87,15 @@ fn round<K: Sink>(
     Ok(())
 }
 
-/// Rounds in which no controller has anything to do: they do nothing, and are counted.
-fn rest(machine: &mut Machine, rounds: u32)
+/// Rounds in which no controller has anything to do: they do nothing, and are counted. `each` is how many controllers live.
+fn rest(machine: &mut Machine, rounds: u32, each: u32)
     requires ready { IsReady machine.old }
+    requires each { each ≡ length (living_in machine.old) }
     requires calm { (s : State) → IsGood s → StandsFor machine.old s → IsFalse (is_unsettled s) }
     requires few { machine.old.half_steps + rounds * length (living_in machine.old) ≤ MOST_HALF_STEPS }
     ensures { machine.new ≡ record machine.old { half_steps = machine.old.half_steps + rounds * length (living_in machine.old) } }
 {
-    machine.half_steps += rounds * machine.living();
+    machine.half_steps += rounds * each;
 }
 
 /// Whether a controller has something to do, or waits for an answer. Mostly the last does that a round has to look at, and only if
@@ -132,7 +133,7 @@ pub(crate) fn rounds<K: Sink>(
     for i in 0..count {
         end = round_end(machine, &living, end);
         if !is_unsettled(machine, &living, end) {
-            rest(machine, count - i);
+            rest(machine, count - i, each);
             return Ok(());
         }
         round(machine, &living, each, end, room, sink)?;

@@ -1,5 +1,6 @@
 pub mod LifeRules
 pub mod FirstBroken
+pub mod TransactionRules
 pub mod DeckRules
 pub mod CandidateRules
 pub mod ConnectionRules

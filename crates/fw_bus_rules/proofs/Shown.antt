@@ -28,7 +28,7 @@ use Rattle.fw_bus_state.specs.declared.machine.Machine.{Machine}
 use Rattle.fw_bus_state.specs.Orders.{joins_in}
 use Rattle.fw_bus_state.specs.Stands.{StandsFor, manager_device, read_in}
 use Rattle.fw_bus_rules.proofs.ConnectionRules.{is_named}
-use Rattle.fw_bus_rules.proofs.FirstBroken.{show_off}
+use Rattle.fw_bus_rules.proofs.TransactionRules.{show_off}
 use Rattle.fw_bus_state.proofs.Nodes.{is_node_same, read_same}
 
 -- ---- the manager

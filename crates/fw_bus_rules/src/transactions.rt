@@ -17,6 +17,7 @@ use fw_csr::low_offset::{
 use fw_order::{Access, Order, RuleFault, Transaction};
 use fw_script_command::Name;
 
+#[inline(always)]
 pub(crate) fn decide_transaction(
     machine: &Machine,
     from: &Name,

@@ -1,45 +1,18 @@
--- A bus at which a controller can go on is one at which it can go on after each of its steps, and after a bus reset each bus is.
-use Rattle.fw_cmp.proofs.Common.{◌≡◌, ◌≢◌, ℕ, ◌<◌, ◌≤◌, Bool, true, false, List, length, ap, sym, ◌∙◌, arith, Option, Some, None, ◌⊎◌, inl, inr, ◌&&◌, ⊤, if◌then◌else◌, cases_eq, Reply, Connection}
-use Rattle.fw_cmp.proofs.Common.{
-  Flow,
-  Slot,
-  Free,
-  Making,
-  Established,
-  Restoring,
-  Gone,
-  Current,
-  Nothing,
-  Asking,
-  Hearing,
-  Overtaken,
-  WaitingJob,
-  Directory,
-  Job,
-  Purpose,
-  Make,
-  Restore,
-  Break,
-  find_to_is,
-}
-use Rattle.fw_cmp.proofs.Common.{IsFirst, Access, Stage, Begin, ReadInput, Made, Ended, ControllerState, slot_at, with_slot, is_free, Fits, CurrentFits, restores, CurrentReached, CanGoOn, access_of}
-use Rattle.fw_cmp.proofs.Common.{IsMaking, break_fault, after_hear, heard, current_reset, slot_reset, after_reset, slot_over, lost_reset, after_answer, after_next, picked, resumed_current}
+-- A bus at which a controller can go on is one at which it can go on after each of its steps.
+use Rattle.fw_cmp.proofs.Common.{◌≡◌, ◌≢◌, ℕ, ◌<◌, Bool, true, false, List, length, ap, sym, ◌∙◌, arith, Option, Some, None, ◌⊎◌, inl, inr, ◌&&◌, ⊤, if◌then◌else◌, cases_eq, Reply, Connection, Flow}
+use Rattle.fw_cmp.proofs.Common.{Slot, Free, Making, Established, Restoring, Gone, Current, Nothing, Asking, Hearing, Overtaken, WaitingJob, Directory, Job, find_to_is, IsFirst, Access, Stage, Begin}
+use Rattle.fw_cmp.proofs.Common.{ReadInput, Made, Ended, ControllerState, slot_at, with_slot, is_free, Fits, CurrentFits, restores, CurrentReached, CanGoOn, access_of, IsMaking, break_fault}
+use Rattle.fw_cmp.proofs.Common.{after_hear, heard, after_answer, after_next, picked, resumed_current}
 use Rattle.std.proofs.Common.{◌==◌, Ok, Err}
 use Rattle.std.specs.Prelude.{Result}
-use Rattle.std.proofs.lemmas.Bool.{cases_lt}
-use Rattle.std.proofs.lemmas.List.{get_or_past, get_or-replicate, length-replicate}
-use Rattle.fw_cmp_jobs.specs.declared.outcome.Outcome.TheVariants.{Reset}
 use Rattle.fw_cmp.specs.declared.outcome.StartFault.{StartFault}
 use Rattle.fw_cmp.specs.declared.outcome.StartFault.TheVariants.{TableFull, Busy}
-use Rattle.fw_cmp.specs.Controllers.{first_state, break_waits}
+use Rattle.fw_cmp.specs.Controllers.{break_waits}
 use Rattle.fw_cmp.specs.Holdings.{IsReached, StageReached}
 use Rattle.fw_cmp.specs.Starts.{OkWithin, free_slot, is_crowded, start_at, start, started, with_task, break_started}
 use Rattle.fw_cmp_jobs.specs.Stages.{hear, refuse, hear_reply}
-use Rattle.fw_cmp.specs.Resets.{overtaken, after_second, after_lost_reset, state_reset}
 use Rattle.fw_cmp.specs.Turns.{ended, after_asking}
-use Rattle.fw_cmp.proofs.Ended.{after_stop}
 use Rattle.fw_cmp.proofs.Fitting.{slot_here, slot_elsewhere}
-use Rattle.fw_cmp.proofs.Overtaken.{slot_at_reset, slot_at_over}
 use Rattle.fw_cmp.proofs.Picking.{picked_fits, picked_goes_on}
 use Rattle.fw_cmp.proofs.Ready.{ready_reached}
 
@@ -169,92 +142,3 @@ connection_goes_on d c s fits making h = go (free_slot c) (find_to_is 32 (λ i. 
     go : (o : Option ℕ) → IsFirst 32 (λ i. is_free (slot_at c i)) o → CanGoOn d (started (start_at o c) s c)
     go None first = start_goes_on d c (Err TableFull) s making tt fits.slots h
     go (Some i) first = crowded i (is_crowded c) first.0
-
--- ---- the end of the reclaim second
-
-over_standing : (s : Slot) (conn : Connection) (f : Flow) → slot_over s ≡ Established conn f → s ≡ Established conn f
-over_standing Free conn f e = e
-over_standing (Making x asked overhead) conn f e = e
-over_standing (Established x y) conn f e = e
-over_standing (Restoring x y over) conn f e = cc
-over_standing (Gone x) conn f e = e
-
-pub second_goes_on : (d : Directory) (c : ControllerState) → CanGoOn d c → CanGoOn d (after_second c)
-second_goes_on d c h = record { standing = λ i conn f e. h.standing i conn f (over_standing (slot_at c i) conn f (sym (slot_at_over c.slots i) ∙ e)); current = h.current }
-
--- ---- a bus reset
-
-reset_standing : (s : Slot) (conn : Connection) (f : Flow) → slot_reset s ≡ Established conn f → ⊥
-reset_standing Free conn f e = cc
-reset_standing (Making x asked overhead) conn f e = cc
-reset_standing (Established x y) conn f e = cc
-reset_standing (Restoring x y over) conn f e = cc
-reset_standing (Gone x) conn f e = cc
-
-decided_reached : (d : Directory) (c : ControllerState) (j : Job) (p : Purpose) → CurrentReached d c.current
-    → CurrentReached d (elim p as (λ _. ControllerState) [ Make ↦ c | Restore ↦ c | Break ↦ with_slot c j.slot (Gone j.connection) ]).current
-decided_reached d c j Make h = h
-decided_reached d c j Restore h = h
-decided_reached d c j Break h = h
-
-interrupted_reached : (d : Directory) (epoch : ℕ) (c : ControllerState) (j : Job) (p : Purpose)
-    → CurrentReached d (elim p as (λ _. ControllerState) [
-      | Make ↦ after_stop c j Free (Overtaken j.slot (Reset epoch))
-      | Restore ↦ record c { current = Asking j Begin }
-      | Break ↦ after_stop c j Free
-          (Overtaken j.slot (Reset epoch))
-    ]).current
-interrupted_reached d epoch c j Make = tt
-interrupted_reached d epoch c j Restore = tt
-interrupted_reached d epoch c j Break = tt
-
-overtaken_reached : (d : Directory) (epoch : ℕ) (ss : List Slot) (ts : List WaitingJob) (j : Job) (s : Stage) (hears : Bool)
-    → let c : ControllerState = record { slots = ss; waiting = ts; current = (if hears then Hearing j s else Asking j s) } in CurrentReached d (overtaken epoch c j s).current
-overtaken_reached d epoch ss ts j (Made f) b = tt
-overtaken_reached d epoch ss ts j (Ended e) true = decided_reached d (record { slots = ss; waiting = ts; current = Hearing j (Ended e) }) j j.purpose tt
-overtaken_reached d epoch ss ts j (Ended e) false = decided_reached d (record { slots = ss; waiting = ts; current = Asking j (Ended e) }) j j.purpose tt
-overtaken_reached d epoch ss ts j s b = interrupted_reached d epoch (record { slots = ss; waiting = ts; current = (if b then Hearing j s else Asking j s) }) j j.purpose
-
-current_reset_reached : (d : Directory) (epoch : ℕ) (ss : List Slot) (ts : List WaitingJob) (cur : Current)
-    → CurrentReached d (current_reset epoch (record { slots = ss; waiting = ts; current = cur }) cur).current
-current_reset_reached d epoch ss ts Nothing = tt
-current_reset_reached d epoch ss ts (Asking j s) = overtaken_reached d epoch ss ts j s false
-current_reset_reached d epoch ss ts (Hearing j s) = overtaken_reached d epoch ss ts j s true
-current_reset_reached d epoch ss ts (Overtaken i o) = tt
-
--- after a bus reset a controller can go on at each bus
-pub reset_goes_on : (d : Directory) (epoch : ℕ) (c : ControllerState) → CanGoOn d (after_reset epoch c)
-reset_goes_on d epoch c =
-    let r : ControllerState = current_reset epoch c c.current in
-    record {
-      standing = λ i conn f e. absurd (reset_standing (slot_at r i) conn f (sym (slot_at_reset r.slots i) ∙ e));
-      current = current_reset_reached d epoch c.slots c.waiting c.current;
-    }
-
-lost_reset_reached : (d : Directory) (epoch : ℕ) (ss : List Slot) (ts : List WaitingJob) (cur : Current)
-    → CurrentReached d (lost_reset epoch (record { slots = ss; waiting = ts; current = cur }) cur).current
-lost_reset_reached d epoch ss ts Nothing = tt
-lost_reset_reached d epoch ss ts (Asking j s) = interrupted_reached d epoch (record { slots = ss; waiting = ts; current = Asking j s }) j j.purpose
-lost_reset_reached d epoch ss ts (Hearing j s) = interrupted_reached d epoch (record { slots = ss; waiting = ts; current = Hearing j s }) j j.purpose
-lost_reset_reached d epoch ss ts (Overtaken i o) = tt
-
--- the same if the response to its request was lost
-pub lost_reset_goes_on : (d : Directory) (epoch : ℕ) (c : ControllerState) → CanGoOn d (after_lost_reset epoch c)
-lost_reset_goes_on d epoch c =
-    let r : ControllerState = lost_reset epoch c c.current in
-    record {
-      standing = λ i conn f e. absurd (reset_standing (slot_at r i) conn f (sym (slot_at_reset r.slots i) ∙ e));
-      current = lost_reset_reached d epoch c.slots c.waiting c.current;
-    }
-
-pub state_reset_goes_on : (d : Directory) (epoch : ℕ) (lost : Bool) (c : ControllerState) → CanGoOn d (state_reset epoch lost c)
-state_reset_goes_on d epoch true c = lost_reset_goes_on d epoch c
-state_reset_goes_on d epoch false c = reset_goes_on d epoch c
-
--- at first a controller can go on at each bus
-pub first_goes_on : (d : Directory) → CanGoOn d first_state
-first_goes_on d = record { standing = λ i conn f e. let free : slot_at first_state i ≡ Free = free_slot i (cases_lt i 32) in cc; current = tt }
-  where
-    free_slot : (i : ℕ) → (i < 32) ⊎ (32 ≤ i) → slot_at first_state i ≡ Free
-    free_slot i (inl lt) = get_or-replicate 32 i Free Free lt
-    free_slot i (inr le) = get_or_past first_state.slots i Free (omega (arith, length-replicate 32 Free))

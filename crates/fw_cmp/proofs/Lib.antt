@@ -6,8 +6,10 @@ pub mod Going
 pub mod Ready
 pub mod Ended
 pub mod Overtaken
+pub mod SlotsReset
 pub mod Busy
 pub mod GoingOn
+pub mod ResetGoesOn
 pub mod Resting
 pub mod Outcomes
 pub mod OfAnswers

@@ -1,6 +1,6 @@
 //! How a job begins, when a restoring comes too late, and how a job ends.
 
-ghost use Rattle.std.specs.Prelude.{◌≡◌, IsFalse};
+ghost use Rattle.std.specs.Prelude.{◌≡◌, ◌≢◌, IsFalse, IsTrue};
 ghost use Rattle.fw_cmp_jobs.specs.Fits.{JobFits, StageFits, FlowFits, SlotFits};
 ghost use Rattle.fw_cmp_jobs.specs.Jobs.{outcome_for, made_outcome, outcome_of};
 ghost use Rattle.fw_cmp_jobs.specs.Jobs.{own_flow, begin_making, begin_leaving, begin_breaking, begin, is_undecided, is_over, is_late, resumed};
@@ -139,7 +139,8 @@ impl Job {
 
     /// Whether the job goes on from another stage than this one: it begins, or is late; `slot` is its slot.
     pub fn moves_on(&self, slot: &Slot, stage: &Stage) -> bool
-        ensures { (d : BusDirectory) → IsFalse result → resumed d slot.now self.now stage.now ≡ stage.now }
+        ensures stays { (d : BusDirectory) → IsFalse result → resumed d slot.now self.now stage.now ≡ stage.now }
+        ensures moves { (d : BusDirectory) → IsTrue result → resumed d slot.now self.now stage.now ≢ stage.now }
     {
         match stage {
             Stage::Begin => true,

@@ -12,6 +12,8 @@ use fw_csr::Reply;
 
 impl Job {
     /// The stage that follows an answer.
+    // Inlined, as `heard`: each second half step hears, and the stage is then not passed by memory.
+    #[inline(always)]
     pub fn hear(&self, stage: &Stage, r: &Reply) -> Stage
         requires job { JobFits self.now }
         requires fits { StageFits self.now stage.now }
@@ -39,6 +41,7 @@ impl Job {
 
     /// The stage that follows a complete answer with this word. A swap has succeeded exactly if the word equals
     /// its argument.
+    #[inline(always)]
     fn heard(&self, stage: &Stage, word: u32) -> Stage
         requires job { JobFits self.now }
         requires fits { StageFits self.now stage.now }

@@ -19,10 +19,10 @@ pub use Rattle.fw_holders.specs.Told.{Holds, HolderState, TakesMore, holders, li
 unfoldable pub use Rattle.fw_holders.specs.Told.{line, rest_of_line}
 pub use Rattle.fw_holders.specs.declared.judged.Judged.{Judged}
 pub use Rattle.fw_ledger.specs.Refused.{IsAnswered, ShowsAnswer}
-pub use Rattle.fw_ledger.specs.Stands.{SeatsFor, StandsFor}
+pub use Rattle.fw_account_tables.specs.Stands.{SeatsFor, StandsFor}
 pub use Rattle.fw_ledger.specs.declared.answer.Answer.{Answer}
-pub use Rattle.fw_ledger.specs.declared.tables.Seats.{Seats}
-pub use Rattle.fw_ledger.specs.declared.tables.Tables.{Tables}
+pub use Rattle.fw_account_tables.specs.declared.tables.Seats.{Seats}
+pub use Rattle.fw_account_tables.specs.declared.tables.Tables.{Tables}
 pub use Rattle.fw_holders_text.specs.Names.{nodes_of, right}
 pub use Rattle.fw_words.specs.Quadlet.{field}
 pub use Rattle.std.proofs.Common.{Bool, List, None, Ok, OnOk, Option, Some, [], ap, arith, codes, cond, decimal, false, length, nat_lt, refl, slice_index, subst, sym, true, ℕ, ◌++◌, ◌+◌, ◌<◌, ◌==◌}

@@ -9,7 +9,7 @@ use Rattle.fw_terms.specs.Tables.{sum_plugs}
 use Rattle.fw_terms.proofs.Tables.{sum_to_same, sum_to_at}
 use Rattle.fw_model_account.specs.Account.{Connections, Owner, is_there}
 use Rattle.fw_model_account.specs.Decode.{is_owner}
-use Rattle.fw_ledger.specs.Stands.{seats_at, owner_of}
+use Rattle.fw_account_tables.specs.Stands.{seats_at, owner_of}
 use Rattle.fw_holders.specs.Deeds.{ends_at}
 use Rattle.fw_holders.specs.Seated.{ends_if}
 

@@ -1,6 +1,6 @@
 -- What the tables have is what is held in the account that they stand for.
 use Rattle.fw_holders.proofs.Common.{◌≡◌, Option, Some, None, ResetEntry, Account, StandsFor, Tables, nodes_of}
-use Rattle.fw_ledger.specs.Stands.{ShowsReset}
+use Rattle.fw_account_tables.specs.Stands.{ShowsReset}
 
 -- the nodes
 pub nodes_shown : (t : Tables) (l : Account) → StandsFor t l → t.nodes ≡ nodes_of l.latest

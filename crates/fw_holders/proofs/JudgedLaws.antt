@@ -2,7 +2,7 @@
 use Rattle.fw_holders.proofs.Common.{◌≡◌, Some, sym, ap, ◌∙◌, subst, Entry, Reset, Async, Iso, Account, Request, Looked, Asks, Replies, Shows, Happens, Other, Response, looked, looked_packet}
 use Rattle.fw_holders.proofs.Common.{ShowsAnswer, IsAnswered, Answer, Judged, packet_judged, entry_judged}
 use Rattle.fw_log_entry.specs.declared.entry.Entry.TheVariants.{Event, Outcome, Shown, End}
-use Rattle.fw_ledger.specs.Stands.{AskedFor}
+use Rattle.fw_account_tables.specs.Stands.{AskedFor}
 use Rattle.fw_holders.specs.Counts.{answer_judged, response_judged}
 
 -- a response counts by the request that it ends

@@ -13,3 +13,4 @@ pub mod CountLaws
 pub mod HoldsLaws
 pub mod QuietLaws
 pub mod TakeLaws
+pub mod LatestLaws

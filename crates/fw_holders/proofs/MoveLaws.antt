@@ -12,9 +12,9 @@ use Rattle.fw_model_account.specs.Decode.{can, changed_bit, is_more, kind_of, un
 use Rattle.fw_model_account.specs.Decode.{at_addressed, held_for, decoded, same_register, register_of_move, allowed, move_at}
 use Rattle.fw_model_account.specs.Moves.{Move, AllocateChannel, AllocateUnits, ConnectFirst, ConnectOverlaid, ConnectInput, DisconnectInput, DisconnectOutput, ReleaseUnits, ReleaseChannel, after}
 use Rattle.fw_model_account.specs.Words.{Register, BandwidthAvailable, ChannelsAvailable, OutputPlug, InputPlug, word_of, fields_at, input_fields_at}
-use Rattle.fw_ledger.proofs.PlugSwaps.{output_shows, input_shows, connected_is}
-use Rattle.fw_holders.specs.declared.deed.Deed.{Deed}
-use Rattle.fw_holders.specs.declared.deed.Deed.TheVariants.{TakesChannel, TakesUnits, GivesUnits, GivesChannel}
+use Rattle.fw_account_tables.proofs.PlugSwaps.{output_shows, input_shows, connected_is}
+use Rattle.fw_holders_text.specs.declared.deed.Deed.{Deed}
+use Rattle.fw_holders_text.specs.declared.deed.Deed.TheVariants.{TakesChannel, TakesUnits, GivesUnits, GivesChannel}
 use Rattle.fw_holders_text.specs.declared.names.Side.TheVariants.{Output, Input}
 use Rattle.fw_holders.specs.Moves.{deed_of}
 use Rattle.fw_holders.specs.Found.{units_deed, channel_deed, connection_deed, word_deed}

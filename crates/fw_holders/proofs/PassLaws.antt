@@ -1,13 +1,13 @@
 -- What is held after a packet that was taken from its bytes.
 use Rattle.fw_holders.proofs.Common.{◌≡◌, ℕ, ◌+◌, ◌<◌, ◌^◌, Some, None, Ok, List, [], ◌∷◌, ◌++◌, length, refl, ap, sym, subst, ◌∙◌, append-nil, device_of_id, Entry, Async, Account, Request, Looked}
-use Rattle.fw_holders.proofs.Common.{Asks, Replies, Shows, Happens, Other, Response, looked_packet, IsAnswered, ShowsAnswer, StandsFor, Answer, Tables, packet_judged, IsWithin, packet_told, told}
+use Rattle.fw_holders.proofs.Common.{Asks, Replies, Shows, Happens, Other, Response, looked_packet, IsAnswered, ShowsAnswer, StandsFor, Answer, Tables, packet_judged, IsWithin, packet_told}
 use Rattle.fw_holders.proofs.Common.{Holds, HolderState, TakesMore, holders, line_of, Judged}
 use Rattle.fw_async.specs.declared.packet.Packet.{Packet}
 use Rattle.fw_log_entry.specs.declared.entry.Timed.{Timed}
 use Rattle.fw_model_account.specs.Packets.{answered}
 use Rattle.fw_model_account.specs.Sound.{IsSound}
 use Rattle.fw_audit.specs.Found.{Judges}
-use Rattle.fw_ledger.specs.Stands.{AskedFor}
+use Rattle.fw_account_tables.specs.Stands.{AskedFor}
 use Rattle.fw_holders.specs.Counts.{answer_judged}
 use Rattle.fw_holders.specs.Found.{HasReply}
 use Rattle.fw_holders.proofs.HoldsLaws.{holds_push, text_push}

@@ -6,7 +6,7 @@ use Rattle.std.proofs.lemmas.Bool.{cases_lt}
 use Rattle.fw_plug.specs.Words.{OutFields, InFields}
 use Rattle.fw_model_account.specs.Account.{Connections}
 use Rattle.fw_model_account.proofs.Decoded.{output_of_word, input_of_word}
-use Rattle.fw_ledger.specs.Stands.{owner_of, word_at}
+use Rattle.fw_account_tables.specs.Stands.{owner_of, word_at}
 use Rattle.fw_holders_text.specs.declared.names.Side.{Side}
 use Rattle.fw_holders_text.specs.Names.{who, plug_text}
 use Rattle.fw_holders.specs.Table.{with_count, with_broadcast, owners_text, plug_line}

@@ -12,11 +12,11 @@ use Rattle.fw_model_account.specs.Sound.{IsSound}
 use Rattle.fw_model_account.specs.Words.{Register, BandwidthAvailable, ChannelsAvailable, OutputPlug, InputPlug, register_of, register_at, first_address}
 use Rattle.fw_model_account.proofs.Bounds.{IsThere, register_there}
 use Rattle.fw_model_audit.specs.Looked.{quadlet_in}
-use Rattle.fw_holders.specs.declared.deed.Deed.{Deed}
+use Rattle.fw_holders_text.specs.declared.deed.Deed.{Deed}
 use Rattle.fw_holders.specs.Counts.{shows}
 use Rattle.fw_holders.specs.Deeds.{move_told, swap_told, answer_told, reply_told, response_told}
 use Rattle.fw_holders.specs.Found.{word_deed, swap_deed, operation_deed, answer_deed, HasReply}
-use Rattle.fw_holders.specs.Moves.{done_text}
+use Rattle.fw_holders_text.specs.Deeds.{done_text}
 use Rattle.fw_holders.proofs.MoveLaws.{IsIn, word_deed_is}
 
 -- what stays of an account, and what is told of a response
@@ -28,7 +28,7 @@ pub record Tells (l k : Account) (c : ℕ) (what : Option (List ℕ)) (deed : Op
 same_some : {X : Type 0} (x y : X) → Some x ≡ Some y → x ≡ y
 same_some x y e = cc
 
-after_latest : (c : ℕ) (p : PlugAt) (m : Move) (l : Account) → (after c p m l).latest ≡ l.latest
+pub after_latest : (c : ℕ) (p : PlugAt) (m : Move) (l : Account) → (after c p m l).latest ≡ l.latest
 after_latest c p (AllocateChannel ch) l = refl
 after_latest c p (AllocateUnits ch u) l = refl
 after_latest c p (ConnectFirst kind ch overhead) l = refl

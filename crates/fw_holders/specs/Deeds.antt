@@ -17,7 +17,8 @@ use Rattle.fw_model_account.specs.Packets.{Reply, Read, Locked, is_swapped}
 use Rattle.fw_model_account.specs.Words.{Register, register_of}
 use Rattle.fw_model_audit.specs.Looked.{Looked, Replies, looked_packet}
 use Rattle.fw_holders_text.specs.Names.{nodes_of, count_text, who}
-use Rattle.fw_holders.specs.Moves.{deed_of, done_text}
+use Rattle.fw_holders_text.specs.Deeds.{done_text}
+use Rattle.fw_holders.specs.Moves.{deed_of}
 
 -- ---- bus resets
 

@@ -9,8 +9,8 @@ use Rattle.fw_model_account.specs.Account.{Operation, Reads, Locks, Request}
 use Rattle.fw_model_account.specs.Decode.{changed_bit, is_more, kind_of}
 use Rattle.fw_model_account.specs.Packets.{Reply, Read, Locked, is_quadlet_swap}
 use Rattle.fw_model_account.specs.Words.{Register, BandwidthAvailable, ChannelsAvailable, OutputPlug, InputPlug, register_of}
-use Rattle.fw_holders.specs.declared.deed.Deed.{Deed}
-use Rattle.fw_holders.specs.declared.deed.Deed.TheVariants.{TakesChannel, TakesUnits, GivesUnits, GivesChannel, Connects, Adds, Leaves}
+use Rattle.fw_holders_text.specs.declared.deed.Deed.{Deed}
+use Rattle.fw_holders_text.specs.declared.deed.Deed.TheVariants.{TakesChannel, TakesUnits, GivesUnits, GivesChannel, Connects, Adds, Leaves}
 use Rattle.fw_holders_text.specs.declared.names.Side.{Side}
 use Rattle.fw_holders_text.specs.declared.names.Side.TheVariants.{Output, Input}
 use Rattle.fw_model_audit.specs.Looked.{quadlet_in}

@@ -2,8 +2,8 @@
 use Rattle.std.specs.Prelude.{ℕ, ◌+◌, nat_lt, Bool, List, slice_index, if◌then◌else◌}
 use Rattle.fw_terms.specs.declared.plug.PlugAt.{PlugAt}
 use Rattle.fw_model_account.specs.Decode.{is_owner}
-use Rattle.fw_ledger.specs.Stands.{owner_of, seats_at}
-use Rattle.fw_ledger.specs.declared.tables.Seats.{Seats}
+use Rattle.fw_account_tables.specs.Stands.{owner_of, seats_at}
+use Rattle.fw_account_tables.specs.declared.tables.Seats.{Seats}
 
 -- at a plug that is there or not
 abbrev pub ends_if : Bool → Seats → ℕ → ℕ

@@ -4,9 +4,9 @@ use Rattle.fw_terms.specs.declared.plug.PlugAt.{PlugAt}
 use Rattle.fw_terms.specs.Tables.{at_plug}
 use Rattle.fw_log_entry.specs.declared.nodes.NodeRow.{NodeRow}
 use Rattle.fw_model_account.specs.Account.{Account, Connections, Owner, Of, Dead, has_connection, remainder}
-use Rattle.fw_holders.specs.declared.holding.How.{How}
-use Rattle.fw_holders.specs.declared.holding.How.TheVariants.{Pending, Connected, Orphaned, Continues, Reclaimable}
-use Rattle.fw_holders.specs.declared.holding.Holding.{Holding}
+use Rattle.fw_holders_text.specs.declared.holding.How.{How}
+use Rattle.fw_holders_text.specs.declared.holding.How.TheVariants.{Pending, Connected, Orphaned, Continues, Reclaimable}
+use Rattle.fw_holders_text.specs.declared.holding.Holding.{Holding}
 use Rattle.fw_holders.specs.declared.judged.Judged.{Judged}
 use Rattle.fw_holders_text.specs.declared.names.Side.{Side}
 use Rattle.fw_holders_text.specs.declared.names.Side.TheVariants.{Output, Input}

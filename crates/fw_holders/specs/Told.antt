@@ -9,8 +9,8 @@ use Rattle.fw_model_audit.specs.Faults.{HasNoFault, IsVerdict}
 use Rattle.fw_model_audit.specs.Looked.{looked}
 use Rattle.fw_model_audit.specs.declared.fault.AuditFault.{AuditFault}
 use Rattle.fw_audit.specs.Found.{IsPassedOver}
-use Rattle.fw_ledger.specs.Stands.{StandsFor}
-use Rattle.fw_ledger.specs.declared.tables.Tables.{Tables}
+use Rattle.fw_account_tables.specs.Stands.{StandsFor}
+use Rattle.fw_account_tables.specs.declared.tables.Tables.{Tables}
 use Rattle.fw_holders.specs.declared.judged.Judged.{Judged}
 use Rattle.fw_holders.specs.Counts.{entry_judged, judged_of, IsWithin}
 use Rattle.fw_holders.specs.Table.{table_text}

@@ -4,14 +4,14 @@ ghost use Rattle.std.specs.Prelude.{◌≡◌, ◌≤◌, ◌<◌, ◌+◌, ◌=
 ghost use Rattle.fw_terms.specs.Tables.{find_to, sum_to, sum_plugs, at_plug};
 ghost use Rattle.fw_model_account.specs.Account.{Account, is_pending, pending_channel};
 ghost use Rattle.fw_model_account.specs.Decode.{is_owner};
-ghost use Rattle.fw_ledger.specs.Stands.{Stands, StandsFor, allocation_of, charge_at, owner_of, place};
+ghost use Rattle.fw_account_tables.specs.Stands.{Stands, StandsFor, allocation_of, charge_at, owner_of, place};
 ghost use Rattle.fw_holders_text.specs.Names.{count_text};
 ghost use Rattle.fw_holders.specs.Deeds.{ends_of, orphans_text, death_text};
 ghost use Rattle.fw_holders.specs.Seated.{ends_if, ends_in};
 
 use crate::place::{has_plug, seats_at};
+use fw_account_tables::{Broadcaster, Charge, Seats, Tables};
 use fw_holders_text::{put_count, put_who};
-use fw_ledger::{Broadcaster, Charge, Seats, Tables};
 use fw_log_names::{put_number, put_word};
 use fw_terms::PlugAt;
 use std::alloc::AllocError;

@@ -1,6 +1,6 @@
 //! Entries, taken one by one.
 
-ghost use Rattle.std.specs.Prelude.{◌≡◌, ◌+◌, ◌<◌, ◌^◌, ◌++◌, ◌∷◌, [], List, length, IfOk, Some, None, is_some, true, IsTrue, IsFalse};
+ghost use Rattle.std.specs.Prelude.{◌≡◌, ◌↔◌, ◌+◌, ◌<◌, ◌^◌, ◌++◌, ◌∷◌, [], List, length, IfOk, Some, None, is_some, true, IsTrue, IsFalse};
 ghost use Rattle.fw_async.specs.Reader.{IsPacket, Spells};
 ghost use Rattle.fw_async.specs.declared.packet.Packet.{Packet as APacket};
 ghost use Rattle.fw_log_entry.specs.Log.{Fits, ResetFits};
@@ -12,7 +12,9 @@ ghost use Rattle.fw_model_account.specs.Account.{Account};
 ghost use Rattle.fw_model_account.specs.Fold.{entries_of};
 ghost use Rattle.fw_model_audit.specs.Audited.{EndsFaulty};
 ghost use Rattle.fw_model_audit.specs.declared.fault.AuditFault.{AuditFault as Fault};
-ghost use Rattle.fw_ledger.specs.Stands.{StandsFor};
+ghost use Rattle.fw_ledger.specs.Resets.{HasNoNewOutput};
+ghost use Rattle.fw_account_tables.specs.Stands.{StandsFor};
+ghost use Rattle.fw_audit.specs.Found.{Judges};
 ghost use Rattle.fw_holders.specs.Buses.{IsBusOf};
 ghost use Rattle.fw_holders.specs.Deeds.{event_told};
 ghost use Rattle.fw_holders.specs.Told.{Holds, Takes, holders, table_of};
@@ -21,7 +23,8 @@ use crate::judged::Judged;
 use crate::lines::{is_told, put_answer, put_cycle, put_event, put_reset, put_rest};
 use crate::table::put_table;
 use fw_audit::{AuditFault, take_entry, take_packet};
-use fw_ledger::Ledger;
+use fw_holders_text::HeldTexts;
+use fw_ledger::{Answer, Ledger};
 use fw_log_entry::{Entry, EventEntry, ResetEntry, Timed};
 use std::alloc::{AllocError, Global};
 use std::marker::Model;
@@ -35,14 +38,41 @@ pub struct Holders {
     ledger: Ledger,
     judged: Judged,
     text: Vec<u8>,
+    // Of the nodes of the latest bus reset.
+    texts: HeldTexts,
 }
 
 impl Model for Holders {
+    ghost use Rattle.std.specs.Prelude.{◌≡◌};
     ghost use Rattle.fw_holders.specs.Told.{HolderState};
 
     ghost Value = { HolderState };
 
     ghost view = { λ h. record { text = h.text.items; tables = h.ledger; judged = h.judged } };
+
+    ghost invariant = { λ h. h.texts ≡ h.ledger.nodes };
+}
+
+// The ledger takes an entry, and the texts go on to its nodes. Without a fault only a bus reset has others, and before the first there
+// are none.
+fn take_with_texts(
+    ledger: &mut Ledger,
+    texts: &mut HeldTexts,
+    e: &Entry,
+) -> Result<Option<Answer>, AuditFault>
+    requires fits { Fits e.now }
+    requires nodes { texts.old ≡ ledger.old.nodes }
+    ensures nodes { texts.new ≡ ledger.new.nodes }
+    ensures judged { (l : Account) → StandsFor ledger.old l → Judges ledger.new l e.now result }
+{
+    let stays = ledger.tables().started && !matches!(e, Entry::Reset(_));
+    match take_entry(ledger, e) {
+        Ok(answer) if stays => Ok(answer),
+        taken => {
+            texts.renew(ledger.tables().nodes.as_slice());
+            taken
+        },
+    }
 }
 
 impl Holders {
@@ -54,6 +84,7 @@ impl Holders {
             ledger: Ledger::new(alloc)?,
             judged: Judged::nothing(),
             text: Vec::with_capacity(alloc, TEXT_ROOM)?,
+            texts: HeldTexts::new(alloc)?,
         })
     }
 
@@ -86,11 +117,12 @@ impl Holders {
         put_cycle(&mut self.text, t.cycle)?;
         let from = self.text.len();
         put_event(&mut self.text, self.ledger.tables(), event)?;
-        if let Err(fault) = take_entry(&mut self.ledger, &t.what) {
+        let taken = take_with_texts(&mut self.ledger, &mut self.texts, &t.what);
+        if let Err(fault) = taken {
             self.text.truncate(begins);
             return Ok(Some(fault));
         }
-        put_rest(&mut self.text, from, self.ledger.tables())?;
+        put_rest(&mut self.text, from, self.ledger.tables(), &mut self.texts)?;
         Ok(None)
     }
 
@@ -100,7 +132,7 @@ impl Holders {
         requires other { (l : Account) (e : LogEvent) → t.now.what ≡ Event e → event_told l e ≡ None }
         ensures { (l : Account) → StandsFor self.old.tables l → IfOk result (λ f. Takes l t.now self.old self.new f) }
     {
-        let answer = match take_entry(&mut self.ledger, &t.what) {
+        let answer = match take_with_texts(&mut self.ledger, &mut self.texts, &t.what) {
             Ok(answer) => answer,
             Err(fault) => return Ok(Some(fault)),
         };
@@ -110,9 +142,16 @@ impl Holders {
                 &mut self.text,
                 t.cycle,
                 self.ledger.tables(),
+                &mut self.texts,
                 r.get(),
             )?,
-            (_, Some(answer)) => put_answer(&mut self.text, t.cycle, &self.ledger, &answer)?,
+            (_, Some(answer)) => put_answer(
+                &mut self.text,
+                t.cycle,
+                &self.ledger,
+                &mut self.texts,
+                &answer,
+            )?,
             _ => {},
         }
         Ok(None)
@@ -144,10 +183,20 @@ impl Holders {
             → IfOk result (λ passed. IsTrue passed → Holds (entries ++ t ∷ []) self.new × (self.new.text ≡ self.old.text ++ holders entries (t ∷ []))) }
         ensures kept { IfOk result (λ passed. IsFalse passed → self.new ≡ self.old) }
     {
+        // Before the first bus reset nobody can ask.
+        if !self.ledger.tables().started {
+            return Ok(false);
+        }
         match take_packet(&mut self.ledger, bytes) {
             Some(Some(answer)) => {
                 self.judged.take_answer(&answer);
-                put_answer(&mut self.text, cycle, &self.ledger, &answer)?;
+                put_answer(
+                    &mut self.text,
+                    cycle,
+                    &self.ledger,
+                    &mut self.texts,
+                    &answer,
+                )?;
                 Ok(true)
             }
             Some(None) => Ok(true),
@@ -163,13 +212,16 @@ impl Holders {
         ensures passed { (entries : List TimedEntry) (t : TimedEntry) (r : AReset) → t.cycle ≡ cycle → t.what ≡ Reset r → ResetFits r → IsBusOf r bus.now
             → length entries + 1 < 2 ^ 64 → Holds entries self.old
             → IfOk result (λ passed. IsTrue passed → Holds (entries ++ t ∷ []) self.new × (self.new.text ≡ self.old.text ++ holders entries (t ∷ []))) }
+        ensures exactly { (l : Account) → StandsFor self.old.tables l → IfOk result (λ passed. IsTrue passed ↔ HasNoNewOutput l.latest bus.now.nodes) }
         ensures kept { IfOk result (λ passed. IsFalse passed → self.new ≡ self.old) }
     {
         if !self.ledger.take_bus(bus.manager, bus.nodes.as_slice()) {
             return Ok(false);
         }
         self.judged.take_reset();
-        put_reset(&mut self.text, cycle, self.ledger.tables(), bus)?;
+        let tables = self.ledger.tables();
+        self.texts.renew(tables.nodes.as_slice());
+        put_reset(&mut self.text, cycle, tables, &mut self.texts, bus)?;
         Ok(true)
     }
 

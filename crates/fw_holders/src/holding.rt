@@ -1,50 +1,14 @@
 //! What is held with a channel.
 
-ghost use Rattle.std.specs.Prelude.{◌≡◌, ◌<◌, length, None, IsTrue};
+ghost use Rattle.std.specs.Prelude.{◌≡◌, ◌<◌, ◌≤◌, ℕ, length, None, IsTrue};
 ghost use Rattle.fw_model_account.specs.Account.{Account};
-ghost use Rattle.fw_ledger.specs.Stands.{Stands, StandsFor, place, continues_at, reclaimable_at, flow_of, charge_at, allocation_of};
-ghost use Rattle.fw_holders.specs.Held.{device_of, holding_of, holding, unallocated};
+ghost use Rattle.fw_account_tables.specs.Stands.{Stands, StandsFor, place, continues_at, reclaimable_at, flow_of, charge_at, allocation_of};
+ghost use Rattle.fw_holders.specs.Held.{holding_of, holding, unallocated};
 
 use crate::place::{has_plug, place};
-use fw_ledger::{Charge, Reclaimable, Tables};
+use fw_account_tables::{Charge, Reclaimable, Tables};
+use fw_holders_text::{Holding, How};
 use fw_terms::PlugAt;
-
-/// How a channel is held.
-#[derive(Clone, Copy)]
-pub(crate) enum How {
-    /// A controller has it that has not connected the plug yet, or no longer.
-    Pending(u8),
-    /// The connections of the plug have it.
-    Connected,
-    /// A controller left it that died since.
-    Orphaned,
-    /// Nobody else can have it in the reclaim second, in which its plug goes on talking.
-    Continues,
-    /// Nobody else can have it in the reclaim second, in which its plug is silent or gone.
-    Reclaimable,
-}
-
-/// What is held with a channel.
-#[derive(Clone, Copy)]
-pub(crate) struct Holding {
-    pub how: How,
-    /// The output plug that it is held for.
-    pub plug: PlugAt,
-    /// Bandwidth allocation units; 0 if none are held yet, or no longer.
-    pub units: u32,
-}
-
-impl Holding {
-    /// The device that has it: its controller, or else that of its plug.
-    pub(crate) fn device(&self) -> u8
-        ensures { result ≡ device_of self.now }
-    {
-        match self.how {
-            How::Pending(controller) => controller,
-            _ => self.plug.device,
-        }
-    }
-}
 
 // The plug goes on talking, by the table of those that do.
 fn continues_at(continues: &[bool], p: PlugAt) -> bool
@@ -110,10 +74,10 @@ fn allocated(charge: Charge) -> Option<Holding>
     Some(Holding { how, plug, units })
 }
 
-// What is held with a channel that may be held.
+/// What is held with a channel, if it is held.
 // Not in line: else the test of a free channel becomes a branch of the match on what is charged.
 #[inline(never)]
-fn taken_on(tables: &Tables, channel: usize) -> Option<Holding>
+pub(crate) fn taken_on(tables: &Tables, channel: usize) -> Option<Holding>
     requires stands { Stands tables.now }
     requires within { channel < 64 }
     ensures { (l : Account) → StandsFor tables.now l → result ≡ holding l channel }
@@ -124,26 +88,43 @@ fn taken_on(tables: &Tables, channel: usize) -> Option<Holding>
     }
 }
 
-// Whether nothing is held with a channel, as far as its charge alone shows it.
-#[inline(always)]
-fn is_free(tables: &Tables, channel: usize) -> bool
+/// How many channels there are.
+pub(crate) const CHANNELS: usize = 64;
+
+// In the reclaim second: the first channel from this one on that is allocated, or on which a flow may be allocated again.
+fn next_reclaimed(tables: &Tables, from: usize) -> usize
     requires stands { Stands tables.now }
-    requires within { channel < 64 }
-    ensures { (l : Account) → StandsFor tables.now l → IsTrue result → holding l channel ≡ None }
+    requires within { from ≤ 64 }
+    ensures after { from ≤ result }
+    ensures within { result ≤ 64 }
+    ensures free { (l : Account) (ch : ℕ) → StandsFor tables.now l → IsTrue l.reclaiming → from ≤ ch → ch < result → holding l ch ≡ None }
 {
-    !tables.reclaiming && matches!(tables.charges[channel], Charge::Free)
+    for channel in from..CHANNELS {
+        if !matches!(tables.charges[channel], Charge::Free)
+            || !matches!(tables.reclaimable[channel], Reclaimable::Nothing)
+        {
+            return channel;
+        }
+    }
+    CHANNELS
 }
 
-/// What is held with a channel, if it is held.
+/// The first channel from this one on with which something may be held; 64 if there is none. Most are free.
 #[inline(always)]
-pub(crate) fn held_on(tables: &Tables, channel: usize) -> Option<Holding>
+pub(crate) fn next_taken(tables: &Tables, from: usize) -> usize
     requires stands { Stands tables.now }
-    requires within { channel < 64 }
-    ensures { (l : Account) → StandsFor tables.now l → result ≡ holding l channel }
+    requires within { from ≤ 64 }
+    ensures after { from ≤ result }
+    ensures within { result ≤ 64 }
+    ensures free { (l : Account) (ch : ℕ) → StandsFor tables.now l → from ≤ ch → ch < result → holding l ch ≡ None }
 {
-    // Most channels are free.
-    if is_free(tables, channel) {
-        return None;
+    if tables.reclaiming {
+        return next_reclaimed(tables, from);
     }
-    taken_on(tables, channel)
+    for channel in from..CHANNELS {
+        if !matches!(tables.charges[channel], Charge::Free) {
+            return channel;
+        }
+    }
+    CHANNELS
 }

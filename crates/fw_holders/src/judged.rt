@@ -4,14 +4,15 @@ ghost use Rattle.std.specs.Prelude.{◌≡◌, ◌<◌, ◌+◌, ◌^◌, ℕ, S
 ghost use Rattle.fw_model_account.specs.Account.{Account, Request};
 ghost use Rattle.fw_model_audit.specs.Judged.{watched_offset};
 ghost use Rattle.fw_model_audit.specs.Looked.{Response, looked};
-ghost use Rattle.fw_ledger.specs.Stands.{AskedFor};
+ghost use Rattle.fw_account_tables.specs.Stands.{AskedFor};
 ghost use Rattle.fw_ledger.specs.Refused.{ShowsAnswer};
 ghost use Rattle.fw_holders.specs.Counts.{none_judged, swap_judged, operation_judged, answer_judged, entry_judged, IsWithin};
 ghost use Rattle.fw_holders.specs.Table.{is_nothing};
 
 use crate::moves::shows;
+use fw_account_tables::Asked;
 use fw_audit::{is_watched, watched_offset};
-use fw_ledger::{Answer, Asked};
+use fw_ledger::Answer;
 use fw_log_entry::Entry;
 
 /// How much of a log was judged.

@@ -3,7 +3,6 @@
 #![tactic(auto)]
 
 mod death;
-mod deed;
 mod held;
 mod holders;
 mod holding;

@@ -2,24 +2,24 @@
 
 ghost use Rattle.std.specs.Prelude.{◌≡◌, ◌++◌, ◌+◌, List, ℕ, OnOk, Some, is_some, length, codes, decimal, slice_get, IsTrue};
 ghost use Rattle.fw_model_account.specs.Account.{Account};
-ghost use Rattle.fw_ledger.specs.Stands.{Stands, StandsFor};
+ghost use Rattle.fw_account_tables.specs.Stands.{Stands, StandsFor};
 ghost use Rattle.fw_log_entry.specs.Network.{device_of_id};
 ghost use Rattle.fw_model_account.specs.Packets.{answered};
 ghost use Rattle.fw_model_account.specs.Sound.{IsSound};
 ghost use Rattle.fw_model_audit.specs.Looked.{Response, Replies};
 ghost use Rattle.fw_ledger.specs.Refused.{IsAnswered};
 ghost use Rattle.fw_holders_text.specs.Names.{nodes_of, right};
-ghost use Rattle.fw_holders.specs.Moves.{done_text};
+ghost use Rattle.fw_holders_text.specs.Deeds.{done_text};
 ghost use Rattle.fw_holders.specs.Found.{HasReply};
 ghost use Rattle.fw_holders.specs.Deeds.{event_told, initiator_text, manager_text, reset_text, packet_told};
 ghost use Rattle.fw_holders.specs.Told.{rest_of_line, line, line_of};
 
 use crate::death::put_death;
-use crate::deed::{Deed, put_done};
 use crate::held::put_held;
 use crate::moves::deed_of;
-use fw_holders_text::{fill, put_count, put_right, put_who};
-use fw_ledger::{Answer, Ledger, Tables};
+use fw_account_tables::Tables;
+use fw_holders_text::{Deed, HeldTexts, fill, put_count, put_done, put_right, put_who};
+use fw_ledger::{Answer, Ledger};
 use fw_log_entry::codes::event::{DIED, SECOND_OVER, WITHHELD};
 use fw_log_entry::{EventEntry, ResetEntry};
 use fw_log_names::{put_number, put_word};
@@ -41,16 +41,23 @@ pub(crate) fn put_cycle(text: &mut Vec<u8>, cycle: u64) -> Result<(), AllocError
 }
 
 /// Appends the end of a line in which what is told begins at this byte: what is left and held after its entry.
-pub(crate) fn put_rest(text: &mut Vec<u8>, from: usize, tables: &Tables) -> Result<(), AllocError>
+pub(crate) fn put_rest(
+    text: &mut Vec<u8>,
+    from: usize,
+    tables: &Tables,
+    texts: &mut HeldTexts,
+) -> Result<(), AllocError>
     requires stands { Stands tables.now }
-    ensures { (before what : List ℕ) (l : Account) → text.old.items ≡ before ++ what → length before ≡ from → StandsFor tables.now l
+    requires nodes { texts.old ≡ tables.now.nodes }
+    ensures same { texts.new ≡ texts.old }
+    ensures text { (before what : List ℕ) (l : Account) → text.old.items ≡ before ++ what → length before ≡ from → StandsFor tables.now l
         → OnOk result (text.new.items ≡ before ++ rest_of_line what l) }
 {
     fill(text, from, WHAT_WIDTH)?;
     put_word(text, " ")?;
     put_right(text, u64::from(tables.left), UNITS_WIDTH)?;
     put_word(text, " left")?;
-    put_held(text, tables)?;
+    put_held(text, tables, texts)?;
     put_word(text, "\n")
 }
 
@@ -96,15 +103,18 @@ pub(crate) fn put_reset(
     text: &mut Vec<u8>,
     cycle: u64,
     tables: &Tables,
+    texts: &mut HeldTexts,
     r: &ResetEntry,
 ) -> Result<(), AllocError>
     requires stands { Stands tables.now }
-    ensures { (l : Account) → StandsFor tables.now l → OnOk result (text.new.items ≡ text.old.items ++ line cycle (reset_text r.now) l) }
+    requires nodes { texts.old ≡ tables.now.nodes }
+    ensures same { texts.new ≡ texts.old }
+    ensures text { (l : Account) → StandsFor tables.now l → OnOk result (text.new.items ≡ text.old.items ++ line cycle (reset_text r.now) l) }
 {
     put_cycle(text, cycle)?;
     let from = text.len();
     put_bus_reset(text, r)?;
-    put_rest(text, from, tables)
+    put_rest(text, from, tables, texts)
 }
 
 /// Whether an event changes what is held, and so has a line.
@@ -131,36 +141,39 @@ pub(crate) fn put_event(
 }
 
 // Appends the line of what the controller of a device did.
+#[inline(never)]
 fn put_done_line(
     text: &mut Vec<u8>,
     cycle: u64,
     tables: &Tables,
+    texts: &mut HeldTexts,
     controller: u8,
     deed: Deed,
 ) -> Result<(), AllocError>
     requires stands { Stands tables.now }
-    ensures { (k : Account) → StandsFor tables.now k → OnOk result (text.new.items ≡ text.old.items ++ line cycle (done_text (nodes_of k.latest) k.reclaiming controller deed) k) }
+    requires nodes { texts.old ≡ tables.now.nodes }
+    ensures same { texts.new ≡ texts.old }
+    ensures text { (k : Account) → StandsFor tables.now k → OnOk result (text.new.items ≡ text.old.items ++ line cycle (done_text (nodes_of k.latest) k.reclaiming controller deed) k) }
 {
     put_cycle(text, cycle)?;
     let from = text.len();
-    put_done(
-        text,
-        tables.nodes.as_slice(),
-        tables.reclaiming,
-        controller,
-        deed,
-    )?;
-    put_rest(text, from, tables)
+    put_done(text, texts.nodes(), tables.reclaiming, controller, deed)?;
+    put_rest(text, from, tables, texts)
 }
 
 /// Appends the line of a response that made a move; of another nothing.
+// In line, so that nothing is made of an answer that has no line.
+#[inline(always)]
 pub(crate) fn put_answer(
     text: &mut Vec<u8>,
     cycle: u64,
     ledger: &Ledger,
+    texts: &mut HeldTexts,
     answer: &Answer,
 ) -> Result<(), AllocError>
-    ensures { (l k : Account) (r : Response) → IsSound l → StandsFor ledger.now k → HasReply r.reply r.rcode r.word
+    requires nodes { texts.old ≡ ledger.now.nodes }
+    ensures same { texts.new ≡ texts.old }
+    ensures text { (l k : Account) (r : Response) → IsSound l → StandsFor ledger.now k → HasReply r.reply r.rcode r.word
         → answered (device_of_id l.latest r.requester) r.responder r.reply l ≡ Some k → IsAnswered l r answer.now
         → OnOk result (text.new.items ≡ text.old.items ++ line_of cycle (packet_told l (Replies r)) (Some k)) }
 {
@@ -169,7 +182,7 @@ pub(crate) fn put_answer(
         return Ok(());
     };
     match ledger.device(answer.requester) {
-        Some(controller) => put_done_line(text, cycle, tables, controller, deed),
+        Some(controller) => put_done_line(text, cycle, tables, texts, controller, deed),
         None => Ok(()),
     }
 }

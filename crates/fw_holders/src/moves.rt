@@ -4,14 +4,14 @@ ghost use Rattle.std.specs.Prelude.{◌≡◌, ◌<◌, IfSome, Some};
 ghost use Rattle.fw_model_account.specs.Account.{Account, Request};
 ghost use Rattle.fw_model_account.specs.Decode.{changed_bit, is_more, kind_of};
 ghost use Rattle.fw_model_account.specs.Words.{OutputPlug, InputPlug};
-ghost use Rattle.fw_ledger.specs.Stands.{Stands, StandsFor, AskedFor};
-ghost use Rattle.fw_ledger.specs.Swaps.{register_named};
+ghost use Rattle.fw_account_tables.specs.Stands.{Stands, StandsFor, AskedFor};
+ghost use Rattle.fw_account_tables.specs.Swaps.{register_named};
 ghost use Rattle.fw_holders.specs.Counts.{shows};
 ghost use Rattle.fw_holders.specs.Found.{units_deed, channel_deed, connection_deed, word_deed, answer_deed};
 
-use crate::deed::Deed;
-use fw_holders_text::Side;
-use fw_ledger::{Answer, Asked, Register, Tables};
+use fw_account_tables::{Asked, Register, Tables};
+use fw_holders_text::{Deed, Side};
+use fw_ledger::Answer;
 use fw_plug::{InWord, OutWord};
 use fw_terms::{ConnectionKind, PlugAt};
 use fw_words::{Quadlet, Swap};
@@ -137,6 +137,7 @@ pub(crate) fn shows(shown: Option<u32>, word: u32) -> bool
 
 /// What a response does that was taken: it is a move exactly if it shows the argument of a compare_swap of a register of the
 /// account.
+#[inline(always)]
 pub(crate) fn deed_of(tables: &Tables, answer: &Answer) -> Option<Deed>
     requires stands { Stands tables.now }
     ensures { (k : Account) (q : Request) → StandsFor tables.now k → AskedFor answer.now.asked (Some q) → result ≡ answer_deed k.latest q answer.now.rcode answer.now.shown }

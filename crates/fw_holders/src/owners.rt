@@ -2,12 +2,12 @@
 
 ghost use Rattle.std.specs.Prelude.{◌≡◌, ◌++◌, List, ℕ, OnOk, codes, length, slice_index};
 ghost use Rattle.fw_model_account.specs.Account.{Connections, counter as connections};
-ghost use Rattle.fw_ledger.specs.Stands.{SeatsFor, owner_of};
+ghost use Rattle.fw_account_tables.specs.Stands.{SeatsFor, owner_of};
 ghost use Rattle.fw_holders_text.specs.Names.{who};
 ghost use Rattle.fw_holders.specs.Table.{comma, with_count, counts_below, with_broadcast, owners_text};
 
+use fw_account_tables::{Broadcaster, Seats};
 use fw_holders_text::put_who;
-use fw_ledger::{Broadcaster, Seats};
 use fw_log_entry::NodeRow;
 use fw_log_names::{put_number, put_word};
 use std::alloc::AllocError;

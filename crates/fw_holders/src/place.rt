@@ -1,9 +1,9 @@
 //! Where the tables have a plug.
 
 ghost use Rattle.std.specs.Prelude.{◌≡◌, ◌<◌, nat_lt, length, slice_index};
-ghost use Rattle.fw_ledger.specs.Stands.{place, seats_at, word_at};
+ghost use Rattle.fw_account_tables.specs.Stands.{place, seats_at, word_at};
 
-use fw_ledger::Seats;
+use fw_account_tables::Seats;
 use fw_terms::PlugAt;
 
 /// The place of a plug.

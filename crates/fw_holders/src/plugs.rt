@@ -2,14 +2,14 @@
 
 ghost use Rattle.std.specs.Prelude.{◌≡◌, ◌++◌, OnOk, codes, decimal, IsTrue};
 ghost use Rattle.fw_model_account.specs.Account.{Account, Connections, has_connection, counter as connections};
-ghost use Rattle.fw_ledger.specs.Stands.{Stands, StandsFor, SeatsFor};
+ghost use Rattle.fw_account_tables.specs.Stands.{Stands, StandsFor, SeatsFor};
 ghost use Rattle.fw_holders_text.specs.Names.{plug_text};
 ghost use Rattle.fw_holders.specs.Table.{plug_line, output_line, input_line, lines_below, plug_lines};
 
 use crate::owners::put_owners;
 use crate::place::{has_plug, seats_at, word_at};
+use fw_account_tables::{Seats, Tables};
 use fw_holders_text::{Side, put_plug};
-use fw_ledger::{Seats, Tables};
 use fw_log_entry::NodeRow;
 use fw_log_names::{put_number, put_word};
 use fw_plug::{InWord, OutWord};

@@ -2,14 +2,14 @@
 
 ghost use Rattle.std.specs.Prelude.{◌≡◌, ◌++◌, OnOk, decimal};
 ghost use Rattle.fw_model_account.specs.Account.{Account};
-ghost use Rattle.fw_ledger.specs.Stands.{Stands, StandsFor};
+ghost use Rattle.fw_account_tables.specs.Stands.{Stands, StandsFor};
 ghost use Rattle.fw_holders.specs.Table.{how_word, units_words, by_text, channel_line, channel_lines, amount_text, judged_line, left_line, table_text};
 
-use crate::holding::{Holding, How, held_on};
+use crate::holding::{CHANNELS, taken_on};
 use crate::judged::Judged;
 use crate::plugs::put_plugs;
-use fw_holders_text::{Side, put_count, put_plug, put_who};
-use fw_ledger::Tables;
+use fw_account_tables::Tables;
+use fw_holders_text::{Holding, How, Side, put_count, put_plug, put_who};
 use fw_log_entry::NodeRow;
 use fw_log_names::{put_number, put_word};
 use std::alloc::AllocError;
@@ -82,8 +82,8 @@ fn put_channels(text: &mut Vec<u8>, tables: &Tables) -> Result<(), AllocError>
     ensures { (l : Account) → StandsFor tables.now l → OnOk result (text.new.items ≡ text.old.items ++ channel_lines 64 l) }
 {
     let nodes = tables.nodes.as_slice();
-    for channel in 0..64 {
-        put_channel(text, nodes, channel, held_on(tables, channel))?;
+    for channel in 0..CHANNELS {
+        put_channel(text, nodes, channel, taken_on(tables, channel))?;
     }
     Ok(())
 }

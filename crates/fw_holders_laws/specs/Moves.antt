@@ -6,7 +6,8 @@ use Rattle.fw_model_account.specs.Decode.{IsMove}
 use Rattle.fw_model_account.specs.Moves.{Move, after}
 use Rattle.fw_model_account.specs.Packets.{ended}
 use Rattle.fw_model_account.specs.Words.{Register}
-use Rattle.fw_holders.specs.Moves.{deed_of, done_text}
+use Rattle.fw_holders_text.specs.Deeds.{done_text}
+use Rattle.fw_holders.specs.Moves.{deed_of}
 use Rattle.fw_holders_text.specs.Names.{nodes_of}
 
 -- a move was made, which makes the one account of the other, and this text is that of its controller and of it

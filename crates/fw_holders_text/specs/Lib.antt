@@ -1,1 +1,4 @@
+pub mod Deeds
+pub mod Holdings
+pub mod Kept
 pub mod Names

@@ -1,5 +1,6 @@
 -- Small texts: devices, plugs and counts (own).
 use Rattle.std.specs.Prelude.{ℕ, ◌-◌, ◌==◌, List, [], ◌++◌, length, replicate, codes, decimal, Option, Some, None, slice_get, if◌then◌else◌}
+use Rattle.std.specs.Option.{option_map}
 use Rattle.fw_terms.specs.declared.plug.PlugAt.{PlugAt}
 use Rattle.fw_log_entry.specs.declared.entry.ResetEntry.{ResetEntry}
 use Rattle.fw_log_entry.specs.declared.nodes.NodeRow.{NodeRow}
@@ -40,14 +41,18 @@ nodes_of (Some r) = r.nodes
 abbrev pub row_of_device : List NodeRow → ℕ → Option NodeRow
 row_of_device nodes d = slice_get nodes (node_of_device nodes d)
 
--- what a device is, by its row
-unfoldable pub kind_text : Option NodeRow → List ℕ
+-- its kind
+abbrev pub kind_of_device : List NodeRow → ℕ → Option ℕ
+kind_of_device nodes d = option_map (λ (row : NodeRow). row.kind) (row_of_device nodes d)
+
+-- what a device is, by its kind
+unfoldable pub kind_text : Option ℕ → List ℕ
 kind_text None = codes "device"
-kind_text (Some row) = named (device_name row.kind) (codes "kind") row.kind
+kind_text (Some kind) = named (device_name kind) (codes "kind") kind
 
 -- a device: what it is, and its number
 unfoldable pub who : List NodeRow → ℕ → List ℕ
-who nodes d = kind_text (row_of_device nodes d) ++ codes " " ++ decimal d
+who nodes d = kind_text (kind_of_device nodes d) ++ codes " " ++ decimal d
 
 -- the name of a plug's register
 unfoldable pub side_text : Side → List ℕ

@@ -1,6 +1,14 @@
-//! Devices, plugs and counts as text, and columns of it.
+//! Devices, plugs and counts as text, and columns of it; what controllers do and hold, as text.
 #![tactic(auto)]
 
+mod bus_nodes;
+mod deed;
+mod held_texts;
+mod holding;
 mod names;
 
+pub use bus_nodes::BusNodes;
+pub use deed::{Deed, put_done};
+pub use held_texts::HeldTexts;
+pub use holding::{Holding, How};
 pub use names::{Side, fill, put_count, put_plug, put_right, put_who};

@@ -1,8 +1,8 @@
 //! Small texts: columns, counts, devices and plugs.
 
-ghost use Rattle.std.specs.Prelude.{◌≡◌, ◌++◌, List, ℕ, OnOk, length, decimal, replicate};
+ghost use Rattle.std.specs.Prelude.{◌≡◌, ◌++◌, List, ℕ, OnOk, length, codes, decimal, replicate};
 ghost use Rattle.fw_log_entry.specs.Network.{node_of_device};
-ghost use Rattle.fw_holders_text.specs.Names.{left, right, count_text, row_of_device, kind_text, who, side_text, plug_text};
+ghost use Rattle.fw_holders_text.specs.Names.{left, right, count_text, kind_of_device, kind_text, who, side_text, plug_text};
 
 use fw_log_entry::NodeRow;
 use fw_log_names::{device_name, put_named, put_number, put_word};
@@ -70,22 +70,32 @@ fn node_of_device(nodes: &[NodeRow], device: u8) -> usize
     nodes.len()
 }
 
-// The row of a device in the latest bus reset, if it is a node.
-fn row_of_device(nodes: &[NodeRow], device: u8) -> Option<NodeRow>
-    ensures { result ≡ row_of_device nodes.now device }
+// The kind of a device, if it is a node.
+fn kind_of_device(nodes: &[NodeRow], device: u8) -> Option<u8>
+    ensures { result ≡ kind_of_device nodes.now device }
 {
-    nodes.get(node_of_device(nodes, device)).copied()
+    let row = nodes.get(node_of_device(nodes, device))?;
+    Some(row.kind)
 }
 
-// Appends what a device is, by its row in the latest bus reset.
+// Appends what a device is, by its kind.
 #[tactic(auto, unfolding(crate::specs::Names::kind_text))]
-fn put_kind(text: &mut Vec<u8>, row: Option<NodeRow>) -> Result<(), AllocError>
-    ensures { OnOk result (text.new.items ≡ text.old.items ++ kind_text row) }
+fn put_kind(text: &mut Vec<u8>, kind: Option<u8>) -> Result<(), AllocError>
+    ensures { OnOk result (text.new.items ≡ text.old.items ++ kind_text kind) }
 {
-    match row {
-        Some(row) => put_named(text, device_name(row.kind), "kind", u64::from(row.kind)),
+    match kind {
+        Some(kind) => put_named(text, device_name(kind), "kind", u64::from(kind)),
         None => put_word(text, "device"),
     }
+}
+
+/// Appends a device of this kind, or that is no node: what it is, and its number.
+pub(crate) fn put_device(text: &mut Vec<u8>, kind: Option<u8>, device: u8) -> Result<(), AllocError>
+    ensures { OnOk result (text.new.items ≡ text.old.items ++ (kind_text kind ++ codes " " ++ decimal device)) }
+{
+    put_kind(text, kind)?;
+    put_word(text, " ")?;
+    put_number(text, u64::from(device))
 }
 
 /// Appends a device: what it is, and its number.
@@ -93,9 +103,7 @@ fn put_kind(text: &mut Vec<u8>, row: Option<NodeRow>) -> Result<(), AllocError>
 pub fn put_who(text: &mut Vec<u8>, nodes: &[NodeRow], device: u8) -> Result<(), AllocError>
     ensures { OnOk result (text.new.items ≡ text.old.items ++ who nodes.now device) }
 {
-    put_kind(text, row_of_device(nodes, device))?;
-    put_word(text, " ")?;
-    put_number(text, u64::from(device))
+    put_device(text, kind_of_device(nodes, device), device)
 }
 
 // Appends the name of a plug's register.
@@ -109,6 +117,15 @@ fn put_side(text: &mut Vec<u8>, side: Side) -> Result<(), AllocError>
     }
 }
 
+/// Appends the register of a plug of a device.
+pub(crate) fn put_register(text: &mut Vec<u8>, side: Side, plug: u8) -> Result<(), AllocError>
+    ensures { OnOk result (text.new.items ≡ text.old.items ++ (side_text side ++ decimal plug ++ codes "]")) }
+{
+    put_side(text, side)?;
+    put_number(text, u64::from(plug))?;
+    put_word(text, "]")
+}
+
 /// Appends a plug: its device, and its register.
 #[tactic(auto, unfolding(crate::specs::Names::plug_text))]
 pub fn put_plug(
@@ -120,7 +137,5 @@ pub fn put_plug(
     ensures { OnOk result (text.new.items ≡ text.old.items ++ plug_text nodes.now side p) }
 {
     put_who(text, nodes, p.device)?;
-    put_side(text, side)?;
-    put_number(text, u64::from(p.plug))?;
-    put_word(text, "]")
+    put_register(text, side, p.plug)
 }

@@ -1,8 +1,5 @@
 pub mod Common
-pub mod Starts
-pub mod Plugs
 pub mod Channels
-pub mod Related
 pub mod Requests
 pub mod Seconds
 pub mod Orphans
@@ -11,11 +8,6 @@ pub mod ResetWords
 pub mod Renewals
 pub mod ResetTables
 pub mod Replies
-pub mod Swapping
-pub mod UnitSwaps
-pub mod ChannelSwaps
-pub mod PlugSwaps
-pub mod OutputSwaps
-pub mod InputSwaps
-pub mod RegisterNames
+pub mod Taking
 pub mod LockReplies
+pub mod LockRefusals

@@ -1,23 +1,22 @@
 -- The tables after the death of a controller.
-use Rattle.fw_ledger.proofs.Common.{PlugAt, ◌≡◌, ◌≢◌, ◌<◌, ◌≤◌, ◌+◌, zero, suc, [], ◌-◌, ◌*◌, ◌^◌, ◌⊎◌, inl, inr, ℕ, Bool, true, false, nat_lt, Option, Some, None, List, length, map, get_or}
-use Rattle.fw_ledger.proofs.Common.{slice_set, Vec, Global, cond, refl, sym, ◌∙◌, ap, arith, get_or-set_same, get_or-set_other, length-set, cases_eq, nat_tests, update, flag, Account, Allocation}
+use Rattle.fw_ledger.proofs.Common.{PlugAt, ◌≡◌, ◌≢◌, ◌<◌, ◌≤◌, ◌+◌, zero, suc, [], ◌-◌, ◌⊎◌, inl, inr, ℕ, Bool, true, false, nat_lt, Option, Some, None, List, length, map, get_or}
+use Rattle.fw_ledger.proofs.Common.{slice_set, Vec, Global, cond, refl, sym, ◌∙◌, ap, arith, get_or-set_same, get_or-set_other, length-set, cases_eq, nat_tests, update, Account, Allocation}
 use Rattle.fw_ledger.proofs.Common.{Connections, is_free, is_open, is_output, is_input, orphaned_charge, orphaned_seats, StandsFor, ResourcesFor, SeatsFor, AskedFor, allocation_of, seats_at, no_seats}
 use Rattle.fw_ledger.proofs.Common.{place, Tables, Charge, Free, Pending, Connected, Seats, Asked, NotAsked, same_open, output_in_range}
 use Rattle.std.proofs.Common.{◌∷◌}
 use Rattle.std.specs.Vec.{with_items}
 use Rattle.std.proofs.lemmas.List.{with_items_is}
-use Rattle.fw_terms.proofs.Tables.{sum_to_same}
 use Rattle.fw_model_account.specs.Events.{after_death, orphaned_allocation, orphaned_connections, orphaned_owner}
-use Rattle.fw_model_account.specs.Words.{bits_word}
 use Rattle.fw_ledger.specs.Deaths.{orphaned_broadcaster}
-use Rattle.fw_ledger.specs.Stands.{OutputsFor, InputsFor, owner_of, asked_at}
-use Rattle.fw_ledger.specs.declared.tables.Charge.TheVariants.{Orphaned}
-use Rattle.fw_ledger.specs.declared.tables.Broadcaster.{Broadcaster}
-use Rattle.fw_ledger.specs.declared.tables.Broadcaster.TheVariants.{Nobody, Controller, Died}
+use Rattle.fw_account_tables.specs.Stands.{OutputsFor, InputsFor, owner_of, asked_at}
+use Rattle.fw_account_tables.specs.declared.tables.Charge.TheVariants.{Orphaned}
+use Rattle.fw_account_tables.specs.declared.tables.Broadcaster.{Broadcaster}
+use Rattle.fw_account_tables.specs.declared.tables.Broadcaster.TheVariants.{Nobody, Controller, Died}
 use Rattle.fw_model_account.proofs.Deaths.{death_keeps, orphaned_total, orphaned_counter, orphaned_there}
 use Rattle.fw_model_account.proofs.Connections.{NoneBeyond}
-use Rattle.fw_ledger.proofs.Plugs.{input_in_range, place_low}
-use Rattle.fw_ledger.proofs.Related.{related_set, update_same, update_other}
+use Rattle.fw_account_tables.proofs.Plugs.{input_in_range, place_low}
+use Rattle.fw_account_tables.proofs.Swapping.{bits_same}
+use Rattle.fw_account_tables.proofs.Related.{related_set, update_same, update_other}
 
 -- a place of a mapped list
 pub map_at : {A : Type 0} (f : A → A) (xs : List A) (i : ℕ) (d : A) → i < length xs → get_or (map f xs) i d ≡ f (get_or xs i d)
@@ -28,10 +27,6 @@ map_at f (x ∷ xs) (suc i) d lt = map_at f xs i d (omega arith)
 pub map_size : {A : Type 0} (f : A → A) (xs : List A) → length (map f xs) ≡ length xs
 map_size f [] = refl
 map_size f (x ∷ xs) = ap suc (map_size f xs)
-
--- two tests that agree have one word
-pub bits_same : (f g : ℕ → Bool) → ((i : ℕ) → f i ≡ g i) → bits_word f ≡ bits_word g
-bits_same f g same = sum_to_same 32 (λ i. flag (f (31 - i)) * 2 ^ i) (λ i. flag (g (31 - i)) * 2 ^ i) (λ j lt. ap (λ b. flag b * 2 ^ j) (same (31 - j)))
 
 -- the death of a controller frees no channel
 orphaned_free : (c : ℕ) (x : Option Allocation) → is_free x ≡ is_free (orphaned_allocation c x)

@@ -1,13 +1,13 @@
 -- A table that is renewed place by place, and what a place of a plug becomes.
 use Rattle.fw_ledger.proofs.Common.{◌≡◌, ◌≢◌, ◌<◌, ◌≤◌, ◌+◌, ◌-◌, ◌*◌, ◌/◌, ◌%◌, ◌⊎◌, inl, inr, ℕ, Bool, true, false, not, nat_lt, ◌&&◌, ◌||◌, List, length, cond, get_or, slice_index, refl, sym, ◌∙◌}
 use Rattle.fw_ledger.proofs.Common.{ap, subst, arith, get_or-set_same, get_or-set_other, cases_eq, nat_tests, NodeRow, is_connected, AreRates, renewed_seats, Account, StandsFor, no_seats, Seats}
-use Rattle.fw_ledger.proofs.Common.{Tables, PlugAt, false≢true}
-use Rattle.std.proofs.Common.{◌↔◌, set}
+use Rattle.fw_ledger.proofs.Common.{Tables, PlugAt}
+use Rattle.std.proofs.Common.{set}
 use Rattle.fw_phy.specs.declared.packet.PhyPacket.{PhyPacket}
 use Rattle.fw_plug.specs.Plugs.{disconnected}
 use Rattle.fw_ledger.specs.Resets.{GainsNone, GainsSome, HasNoNewOutput, rate_of, first_output, first_input, renewed_output, renewed_input, goes_on}
 use Rattle.fw_ledger.specs.Renewed.{AreOuts}
-use Rattle.fw_ledger.specs.Stands.{Stands}
+use Rattle.fw_account_tables.specs.Stands.{Stands}
 
 -- the places below k are renewed, and the others are as they were
 pub record Renews (A : Type 0) (d : A) (f : ℕ → A → A) (old new : List A) (k : ℕ) : Type 0 where

@@ -1,7 +1,6 @@
 -- The tables after packets of procedures and others, and after the response to a read request.
 use Rattle.fw_ledger.proofs.Common.{◌≡◌, ◌==◌, ◌&&◌, ℕ, Bool, true, false, Option, Some, None, length, slice_set, Vec, Global, cond, refl, sym, ◌∙◌, ap, subst, arith, length-set, false≢true}
 use Rattle.fw_ledger.proofs.Common.{nat_tests, Account, Request, Locks, StandsFor, AskedFor, GoesOn, response_in, Tables, Asked, NotAsked}
-use Rattle.std.proofs.Common.{IsTrue}
 use Rattle.std.proofs.lemmas.Option.{same_Some}
 use Rattle.fw_async.specs.declared.packet.Head.{Head}
 use Rattle.fw_terms.specs.declared.label.Label.TheVariants.{Procedure}
@@ -10,13 +9,13 @@ use Rattle.fw_log_entry.specs.Network.{device_of_id}
 use Rattle.fw_model_account.specs.Account.{Reads}
 use Rattle.fw_model_account.specs.Packets.{Reply, Read as ReadReply, is_reply_to, replied_to, answered, after_reply, ended}
 use Rattle.fw_model_audit.specs.Looked.{Response, Looked, Asks, Replies, Other, labelled, IsAnswer}
-use Rattle.fw_ledger.specs.Stands.{is_read_of}
-use Rattle.fw_ledger.specs.Refused.{IsRefusedFor, IsAnswered, ShowsAnswer, word_asked}
+use Rattle.fw_ledger.specs.Swapped.{is_read_of}
+use Rattle.fw_ledger.specs.Refused.{IsRefusedFor, IsAnswered, ShowsAnswer}
 use Rattle.fw_ledger.specs.declared.answer.Answer.{Answer}
 use Rattle.fw_ledger.specs.declared.refused.Refused.{Refused}
 use Rattle.fw_ledger.specs.declared.refused.Refused.TheVariants.{NoNode, Orphan}
-use Rattle.fw_ledger.specs.declared.tables.Asked.TheVariants.{Read, Swap, Lock}
-use Rattle.fw_ledger.proofs.Related.{related_set}
+use Rattle.fw_account_tables.specs.declared.tables.Asked.TheVariants.{Read, Swap, Lock}
+use Rattle.fw_account_tables.proofs.Related.{related_set}
 use Rattle.fw_model_account.proofs.Packets.{ended_keeps}
 
 -- ---- labels

@@ -1,8 +1,8 @@
 -- The tables after a bus reset stand for the account after it.
-use Rattle.fw_ledger.proofs.Common.{PlugAt, ResetEntry, ◌≡◌, ◌≢◌, ◌<◌, ◌-◌, ◌==◌, ◌&&◌, ◌||◌, not, nat_lt, ℕ, Bool, true, false, Option, Some, None, is_some, List, length, cond, slice_index, refl}
+use Rattle.fw_ledger.proofs.Common.{PlugAt, ResetEntry, ◌≡◌, ◌≢◌, ◌<◌, ◌-◌, ◌==◌, ◌&&◌, ◌||◌, not, nat_lt, ℕ, Bool, true, false, Option, Some, None, is_some, List, cond, slice_index, refl}
 use Rattle.fw_ledger.proofs.Common.{sym, ◌∙◌, ap, subst, arith, nat_tests, out_word, in_word, is_connected, Account, Allocation, Connections, has_connection, counter, is_there, is_output, is_input}
 use Rattle.fw_ledger.proofs.Common.{AreRates, IsSound, StandsFor, ShowsReset, no_seats, SeatsFor, allocation_of, charge_at, word_at, seats_at, place, Tables, Charge, Free, Pending, Connected, Seats}
-use Rattle.fw_ledger.proofs.Common.{NotAsked, NodeRow, output_in_range, false≢true}
+use Rattle.fw_ledger.proofs.Common.{NodeRow, output_in_range, false≢true}
 use Rattle.fw_terms.proofs.Tables.{sum_to_zero, sum_to_at}
 use Rattle.fw_plug.specs.Words.{units_of}
 use Rattle.fw_log_entry.specs.Network.{IsNetwork}
@@ -11,17 +11,19 @@ use Rattle.fw_model_account.specs.Account.{Pending as PendingHolder, Orphaned as
 use Rattle.fw_model_account.specs.Network.{declared}
 use Rattle.fw_model_account.specs.Events.{after_reset, talker_at, no_connections}
 use Rattle.fw_model_account.specs.Words.{fields_at, input_fields_at}
-use Rattle.fw_ledger.specs.Resets.{first_high, first_output, first_input, talker}
+use Rattle.fw_account_tables.specs.Stands.{first_high}
+use Rattle.fw_ledger.specs.Resets.{first_output, first_input, talker}
 use Rattle.fw_plug.specs.Plugs.{disconnected}
 use Rattle.fw_ledger.specs.Renewed.{HasNewPlugs, IsRenewed}
-use Rattle.fw_ledger.specs.Stands.{asked_at, OutputsFor, InputsFor, SecondFor}
-use Rattle.fw_ledger.specs.Stands.{flow_of, reclaimable_at, continues_at}
-use Rattle.fw_ledger.specs.declared.tables.Charge.TheVariants.{Orphaned}
+use Rattle.fw_account_tables.specs.Stands.{OutputsFor, InputsFor, SecondFor}
+use Rattle.fw_account_tables.specs.Stands.{flow_of, reclaimable_at, continues_at}
+use Rattle.fw_account_tables.specs.declared.tables.Charge.TheVariants.{Orphaned}
 use Rattle.fw_model_account.proofs.Events.{IsTalker, talker_at_is, talker_is_allocated, reset_reclaimable, reset_keeps}
-use Rattle.fw_ledger.proofs.Plugs.{input_in_range, place_low}
-use Rattle.fw_ledger.proofs.Starts.{copy_at}
+use Rattle.fw_account_tables.proofs.Plugs.{input_in_range, place_low}
+use Rattle.fw_account_tables.proofs.Starts.{copy_at}
 use Rattle.fw_model_account.proofs.Open.{low_starts}
-use Rattle.fw_ledger.proofs.ResetWords.{place_device, place_plug, output_disconnected, input_disconnected, output_connected, input_connected}
+use Rattle.fw_account_tables.proofs.Plugs.{place_device, place_plug}
+use Rattle.fw_ledger.proofs.ResetWords.{output_disconnected, input_disconnected, output_connected, input_connected}
 
 -- ---- the flows that may be allocated again
 

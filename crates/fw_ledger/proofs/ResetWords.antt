@@ -1,17 +1,10 @@
 -- The words of plugs after a bus reset.
-use Rattle.fw_ledger.proofs.Common.{PlugAt, ◌≡◌, ◌<◌, ◌+◌, ◌*◌, ◌/◌, ◌%◌, ◌^◌, ◌==◌, ◌||◌, ◌≤◌, not, nat_lt, ℕ, List, slice_index, false, ◌∙◌, sym, ap, arith, nat_tests, field, flag, out_word}
-use Rattle.fw_ledger.proofs.Common.{in_word, is_connected, place}
-use Rattle.std.proofs.lemmas.Nat.{mod_low, div-mul-add, mod-mul-add}
+use Rattle.fw_ledger.proofs.Common.{◌≡◌, ◌<◌, ◌+◌, ◌*◌, ◌/◌, ◌%◌, ◌^◌, ◌==◌, ◌||◌, ◌≤◌, not, nat_lt, ℕ, List, slice_index, false, ◌∙◌, sym, ap, arith, nat_tests, field, flag, out_word}
+use Rattle.fw_ledger.proofs.Common.{in_word, is_connected}
+use Rattle.std.proofs.lemmas.Nat.{mod_low}
 use Rattle.fw_plug.specs.Words.{OutFields, InFields, FitsRegister}
 use Rattle.fw_plug.proofs.Words.{fields_of_word, in_fields_of_word}
 use Rattle.fw_plug.specs.Plugs.{disconnected}
-
--- the device and the number of a place
-pub place_device : (p : PlugAt) → p.plug < 31 → place p / 31 ≡ p.device
-place_device p lt = div-mul-add p.device 31 p.plug lt
-
-pub place_plug : (p : PlugAt) → p.plug < 31 → place p % 31 ≡ p.plug
-place_plug p lt = mod-mul-add p.device 31 p.plug lt
 
 -- the places of a device after its plugs have none
 pub no_plug_at : (counts : List ℕ) (d count j : ℕ) → ((n : ℕ) → n < 31 → nat_lt n count ≡ nat_lt n (slice_index counts d)) → d * 31 + count ≤ j → j < (d + 1) * 31

@@ -3,10 +3,10 @@ use Rattle.fw_ledger.proofs.Common.{◌≡◌, ◌+◌, ℕ, Bool, true, false, 
 use Rattle.fw_ledger.proofs.Common.{ShowsReset, Tables, same_open}
 use Rattle.fw_model_account.specs.Events.{after_second, after_withholding}
 use Rattle.fw_model_account.specs.Words.{bits_word}
-use Rattle.fw_ledger.specs.Resets.{first_high}
+use Rattle.fw_account_tables.specs.Stands.{first_high}
 use Rattle.fw_model_account.proofs.Events.{second_ends, withholding_keeps}
 use Rattle.fw_model_account.proofs.Open.{low_starts}
-use Rattle.fw_ledger.proofs.Orphans.{bits_same}
+use Rattle.fw_account_tables.proofs.Swapping.{bits_same}
 
 second_stands : (t : Tables) (l : Account) → StandsFor t l → StandsFor (record t { reclaiming = false }) (after_second l)
 second_stands t l h = record {

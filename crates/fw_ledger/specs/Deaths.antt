@@ -1,10 +1,10 @@
 -- What the death of a controller does to the places of the tables.
 use Rattle.std.specs.Prelude.{ℕ, ◌==◌, nat_lt, slice_set, if◌then◌else◌}
-use Rattle.fw_ledger.specs.declared.tables.Charge.{Charge}
-use Rattle.fw_ledger.specs.declared.tables.Charge.TheVariants.{Free, Pending, Connected, Orphaned}
-use Rattle.fw_ledger.specs.declared.tables.Broadcaster.{Broadcaster}
-use Rattle.fw_ledger.specs.declared.tables.Broadcaster.TheVariants.{Nobody, Controller, Died}
-use Rattle.fw_ledger.specs.declared.tables.Seats.{Seats}
+use Rattle.fw_account_tables.specs.declared.tables.Charge.{Charge}
+use Rattle.fw_account_tables.specs.declared.tables.Charge.TheVariants.{Free, Pending, Connected, Orphaned}
+use Rattle.fw_account_tables.specs.declared.tables.Broadcaster.{Broadcaster}
+use Rattle.fw_account_tables.specs.declared.tables.Broadcaster.TheVariants.{Nobody, Controller, Died}
+use Rattle.fw_account_tables.specs.declared.tables.Seats.{Seats}
 
 -- a Pending allocation of the dead is nobody's
 abbrev pub orphaned_charge : ℕ → Charge → Charge

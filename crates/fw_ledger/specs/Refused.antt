@@ -10,11 +10,11 @@ use Rattle.fw_model_account.specs.Packets.{Reply}
 use Rattle.fw_model_account.specs.Words.{Register, register_of, word_of}
 use Rattle.fw_model_audit.specs.Looked.{Response, Looked, Asks, Replies, Shows, Happens, Other, IsAnswer}
 use Rattle.fw_model_audit.specs.Faults.{HasNoNode, Overlaps, IsOrphan, IsNoMove, IsNoEvent}
-use Rattle.fw_ledger.specs.Stands.{StandsFor, AskedFor}
+use Rattle.fw_account_tables.specs.Stands.{StandsFor, AskedFor}
 use Rattle.fw_ledger.specs.declared.answer.Answer.{Answer}
 use Rattle.fw_ledger.specs.declared.refused.Refused.{Refused}
 use Rattle.fw_ledger.specs.declared.refused.Refused.TheVariants.{NoNode, Overlap, Orphan, NoMove, NoEvent}
-use Rattle.fw_ledger.specs.declared.tables.Tables.{Tables}
+use Rattle.fw_account_tables.specs.declared.tables.Tables.{Tables}
 
 -- the word that the register at the place of a request has, if one of the account stands there
 abbrev pub word_asked : Account → Request → Option ℕ

@@ -4,11 +4,12 @@ use Rattle.fw_log_entry.specs.declared.nodes.NodeRow.{NodeRow}
 use Rattle.std.specs.Prelude.{◌≡◌, ◌<◌, ◌/◌, ◌%◌, ℕ, nat_lt, true, false, Option, List, length, slice_index, slice_index_or, if◌then◌else◌}
 use Rattle.std.specs.List.{list_any}
 use Rattle.fw_model_account.specs.Network.{is_output_of, is_input_of}
-use Rattle.fw_ledger.specs.Resets.{first_high, renewed_output, renewed_input, renewed_seats, goes_on, talker}
-use Rattle.fw_ledger.specs.Stands.{no_seats, charge_at, reclaimable_at, asked_at}
-use Rattle.fw_ledger.specs.declared.tables.Charge.TheVariants.{Free}
-use Rattle.fw_ledger.specs.declared.tables.Asked.TheVariants.{Nothing as NotAsked}
-use Rattle.fw_ledger.specs.declared.tables.Tables.{Tables}
+use Rattle.fw_account_tables.specs.Stands.{first_high}
+use Rattle.fw_ledger.specs.Resets.{renewed_output, renewed_input, renewed_seats, goes_on, talker}
+use Rattle.fw_account_tables.specs.Stands.{no_seats, charge_at, reclaimable_at, asked_at}
+use Rattle.fw_account_tables.specs.declared.tables.Charge.TheVariants.{Free}
+use Rattle.fw_account_tables.specs.declared.tables.Asked.TheVariants.{Nothing as NotAsked}
+use Rattle.fw_account_tables.specs.declared.tables.Tables.{Tables}
 
 -- the devices of these nodes have these numbers of output plugs
 abbrev pub AreOuts : List NodeRow → List ℕ → Type 0

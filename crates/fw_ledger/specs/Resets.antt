@@ -3,24 +3,18 @@ use Rattle.fw_terms.specs.declared.plug.PlugAt.{PlugAt}
 use Rattle.fw_log_entry.specs.declared.entry.ResetEntry.{ResetEntry}
 use Rattle.fw_log_entry.specs.declared.nodes.NodeRow.{NodeRow}
 use Rattle.fw_phy.specs.declared.packet.PhyPacket.{PhyPacket}
-use Rattle.std.specs.Prelude.{◌≡◌, ◌<◌, ◌≤◌, ℕ, ◌+◌, nat_lt, Bool, true, false, not, ◌&&◌, ◌||◌, Option, None, List, slice_index, if◌then◌else◌, IsTrue}
+use Rattle.std.specs.Prelude.{◌≡◌, ◌<◌, ◌≤◌, ℕ, nat_lt, Bool, true, false, not, ◌&&◌, ◌||◌, Option, List, slice_index, if◌then◌else◌, IsTrue}
 use Rattle.std.specs.List.{list_any}
 use Rattle.fw_plug.specs.Words.{is_connected, out_word, in_word}
 use Rattle.fw_plug.specs.Plugs.{disconnected}
 use Rattle.fw_log_entry.specs.Network.{speed_of, node_of_device}
-use Rattle.fw_model_account.specs.Account.{is_open}
 use Rattle.fw_model_account.specs.Network.{is_output, is_output_of}
-use Rattle.fw_model_account.specs.Words.{bits_word}
-use Rattle.fw_ledger.specs.declared.tables.Charge.{Charge}
-use Rattle.fw_ledger.specs.declared.tables.Charge.TheVariants.{Free, Pending, Connected, Orphaned}
-use Rattle.fw_ledger.specs.declared.tables.Reclaimable.{Reclaimable}
-use Rattle.fw_ledger.specs.declared.tables.Reclaimable.TheVariants.{Nothing, Flow}
-use Rattle.fw_ledger.specs.declared.tables.Seats.{Seats}
-use Rattle.fw_ledger.specs.Stands.{no_seats}
-
--- CHANNELS_AVAILABLE_HI if nothing is allocated
-abbrev pub first_high : Bool → ℕ
-first_high withheld = bits_word (λ i. is_open withheld (λ ch. None) (0 + i))
+use Rattle.fw_account_tables.specs.declared.tables.Charge.{Charge}
+use Rattle.fw_account_tables.specs.declared.tables.Charge.TheVariants.{Free, Pending, Connected, Orphaned}
+use Rattle.fw_account_tables.specs.declared.tables.Reclaimable.{Reclaimable}
+use Rattle.fw_account_tables.specs.declared.tables.Reclaimable.TheVariants.{Nothing, Flow}
+use Rattle.fw_account_tables.specs.declared.tables.Seats.{Seats}
+use Rattle.fw_account_tables.specs.Stands.{no_seats}
 
 -- the word of a new output plug of a device with this speed
 abbrev pub first_output : ℕ → ℕ

@@ -6,9 +6,9 @@ ghost use Rattle.fw_terms.specs.declared.plug.PlugAt.{PlugAt};
 ghost use Rattle.fw_log_entry.specs.Log.{RowFits};
 ghost use Rattle.fw_model_account.specs.Network.{is_output_of, is_input_of};
 ghost use Rattle.fw_ledger.specs.Resets.{GainsNone, GainsSome, talker};
-ghost use Rattle.fw_ledger.specs.Stands.{charge_at, reclaimable_at, asked_at};
+ghost use Rattle.fw_account_tables.specs.Stands.{charge_at, reclaimable_at, asked_at};
 
-use crate::tables::{Asked, Charge, Reclaimable};
+use fw_account_tables::{Asked, Charge, Reclaimable};
 use fw_log_entry::{NodeList, NodeRow};
 
 // The device has so many plugs at least.

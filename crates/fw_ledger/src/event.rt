@@ -3,10 +3,10 @@
 ghost use Rattle.std.specs.Prelude.{◌≡◌, ◌<◌, Some, None, is_some, map, if◌then◌else◌};
 ghost use Rattle.fw_model_account.specs.Account.{Account};
 ghost use Rattle.fw_model_account.specs.Events.{after_second, after_death, after_withholding};
-ghost use Rattle.fw_ledger.specs.Stands.{Stands, StandsFor, Follows};
+ghost use Rattle.fw_account_tables.specs.Stands.{Stands, StandsFor, Follows};
 ghost use Rattle.fw_ledger.specs.Deaths.{orphaned_charge, orphaned_seats};
 
-use crate::tables::{Asked, Broadcaster, Charge, Seats, Tables, first_high};
+use fw_account_tables::{Asked, Broadcaster, Charge, Seats, Tables, first_high};
 
 // The charge after the death of controller `c`.
 fn orphaned_charge(charge: Charge, c: u8) -> Charge
@@ -54,42 +54,40 @@ fn orphan_plugs(plugs: &mut [Seats], c: u8)
     }
 }
 
-impl Tables {
-    /// The reclaim second is over. It is refused if none runs.
-    pub fn take_second(&mut self) -> bool
-        requires stands { Stands self.old }
-        ensures { (l : Account) → StandsFor self.old l → Follows result self.old self.new (if l.reclaiming then Some (after_second l) else None) }
-    {
-        if !self.reclaiming {
-            return false;
-        }
-        self.reclaiming = false;
-        true
+/// The reclaim second is over. It is refused if none runs.
+pub fn take_second(tables: &mut Tables) -> bool
+    requires stands { Stands tables.old }
+    ensures { (l : Account) → StandsFor tables.old l → Follows result tables.old tables.new (if l.reclaiming then Some (after_second l) else None) }
+{
+    if !tables.reclaiming {
+        return false;
     }
+    tables.reclaiming = false;
+    true
+}
 
-    /// Channel 31 is withheld from now on. It is refused after a reset entry.
-    pub fn take_withholding(&mut self) -> bool
-        requires stands { Stands self.old }
-        ensures { (l : Account) → StandsFor self.old l → Follows result self.old self.new (if is_some l.latest then None else Some (after_withholding l)) }
-    {
-        if self.started {
-            return false;
-        }
-        self.withheld = true;
-        self.high = first_high(true);
-        true
+/// Channel 31 is withheld from now on. It is refused after a reset entry.
+pub fn take_withholding(tables: &mut Tables) -> bool
+    requires stands { Stands tables.old }
+    ensures { (l : Account) → StandsFor tables.old l → Follows result tables.old tables.new (if is_some l.latest then None else Some (after_withholding l)) }
+{
+    if tables.started {
+        return false;
     }
+    tables.withheld = true;
+    tables.high = first_high(true);
+    true
+}
 
-    /// The controller of this device dies.
-    pub fn take_death(&mut self, device: u8)
-        requires stands { Stands self.old }
-        ensures { (l : Account) → StandsFor self.old l → StandsFor self.new (after_death device l) }
-    {
-        orphan_charges(&mut self.charges, device);
-        orphan_plugs(&mut self.output_seats, device);
-        orphan_plugs(&mut self.input_seats, device);
-        if device < 63 {
-            self.asked[usize::from(device)] = Asked::Nothing;
-        }
+/// The controller of this device dies.
+pub fn take_death(tables: &mut Tables, device: u8)
+    requires stands { Stands tables.old }
+    ensures { (l : Account) → StandsFor tables.old l → StandsFor tables.new (after_death device l) }
+{
+    orphan_charges(&mut tables.charges, device);
+    orphan_plugs(&mut tables.output_seats, device);
+    orphan_plugs(&mut tables.input_seats, device);
+    if device < 63 {
+        tables.asked[usize::from(device)] = Asked::Nothing;
     }
 }

@@ -12,15 +12,17 @@ ghost use Rattle.fw_model_account.specs.Packets.{asked_by, ended};
 ghost use Rattle.fw_model_account.specs.Words.{BandwidthAvailable, ChannelsAvailable, OutputPlug, InputPlug, word_of, register_of, id_in};
 ghost use Rattle.fw_model_audit.specs.Looked.{Asks, looked};
 ghost use Rattle.fw_ledger.specs.Resets.{HasNoNewOutput};
-ghost use Rattle.fw_ledger.specs.Stands.{Stands, StandsFor, AskedFor, Follows};
-ghost use Rattle.fw_ledger.specs.Swaps.{IsThere, register_named, moved_by};
+ghost use Rattle.fw_account_tables.specs.Stands.{Stands, StandsFor, AskedFor, Follows};
+ghost use Rattle.fw_account_tables.specs.Swaps.{IsThere, register_named, moved_by};
 ghost use Rattle.fw_ledger.specs.Refused.{GoesOn, IsRefusedFor, ShowsAnswer, Takes};
 
 use crate::answer::Answer;
+use crate::entry::take_entry;
+use crate::packet::take_request;
 use crate::refused::Refused;
-use crate::register::Register;
 use crate::renew::id_of_device;
-use crate::tables::{Asked, Tables};
+use crate::reset::take_bus;
+use fw_account_tables::{Asked, Register, Tables};
 use fw_log_entry::{Entry, NodeRow, Timed};
 use fw_plug::{InWord, OutWord};
 use fw_terms::PlugAt;
@@ -36,8 +38,8 @@ pub struct Ledger {
 }
 
 impl Model for Ledger {
-    ghost use Rattle.fw_ledger.specs.declared.tables.Tables.{Tables};
-    ghost use Rattle.fw_ledger.specs.Stands.{Stands};
+    ghost use Rattle.fw_account_tables.specs.declared.tables.Tables.{Tables};
+    ghost use Rattle.fw_account_tables.specs.Stands.{Stands};
 
     ghost Value = { Tables };
 
@@ -63,7 +65,7 @@ impl Ledger {
         ensures taken { (l : Account) → StandsFor self.old l → IfOk result (λ a. GoesOn self.new (next_account l e.now) × ShowsAnswer l (looked e.now) a) }
         ensures refused { (l : Account) → StandsFor self.old l → IfErr result (λ f. (next_account l e.now ≡ None) × (self.new ≡ self.old) × IsRefusedFor l (looked e.now) f) }
     {
-        self.tables.take_entry(e)
+        take_entry(&mut self.tables, e)
     }
 
     /// Takes an entry, as `take_entry`, and answers whether it was taken. No memory is taken.
@@ -85,7 +87,7 @@ impl Ledger {
         ensures exactly { (l : Account) → StandsFor self.old l → IsTrue result ↔ HasNoNewOutput l.latest nodes.now }
         ensures kept { IsFalse result → self.new ≡ self.old }
     {
-        self.tables.take_bus(manager, nodes)
+        take_bus(&mut self.tables, manager, nodes)
     }
 
     /// A request of the node with the ID `source`, for what `asked` says at an address of another: as `take_entry` takes the packet that
@@ -101,7 +103,7 @@ impl Ledger {
         ensures { (l : Account) (operation : Operation) → StandsFor self.old l → AskedFor asked (Some (record { target = target; address = address; operation = operation }))
             → Takes result (λ done. ⊤) self.old self.new (asked_by (device_of_id l.latest source) (record { target = target; address = address; operation = operation }) l) (IsRefusedFor l (Asks source)) }
     {
-        self.tables.take_request(source, target, address, asked)
+        take_request(&mut self.tables, source, target, address, asked)
     }
 
     /// The outstanding request of the controller of this device has ended, and changed no register.

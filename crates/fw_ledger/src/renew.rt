@@ -1,14 +1,13 @@
 //! What a bus reset leaves of the registers of plugs.
 
-ghost use Rattle.std.specs.Prelude.{◌≡◌, ◌<◌, ◌≤◌, ◌/◌, ◌%◌, ℕ, length, slice_index, slice_index_or, false, not, ◌&&◌, ◌||◌, if◌then◌else◌, IsTrue};
+ghost use Rattle.std.specs.Prelude.{◌≡◌, ◌<◌, ◌≤◌, ◌/◌, ◌%◌, ℕ, nat_lt, length, slice_index, slice_index_or, false, not, ◌&&◌, ◌||◌, if◌then◌else◌, IsTrue};
 ghost use Rattle.fw_log_entry.specs.Network.{speed_of, node_of_device};
 ghost use Rattle.fw_plug.specs.Plugs.{disconnected};
 ghost use Rattle.fw_model_account.specs.Words.{id_below};
 ghost use Rattle.fw_ledger.specs.Resets.{AreRates, rate_of, first_output, first_input, renewed_output, renewed_input, renewed_seats, goes_on};
-ghost use Rattle.fw_ledger.specs.Stands.{no_seats};
+ghost use Rattle.fw_account_tables.specs.Stands.{no_seats};
 
-use crate::place::plugs_of;
-use crate::tables::{Seats, empty};
+use fw_account_tables::Seats;
 use fw_async::node_id;
 use fw_log_entry::NodeRow;
 use fw_phy::PhyPacket;
@@ -80,6 +79,16 @@ pub fn rates_of(before: &[u8; 63], now: &[u8; 63], nodes: &[NodeRow], ids: &[Phy
     rates
 }
 
+// How many of the 31 places of a device have a plug, by how many plugs each device has.
+fn plugs_of(counts: &[u8; 63], device: usize) -> usize
+    requires { device < 63 }
+    ensures within { result ≤ 31 }
+    ensures plugs { (n : ℕ) → n < 31 → nat_lt n result ≡ nat_lt n (slice_index counts.now device) }
+{
+    let count = usize::from(counts[device]);
+    if count < 31 { count } else { 31 }
+}
+
 // The word of an output plug after a bus reset.
 fn output_word(was_there: bool, word: u32, rate: u8) -> u32
     requires { rate < 4 }
@@ -117,7 +126,7 @@ fn clear(seats: &mut Seats, was_there: bool, connected: bool)
     if was_there && !connected {
         return;
     }
-    *seats = empty();
+    *seats = Seats::empty();
 }
 
 /// The words of all output plugs after a bus reset, whose their connections are, and which go on talking.

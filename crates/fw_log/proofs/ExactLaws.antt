@@ -23,7 +23,8 @@ use Rattle.fw_log.proofs.IdsLaws.{ids_clear}
 use Rattle.fw_log.proofs.ResetLaws.{reset_in, body_has, shape_of}
 use Rattle.fw_log.proofs.FeedLaws.{further, stays}
 use Rattle.fw_log.proofs.StayLaws.{need_done, no_complete_prefix}
-use Rattle.fw_log.proofs.SameLaws.{spelled_clear, spelled_complete, same_spelled, same_body, spelled_body, spelled_epoch}
+use Rattle.fw_log.proofs.SameLaws.{spelled_clear, spelled_complete, same_spelled, spelled_body, spelled_epoch}
+use Rattle.fw_log.proofs.SameBodyLaws.{same_body}
 
 -- a packet is refused at one byte, and for one reason
 prefix_of : (k : ℕ) (bytes : List ℕ) → bytes ≡ take k bytes ++ drop k bytes

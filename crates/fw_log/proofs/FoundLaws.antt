@@ -5,7 +5,7 @@ use Rattle.fw_async.specs.declared.packet.Packet.{Packet}
 use Rattle.fw_log.specs.Passing.{HeadFirst}
 use Rattle.fw_log.specs.Reader.{Finds, FindsIn}
 use Rattle.fw_log.specs.declared.first.Found.{Found}
-use Rattle.fw_log.specs.declared.first.PlainHead.{PlainHead}
+use Rattle.fw_log.specs.declared.first_look.PlainHead.{PlainHead}
 use Rattle.fw_log.proofs.FindLaws.{found_in}
 
 pub found_packet : (s : Position) (bytes given : List ℕ) (h : PlainHead) (p : Packet) → HeadFirst s bytes h → given ≡ h.content → h.kind ≡ 2 → (x : IsPacket given) → p ≡ x.packet

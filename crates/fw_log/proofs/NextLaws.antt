@@ -2,7 +2,7 @@
 use Rattle.fw_log.proofs.Common.{◌≡◌, ℕ, ◌+◌, ◌-◌, List, [], length, false, Option, Some, None, IfSome, refl, subst, State, HoldsPending, Joins, Feeds, Position, LogFault}
 use Rattle.fw_log.specs.Next.{IsNext}
 use Rattle.fw_log.specs.Passing.{BodyFirst}
-use Rattle.fw_log.specs.declared.first.PlainEntry.{PlainEntry}
+use Rattle.fw_log.specs.declared.first_look.PlainEntry.{PlainEntry}
 use Rattle.fw_log.proofs.PassLaws.{EndsPassed, ends_passed, after_passed, fed}
 
 -- of a reader without a fault, in the bytes at hand

@@ -9,7 +9,8 @@ use Rattle.fw_async.specs.Async.{Parts, bytes_of, padded, spelling, parts}
 use Rattle.fw_async_fields.specs.Data.{padding}
 use Rattle.fw_async.specs.Async as Async
 use Rattle.fw_async_fields.proofs.NeedLaws.{need_least, need_most}
-use Rattle.fw_async.proofs.SpelledLaws.{spelled_none, spelled_need}
+use Rattle.fw_async.proofs.SpelledLaws.{spelled_none}
+use Rattle.fw_async.proofs.SpelledSizeLaws.{spelled_need}
 use Rattle.fw_async.specs.declared.packet.Packet.{Packet}
 use Rattle.fw_cip.specs.Iso.{block_bytes, IsBlock}
 use Rattle.fw_cip.specs.Iso as Iso

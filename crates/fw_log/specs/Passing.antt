@@ -16,9 +16,9 @@ use Rattle.fw_async.specs.Reader as Packets
 use Rattle.fw_cip.specs.Iso.{Fits as IsoFits, spelling as iso_spelling}
 use Rattle.fw_cip.specs.declared.packet.IsoPacket.{IsoPacket}
 use Rattle.fw_async.specs.declared.packet.Packet.{Packet}
-use Rattle.fw_log.specs.declared.first.Passed.{Passed}
-use Rattle.fw_log.specs.declared.first.PlainHead.{PlainHead}
-use Rattle.fw_log.specs.declared.first.PlainEntry.{PlainEntry}
+use Rattle.fw_log.specs.declared.first_look.Passed.{Passed}
+use Rattle.fw_log.specs.declared.first_look.PlainHead.{PlainHead}
+use Rattle.fw_log.specs.declared.first_look.PlainEntry.{PlainEntry}
 use Rattle.fw_log.specs.declared.plain.PlainBody.{PlainBody}
 use Rattle.fw_log.specs.declared.plain.PlainBody.TheVariants as PlainBodies
 use Rattle.fw_log.specs.declared.passing.PassedBody.{PassedBody}

@@ -1,17 +1,35 @@
 //! Entries that are read out of a loop over packets.
 
-ghost use Rattle.std.specs.Prelude.{ℕ, ◌≡◌, ◌<◌, ◌+◌, ◌^◌, List, length, IfSome, IfNone, IfOk, IfErr, None, Err};
+ghost use Rattle.std.specs.Prelude.{ℕ, ◌≡◌, ◌<◌, ◌+◌, ◌^◌, ◌++◌, List, length, IfSome, IfNone, IfOk, IfErr, IsTrue, IsFalse, None, Err};
 ghost use Rattle.fw_log_entry.specs.declared.entry.Timed.{Timed};
 ghost use Rattle.fw_log.specs.Reading.{IsPending};
-ghost use Rattle.fw_log.specs.Reader.{total, Remembers, Feeds, Counts, body_given};
+ghost use Rattle.fw_log.specs.Reader.{total, with_bytes, Remembers, Feeds, Counts, body_given};
 ghost use Rattle.fw_log.specs.History.{HasRead, ReadsOn, Names};
 
+use crate::extent::is_part;
 use crate::first::{at_hand, first_entry};
 use crate::{LogFault, LogFed, LogReader, ReadBuffers};
+use fw_words::Data;
 
 impl LogReader {
-    // As `feed_fresh`, if no packet of a usual form is looked for.
-    fn feed_any<'a>(
+    // Takes all of a piece, if nothing is kept and the piece is a part of one entry with its head, all parts of which are right, as
+    // most entries begin that a piece's end cuts.
+    #[inline(never)]
+    fn keep_part(&mut self, piece: &[u8]) -> bool
+        requires fresh { self.old.fault ≡ None }
+        ensures kept { IsFalse result → self.new ≡ self.old }
+        ensures part { IsTrue result → (self.new ≡ with_bytes self.old.stand (self.old.taken ++ piece.now)) × IsPending self.old.stand (self.old.taken ++ piece.now) }
+    {
+        if !self.taken.as_slice().is_empty() || !is_part(self.stand, piece) {
+            return false;
+        }
+        self.taken.append(piece);
+        true
+    }
+
+    // As `feed_any`, of any entry or part of one.
+    #[inline(never)]
+    fn feed_first<'a>(
         &mut self,
         piece: &'a [u8],
         room: &'a mut ReadBuffers,
@@ -27,9 +45,32 @@ impl LogReader {
         self.keep(found, piece)
     }
 
+    // As `feed_fresh`, if no packet of a usual form is looked for.
+    #[inline(always)]
+    fn feed_any<'a>(
+        &mut self,
+        piece: &'a [u8],
+        room: &'a mut ReadBuffers,
+    ) -> Result<LogFed<'a>, LogFault>
+        requires fresh { self.old.fault ≡ None }
+        requires pending { IsPending self.old.stand self.old.taken }
+        requires room { self.old.stand.start + length self.old.taken + length piece.now < 2 ^ 64 }
+        ensures fed { Feeds self.old.stand self.old.taken piece.now result self.new }
+        ensures remembers { IfErr result (λ f. Remembers self.old.stand self.old.taken piece.now self.new) }
+    {
+        if self.keep_part(piece) {
+            return Ok(LogFed {
+                used: piece.len(),
+                entry: None,
+                body: Data::new(&[]),
+            });
+        }
+        self.feed_first(piece, room)
+    }
+
     /// Takes bytes as `feed` does, in more instructions if a packet comes, and in fewer if another entry does or if the
-    /// piece has only a part of one: for those that take packets by `pass_body`. It is no part of the caller's loop.
-    #[inline(never)]
+    /// piece has only a part of one: for those that take packets by `pass_body`. What it reads is no part of the caller's loop.
+    #[inline(always)]
     pub fn feed_apart<'a>(
         &mut self,
         piece: &'a [u8],

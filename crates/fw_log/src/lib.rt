@@ -3,7 +3,10 @@
 #![tactic(auto)]
 
 mod apart;
+mod ending;
+mod extent;
 mod first;
+mod first_look;
 mod held;
 pub mod laws;
 mod log_position;
@@ -17,7 +20,7 @@ mod read_reset;
 mod room;
 mod version;
 
-pub use first::{Passed, PlainEntry};
+pub use first_look::{Passed, PlainEntry};
 use fw_async::PacketFault;
 use fw_cip::IsoFault;
 pub use fw_log_entry::{

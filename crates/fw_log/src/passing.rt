@@ -10,7 +10,8 @@ ghost use Rattle.fw_log.specs.Next.{IsNext};
 ghost use Rattle.fw_log.specs.Passing.{CountsUp, HasBody, PassesBody, PassesOn};
 ghost use Rattle.fw_log.specs.declared.plain.PlainBody.{PlainBody};
 
-use crate::first::{Passed, PlainEntry, at_hand, plain_bodied, plain_entry};
+use crate::first::at_hand;
+use crate::first_look::{Passed, PlainEntry, plain_bodied, plain_entry};
 use crate::log_position::LogPosition;
 use crate::plain::PlainBody;
 use crate::read::LogReader;

@@ -2,23 +2,23 @@
 
 ghost use Rattle.std.specs.Prelude.{ℕ, ◌≡◌, ◌<◌, ◌+◌, ◌-◌, ◌^◌, ◌++◌, [], List, length};
 ghost use Rattle.std.specs.Prelude.{IfSome, IfNone, IfOk, IfErr, Some, None, Ok, Err};
-ghost use Rattle.std.specs.Result.{result_err};
 ghost use Rattle.fw_log_entry.specs.Log.{is_end, body, epoch_after, LogOpens};
 ghost use Rattle.fw_log_entry.specs.declared.version.Version.{Version as AVersion};
 ghost use Rattle.fw_log_entry.specs.declared.version.Version.TheVariants.{One};
 ghost use Rattle.fw_log.specs.Stands.{position};
 ghost use Rattle.fw_log.specs.Reading.{IsPending};
-ghost use Rattle.fw_log.specs.Reader.{State, total, with_bytes, version_read, known, Remembers, FindsIn, Joins};
-ghost use Rattle.fw_log.specs.Reader.{EndsEntry, EndsNothing, ShowsFault, Feeds, Counts, body_given, finish_of};
-ghost use Rattle.fw_log.specs.History.{stand_after, HasRead, ReadsOn, Names, GivesNext, Finishes};
+ghost use Rattle.fw_log.specs.Reader.{State, total, with_bytes, Remembers, FindsIn, Joins};
+ghost use Rattle.fw_log.specs.Reader.{EndsEntry, EndsNothing, ShowsFault, Feeds, Counts, body_given};
+ghost use Rattle.fw_log.specs.History.{stand_after, HasRead, ReadsOn, Names, GivesNext};
 ghost use Rattle.fw_log.specs.declared.LogFault.{LogFault};
 ghost use Rattle.fw_log_entry.specs.declared.entry.Timed.{Timed};
 
-use crate::first::{Found, at_hand, first_entry, plain_found};
+use crate::first::{Found, at_hand, first_entry};
+use crate::first_look::plain_found;
 use crate::held::SplitEntry;
-use crate::log_position::{LogPosition, skip};
-use crate::version::{remember, version_read};
-use crate::{Entry, LogFault, LogWhy, ReadBuffers, ResetEntry, Timed, Version};
+use crate::log_position::LogPosition;
+use crate::version::remember;
+use crate::{Entry, LogFault, ReadBuffers, ResetEntry, Timed, Version};
 use fw_log_entry::epoch_after;
 use fw_words::Data;
 use std::alloc::{AllocError, Global};
@@ -216,58 +216,6 @@ impl LogReader {
         match self.fault {
             Some(fault) => Err(fault),
             None => self.feed_fresh(piece, room),
-        }
-    }
-
-    // The version, as far as it is known.
-    fn known(&self) -> Option<Version>
-        ensures { result ≡ known self.now }
-    {
-        match self.stand {
-            LogPosition::Header => version_read(self.taken.as_slice()),
-            LogPosition::Entries { version, .. } | LogPosition::Ended { version, .. } => Some(
-                version,
-            ),
-        }
-    }
-
-    /// The version of the log: none exactly if fewer than eight bytes were taken, or one of the two quadlets of them was refused.
-    pub fn version(&self) -> Option<Version>
-        ensures known { result ≡ known self.now }
-        ensures read { (entries : List Timed) → (bytes : List ℕ) → HasRead entries bytes self.now → result ≡ version_read bytes }
-    {
-        self.known()
-    }
-
-    // The fault that the input's end is, if it is one.
-    fn end_fault(&self) -> Option<LogFault>
-        requires { self.now.fault ≡ None → total self.now < 2 ^ 64 }
-        ensures { result ≡ finish_of self.now }
-    {
-        if self.fault.is_some() || matches!(self.stand, LogPosition::Ended { .. }) {
-            return self.fault;
-        }
-        let why = if self.taken.as_slice().len() == skip(self.stand) {
-            LogWhy::NoEnd
-        } else {
-            LogWhy::Cut
-        };
-        Some(LogFault {
-            place: self.stand.start() + self.taken.as_slice().len() as u64,
-            why,
-        })
-    }
-
-    /// Whether the log is whole, at the input's end. `Cut` comes if the input ended inside the header or an entry,
-    /// `NoEnd` if it ended after one of them and the last entry was not the end; a fault of `feed` is answered again.
-    pub fn finish(&self) -> Result<(), LogFault>
-        requires { self.now.fault ≡ None → total self.now < 2 ^ 64 }
-        ensures fault { result_err result ≡ finish_of self.now }
-        ensures log { (entries : List Timed) → (bytes : List ℕ) → HasRead entries bytes self.now → Finishes entries bytes result }
-    {
-        match self.end_fault() {
-            Some(fault) => Err(fault),
-            None => Ok(()),
         }
     }
 }

@@ -1,13 +1,13 @@
 //! What the bytes of an entry show before its body.
 
 ghost use Rattle.std.specs.Prelude.{◌≡◌, ◌≤◌, ◌<◌, ◌+◌, ◌-◌, ◌*◌, ◌^◌, length};
-ghost use Rattle.std.specs.Prelude.{None, Some, Ok, IfSome, ◌==◌, ◌&&◌, if◌then◌else◌};
+ghost use Rattle.std.specs.Prelude.{None, Some, Ok, IfSome, ◌==◌, if◌then◌else◌};
 ghost use Rattle.fw_log.specs.Stands.{position};
-ghost use Rattle.fw_log.specs.Reading.{length_of, cycle_of, is_kind, is_length, is_epoch, has_epoch, epoch_fault, cycle_fault, entry_fault, header_fault, head_fault, fault_at};
-ghost use Rattle.fw_log_entry.specs.Log.{head_size};
+ghost use Rattle.fw_log.specs.Reading.{length_of, cycle_of, is_kind, is_length, is_epoch, epoch_fault, cycle_fault, entry_fault, header_fault, head_fault, fault_at};
 ghost use Rattle.fw_log_entry.specs.declared.version.Version.TheVariants.{Two};
 ghost use Rattle.fw_log.specs.Reader.{Ends};
 
+use crate::extent::end_by_head;
 use crate::log_position::{
     CYCLE, EPOCH_AT, EPOCH_END, HEADER_SIZE, LENGTH_AT, LENGTH_END, LogPosition, cycle_of,
     length_of, rest, version_at,
@@ -35,41 +35,12 @@ fn is_length(kind: u8, len: usize) -> bool
     }
 }
 
-// Both at once, as one look at the kind decides them.
-fn begins_entry(kind: u8, low: u8, len: usize) -> bool
-    ensures { result ≡ (is_kind kind low && is_length kind len) }
-{
-    if low != 0 {
-        return false;
-    }
-    match kind {
-        codes::kind::RESET => 5 <= len && len <= 569,
-        codes::kind::ASYNC => 3 <= len && len <= 132,
-        codes::kind::ISO => len == 3 || len == 123,
-        codes::kind::EVENT => len == 1 || len == 2,
-        codes::kind::OUTCOME | codes::kind::SHOWN => len == 2,
-        codes::kind::END => len == 0,
-        _ => false,
-    }
-}
-
 // The epoch in the head is that of the latest bus reset; that of a bus reset is judged with its body.
-fn is_epoch(epoch: u32, e: &[u8]) -> bool
+pub(crate) fn is_epoch(epoch: u32, e: &[u8]) -> bool
     requires { 8 ≤ length e.now }
     ensures { result ≡ is_epoch epoch e.now }
 {
     e[0] == codes::kind::RESET || quadlet_at(e, EPOCH_AT).0 == epoch
-}
-
-// The same, of a whole head.
-fn has_epoch(version: Version, epoch: u32, e: &[u8]) -> bool
-    requires { head_size version ≤ length e.now }
-    ensures { result ≡ has_epoch version epoch e.now }
-{
-    match version {
-        Version::One => true,
-        Version::Two => is_epoch(epoch, e),
-    }
 }
 
 // The fault of the cycle.
@@ -192,27 +163,7 @@ fn after_end(place: u64, bytes: &[u8]) -> Option<LogFault>
 pub(crate) fn whole_end(stand: LogPosition, bytes: &[u8]) -> Option<usize>
     ensures { IfSome result (λ n. Ends (position stand) bytes.now (Ok (Some n))) }
 {
-    let LogPosition::Entries {
-        last,
-        version,
-        epoch,
-        ..
-    } = stand
-    else {
-        return None;
-    };
-    let head = version.head_size();
-    if bytes.len() < head {
-        return None;
-    }
-    let quadlets = length_of(bytes);
-    if !begins_entry(bytes[0], bytes[1], quadlets)
-        || !has_epoch(version, epoch, bytes)
-        || cycle_of(version, bytes) < last
-    {
-        return None;
-    }
-    let end = head + 4 * quadlets;
+    let end = end_by_head(stand, bytes)?;
     if bytes.len() < end { None } else { Some(end) }
 }
 

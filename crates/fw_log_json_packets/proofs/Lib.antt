@@ -3,6 +3,5 @@ pub mod IsoTexts
 pub mod SwapTexts
 pub mod HeadTexts
 pub mod CipTexts
-pub mod StandingLaws
 pub mod StandingKinds
 pub mod UsualTexts

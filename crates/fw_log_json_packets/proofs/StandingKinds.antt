@@ -7,7 +7,7 @@ use Rattle.fw_async.specs.declared.packet.Head.{Head}
 use Rattle.fw_async.specs.declared.packet.Packet.{Packet}
 use Rattle.fw_async.specs.declared.packet.Packet.TheVariants.{WriteQuadlet, WriteBlock, WriteReply, ReadQuadlet, ReadQuadletReply, Lock, LockReply}
 use Rattle.fw_log_json_packets.specs.Standing.{head_standing, offset_standing}
-use Rattle.fw_log_json_packets.proofs.StandingLaws.{head_with, head_at, offset_at, rcode_at, length_at, function_at, data_at, packet_by, packet_is}
+use Rattle.fw_async.proofs.SameLaws.{head_with, head_at, offset_at, rcode_at, length_at, function_at, data_at, packet_by, packet_is}
 
 -- by its transaction code
 by_code : (p : Packet) (bytes : List ℕ) (t : ℕ) → Spells p bytes → tcode_of bytes ≡ t

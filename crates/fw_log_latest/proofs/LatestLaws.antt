@@ -1,14 +1,14 @@
 -- A bus reset that tells what another told, but for its epoch; and what a reader's answer says of a bus reset.
-use Rattle.std.proofs.Common.{◌≡◌, ℕ, ◌-◌, ◌≤◌, List, ◌++◌, length, take, drop, arith, refl, ap, sym, subst, ◌∙◌, Option, Some, None, Result, Ok, Err}
+use Rattle.std.proofs.Common.{◌≡◌, ℕ, ◌-◌, ◌≤◌, Bool, true, List, ◌++◌, length, take, drop, arith, refl, ap, sym, subst, ◌∙◌, Option, Some, None, Ok, Err}
 use Rattle.std.specs.Prelude.{IfSome, IfNone}
-use Rattle.std.proofs.lemmas.List.{take_all, length-drop, length-append}
+use Rattle.std.proofs.lemmas.List.{take_all, length-drop}
 use Rattle.std.specs.Int.{to_be_bytes, w32}
 use Rattle.fw_words.specs.Quadlet.{quadlet_at}
 use Rattle.fw_log_entry.specs.Log.{ResetFits, Fits, body}
-use Rattle.fw_log_entry.specs.declared.entry.Entry.{Entry}
 use Rattle.fw_log_entry.specs.declared.entry.Entry.TheVariants.{Reset}
 use Rattle.fw_log_entry.specs.declared.entry.ResetEntry.{ResetEntry}
 use Rattle.fw_log_entry.specs.declared.entry.Timed.{Timed}
+use Rattle.fw_log_latest.specs.Latest.{Latest}
 use Rattle.fw_log.proofs.IdsLaws.{back}
 use Rattle.fw_log.proofs.ResetLaws.{same_reset, shape_of}
 use Rattle.fw_log.specs.Reader.{State, Feeds, FeedsTo, body_given}
@@ -47,9 +47,12 @@ epoch_at s bytes f e = ap (λ (t : List ℕ). quadlet_at t 0) (sym e) ∙ back s
 pub long : (r : ResetEntry) (bytes : List ℕ) → body (Reset r) ≡ bytes → 8 ≤ length bytes
 long r bytes e = omega (arith, ap length e, ap length (begins r r.epoch), length-drop 4 (body (Reset r)))
 
--- the bytes after the epoch
+-- the bytes after so many, and those after the epoch
+pub rest_is : (n : ℕ) (bytes : List ℕ) → take (length bytes - n) (drop n bytes) ≡ drop n bytes
+rest_is n bytes = take_all (length bytes - n) (drop n bytes) (omega (arith, length-drop n bytes))
+
 pub later_is : (bytes : List ℕ) → take (length bytes - 4) (drop 4 bytes) ≡ drop 4 bytes
-later_is bytes = take_all (length bytes - 4) (drop 4 bytes) (omega (arith, length-drop 4 bytes))
+later_is = rest_is 4
 
 -- with the epoch of the bytes it is the reset whose body they are
 pub again_is : (r s : ResetEntry) (bytes later : List ℕ) (n : ℕ) → ResetFits r → ResetFits s → body (Reset s) ≡ bytes → drop 4 (body (Reset r)) ≡ later → later ≡ drop 4 bytes
@@ -58,6 +61,13 @@ again_is r s bytes later n f g e d l m =
     let t : ResetEntry = record r { epoch = s.epoch } in
     let same : body (Reset t) ≡ body (Reset s) = ap (λ (x : List ℕ). to_be_bytes w32 s.epoch ++ x) (d ∙ l ∙ ap (drop 4) (sym e)) in
     ap (λ (k : ℕ). record r { epoch = k }) (m ∙ epoch_at s bytes g e) ∙ same_reset t s (shape_of t (fits_with r s f g)) (shape_of s g) same
+
+-- what is kept
+abbrev pub latest_of : Bool → ResetEntry → Latest
+latest_of k r = record { is_kept = k; entry = r }
+
+pub kept_entry : (l : Latest) (k : Bool) (e r : ResetEntry) → k ≡ l.is_kept → l.is_kept ≡ true → e ≡ r → latest_of k e ≡ latest_of true r
+kept_entry l k e r a b c = λ i. latest_of ((a ∙ b) i) (c i)
 
 -- it fits
 pub again_fits : (r s : ResetEntry) (bytes : List ℕ) (n : ℕ) → ResetFits r → ResetFits s → body (Reset s) ≡ bytes → n ≡ quadlet_at bytes 0 → ResetFits (record r { epoch = n })

@@ -9,7 +9,7 @@ use Rattle.fw_log_entry.specs.declared.version.Version.{Version}
 use Rattle.fw_log.specs.History.{bytes_of, IsLog}
 use Rattle.fw_log.specs.Reading.{version_in}
 use Rattle.fw_log.specs.declared.LogFault.{LogFault}
-use Rattle.fw_log.proofs.HistoryLaws.{following, one_log}
+use Rattle.fw_log.proofs.FollowingLaws.{following, one_log}
 use Rattle.fw_log.proofs.SameLaws.{version_back}
 use Rattle.fw_log_loop.specs.Readings.{Form, Rules, IsAccepted}
 use Rattle.fw_log_loop.specs.declared.ending.LogEnding.{LogEnding}

@@ -1,7 +1,11 @@
 pub mod Texts
 pub mod Gatherings
+pub mod RefusedGatherings
 pub mod Printings
+pub mod Openings
+pub mod Readings
 pub mod Decodings
+pub mod Interruptions
 pub mod Completions
 pub mod Closings
 pub mod Readies

@@ -2,7 +2,6 @@
 #![tactic(auto)]
 
 mod asked;
-mod queue;
 mod requests;
 
 pub use asked::{Answer, Asked};

@@ -7,9 +7,9 @@ ghost use Rattle.fw_log_requests.specs.Requests.{answers, with_request, without_
 ghost use Rattle.fw_log_requests.specs.Standing.{AreApart, AreOthers};
 
 use crate::asked::{Answer, Asked};
-use crate::queue::Queue;
 use fw_async::{Head, Packet};
 use fw_log_entry::Entry;
+use fw_request_queue::Queue;
 use std::marker::Model;
 
 /// How many requests are outstanding at most.
@@ -22,7 +22,7 @@ const ASKERS: usize = 64;
 /// room for a new one. Mostly the oldest is answered first, and none has the source of a new one: nothing is looked for then.
 #[derive(Drop)]
 pub struct Requests {
-    queue: Queue,
+    queue: Queue<Asked>,
     // Whether an outstanding request may be of a node_ID that ends in these six bits.
     askers: [bool; ASKERS],
 }
@@ -158,30 +158,44 @@ fn is_first_answered(rows: &[Asked], answer: Answer, head: &Head) -> bool
     }
 }
 
+// Keeps the requests that a response does not answer.
+fn retain_others(queue: &mut Queue<Asked>, answer: Answer, head: &Head)
+    ensures { queue.new ≡ without_answered answer head.now queue.old }
+{
+    queue.retain(|q| !q.is_answered(answer, head));
+}
+
 // Takes the request away that a response answers: mostly the first.
-fn take_answered(queue: &mut Queue, answer: Answer, head: &Head)
+fn take_answered(queue: &mut Queue<Asked>, answer: Answer, head: &Head)
     requires { AreApart queue.old }
     ensures { queue.new ≡ without_answered answer head.now queue.old }
 {
     if is_first_answered(queue.as_slice(), answer, head) {
         queue.take_first();
     } else {
-        queue.take_answered(answer, head);
+        retain_others(queue, answer, head);
     }
 }
 
+// Keeps the requests that have another source, destination or label than a new one.
+fn retain_apart(queue: &mut Queue<Asked>, new: &Asked)
+    ensures { queue.new ≡ without_same new.now queue.old }
+{
+    queue.retain(|q| !new.is_same(q));
+}
+
 // Takes those away that have the source, destination and label of a new one, if one may be from its source.
-fn take_same(queue: &mut Queue, new: &Asked, may_be: bool)
+fn take_same(queue: &mut Queue<Asked>, new: &Asked, may_be: bool)
     requires { may_be ≡ false → AreOthers new.now queue.old }
     ensures { queue.new ≡ without_same new.now queue.old }
 {
     if may_be {
-        queue.take_same(new);
+        retain_apart(queue, new);
     }
 }
 
 // The oldest request makes room for a new one, if as many stand as can.
-fn make_room(queue: &mut Queue)
+fn make_room(queue: &mut Queue<Asked>)
     requires { length queue.old ≤ 256 }
     ensures room { length queue.new < 256 }
     ensures latest { (new : AnAsked) → queue.new ++ new ∷ [] ≡ latest (queue.old ++ new ∷ []) }

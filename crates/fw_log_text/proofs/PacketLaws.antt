@@ -6,7 +6,8 @@ use Rattle.fw_async_fields.specs.Reading.{tcode_of}
 use Rattle.fw_async.specs.declared.packet.Packet.{Packet}
 use Rattle.fw_async.specs.declared.packet.Packet.TheVariants.{WriteQuadlet, WriteBlock, WriteReply, ReadQuadlet, ReadBlock, ReadQuadletReply, ReadBlockReply, CycleStart, Lock, LockReply}
 use Rattle.fw_async_fields.proofs.NeedLaws.{need_most}
-use Rattle.fw_async.proofs.SpelledLaws.{spelled_need, spelled_none, spelled_tcode}
+use Rattle.fw_async.proofs.SpelledSizeLaws.{spelled_need}
+use Rattle.fw_async.proofs.SpelledLaws.{spelled_none, spelled_tcode}
 use Rattle.fw_log_entry.specs.declared.entry.Entry.TheVariants.{Async}
 use Rattle.fw_log_names.specs.Names.{tcode}
 use Rattle.fw_log_text.specs.Names.{packet_name}

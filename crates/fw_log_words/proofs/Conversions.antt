@@ -5,7 +5,7 @@ use Rattle.fw_log_entry.specs.Log.{header_bytes, entries_bytes, LogOpens, LogSpe
 use Rattle.fw_log_entry.specs.declared.entry.Timed.{Timed}
 use Rattle.fw_log_entry.specs.declared.version.Version.{Version}
 use Rattle.fw_log.specs.History.{IsLog}
-use Rattle.fw_log.proofs.HistoryLaws.{one_log}
+use Rattle.fw_log.proofs.FollowingLaws.{one_log}
 use Rattle.fw_log_loop.proofs.Completions.{told_end}
 use Rattle.fw_log_words.specs.Converting.{Converts}
 

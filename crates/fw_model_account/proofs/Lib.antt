@@ -18,6 +18,7 @@ pub mod Places
 pub mod Accesses
 pub mod Example
 pub mod Listing
+pub mod RefusedReads
 pub mod Refused
 pub mod Resets
 pub mod Transactions

@@ -1,130 +1,24 @@
 -- There is no account after an entry exactly if it is refused.
-use Rattle.fw_model_account.proofs.Common.{PlugAt, Head, LockReply, ResetEntry, Async, ◌≡◌, ◌≢◌, ℕ, ◌==◌, ◌&&◌, Bool, true, false, Option, Some, None, is_some, List, refl, sym, subst, ◌∙◌, true≢false}
-use Rattle.fw_model_account.proofs.Common.{arith, cond, nat_tests, Account, Locks, device_of_id, Move, after, Register, register_of, move_at, ended, next_account, IsSound}
+use Rattle.fw_model_account.proofs.Common.{PlugAt, Head, LockReply, ResetEntry, Async, ◌≡◌, ◌≢◌, ℕ, ◌==◌, ◌&&◌, Bool, true, false, Option, Some, None, is_some, List, refl, sym, subst, ◌∙◌, arith}
+use Rattle.fw_model_account.proofs.Common.{cond, nat_tests, Account, Locks, Move, after, Register, register_of, move_at, ended, next_account, IsSound}
 use Rattle.fw_async.specs.declared.packet.Packet.{Packet}
 use Rattle.fw_async.specs.declared.packet.Packet.TheVariants.{WriteQuadlet, WriteBlock, WriteReply, ReadQuadlet, ReadBlock, ReadQuadletReply, ReadBlockReply, CycleStart, Lock}
 use Rattle.fw_log_entry.specs.declared.entry.EventEntry.{EventEntry}
 use Rattle.fw_log_entry.specs.declared.entry.Entry.{Entry}
 use Rattle.fw_log_entry.specs.declared.entry.Entry.TheVariants.{Reset, Iso, Event, Outcome, Shown, End}
-use Rattle.std.proofs.Common.{◌↔◌, is_none, length}
+use Rattle.std.proofs.Common.{◌↔◌, length}
 use Rattle.fw_words.specs.Quadlet.{quadlet_at}
 use Rattle.fw_model_account.specs.Account.{Operation, Reads, Request}
 use Rattle.fw_model_account.specs.Decode.{IsMove}
 use Rattle.fw_model_account.specs.Events.{after_second, after_death, after_withholding}
-use Rattle.fw_model_account.specs.Packets.{asked, asked_by, is_reply_to, is_swapped, moved, swapped, replied, replied_to, answered, after_request, after_reply, after_packet, Reply, Read, Locked}
+use Rattle.fw_model_account.specs.Packets.{asked, is_reply_to, is_swapped, moved, swapped, replied, after_reply, after_packet, Locked}
 use Rattle.fw_model_account.specs.Fold.{after_event}
-use Rattle.fw_model_account.specs.Refused.{IsRequestRefused, NoNode, Overlap, Ends, IsReplyRefused, NoReceiver, NoRequest, OtherNode, IsReadRefused, OtherKind}
-use Rattle.fw_model_account.specs.Refused.{IsLockRefused, WasRead, OtherFunction, NoMove, IsPacketRefused, IsEventRefused, NoSecond, TooLate, IsRefused}
+use Rattle.fw_model_account.specs.Refused.{Ends, IsLockRefused, WasRead, OtherFunction, NoMove, IsPacketRefused, IsEventRefused, NoSecond, TooLate, IsRefused}
 use Rattle.fw_model_account.proofs.Network.{not_both}
 use Rattle.fw_model_account.proofs.Decoded.{move_at_is, move_found}
 use Rattle.fw_model_account.proofs.Packets.{device_below}
-
-some_is : {A : Type 0} (v : A) → Some v ≡ None → ⊥
-some_is v e = cc
-
-number_is : (n k : ℕ) → (n == k) ≡ true → n ≡ k
-number_is n k e = grind (arith, nat_tests)
-
-number_not : (n k : ℕ) → (n == k) ≡ false → n ≢ k
-number_not n k e = λ same. absurd (true≢false (sym (rw same (grind (arith, nat_tests))) ∙ e))
-
-number_same : (n k : ℕ) → n ≡ k → (n == k) ≡ true
-number_same n k e = grind (arith, nat_tests)
-
-number_differs : (n k : ℕ) → n ≢ k → (n == k) ≡ false
-number_differs n k ne = grind (arith, nat_tests)
-
--- ---- requests
-
-there : (o : Option Request) → is_none o ≡ false → o ≢ None
-there None e = λ f. true≢false e
-there (Some v) e = λ f. cc
-
-request_refused : (h : Head) (address : ℕ) (operation : Operation) (l : Account) → after_request h address operation l ≡ None → IsRequestRefused h l
-request_refused h address operation l e = go (h.tl == 0) refl e
-  where
-    request : Request
-    request = record { target = h.destination; address = address; operation = operation }
-
-    free : (c : ℕ) (b : Bool) → h.tl ≡ 0 → device_of_id l.latest h.source ≡ Some c → is_none (l.outstanding c) ≡ b → cond b (Some (asked c request l)) None ≡ None → IsRequestRefused h l
-    free c true tl d n f = absurd (some_is (asked c request l) f)
-    free c false tl d n f = Overlap c tl d (there (l.outstanding c) n)
-
-    by : (o : Option ℕ) → h.tl ≡ 0 → device_of_id l.latest h.source ≡ o → asked_by o request l ≡ None → IsRequestRefused h l
-    by None tl d f = NoNode tl d
-    by (Some c) tl d f = free c (is_none (l.outstanding c)) tl d refl f
-
-    go : (b : Bool) → (h.tl == 0) ≡ b → cond b (asked_by (device_of_id l.latest h.source) request l) (Some l) ≡ None → IsRequestRefused h l
-    go true t f = by (device_of_id l.latest h.source) (number_is h.tl 0 t) refl f
-    go false t f = absurd (some_is l f)
-
-not_free : (o : Option Request) → o ≢ None → is_none o ≡ false
-not_free None ne = absurd (ne refl)
-not_free (Some v) ne = refl
-
-refused_request : (h : Head) (address : ℕ) (operation : Operation) (l : Account) → IsRequestRefused h l → after_request h address operation l ≡ None
-refused_request h address operation l (NoNode tl d) = rw tl (rw d refl)
-refused_request h address operation l (Overlap c tl d ne) = rw tl (rw d (rw (not_free (l.outstanding c) ne) refl))
-
--- ---- responses
-
--- an accepted response, or why it is none
-reply_refused : (h : Head) (reply : Reply) (l : Account) (R : Type 0) → after_reply h reply l ≡ None → (IsReplyRefused h l → R)
-    → ((c : ℕ) (request : Request) → Ends h c request l → request.target ≡ h.source → is_reply_to request.operation reply ≡ false → R)
-    → ((c : ℕ) (request : Request) → Ends h c request l → request.target ≡ h.source → is_reply_to request.operation reply ≡ true → replied c request request.operation reply l ≡ None → R) → R
-reply_refused h reply l R e unexpected other none = go (h.tl == 0) refl e
-  where
-    kind : (c : ℕ) (request : Request) (b : Bool) → Ends h c request l → request.target ≡ h.source → is_reply_to request.operation reply ≡ b
-        → cond b (replied c request request.operation reply l) None ≡ None → R
-    kind c request true n t k f = none c request n t k f
-    kind c request false n t k f = other c request n t k
-
-    from : (c : ℕ) (request : Request) (b : Bool) → Ends h c request l → (request.target == h.source) ≡ b
-        → cond (b && is_reply_to request.operation reply) (replied c request request.operation reply l) None ≡ None → R
-    from c request true n t f = kind c request (is_reply_to request.operation reply) n (number_is request.target h.source t) refl f
-    from c request false n t f = unexpected (OtherNode c request n (number_not request.target h.source t))
-
-    to : (c : ℕ) (o : Option Request) → h.tl ≡ 0 → device_of_id l.latest h.destination ≡ Some c → l.outstanding c ≡ o → replied_to c o h.source reply l ≡ None → R
-    to c None tl d n f = unexpected (NoRequest c tl d n)
-    to c (Some request) tl d n f = from c request (request.target == h.source) (record { label = tl; device = d; outstanding = n }) refl f
-
-    by : (o : Option ℕ) → h.tl ≡ 0 → device_of_id l.latest h.destination ≡ o → answered o h.source reply l ≡ None → R
-    by None tl d f = unexpected (NoReceiver tl d)
-    by (Some c) tl d f = to c (l.outstanding c) tl d refl f
-
-    go : (b : Bool) → (h.tl == 0) ≡ b → cond b (answered (device_of_id l.latest h.destination) h.source reply l) (Some l) ≡ None → R
-    go true t f = by (device_of_id l.latest h.destination) (number_is h.tl 0 t) refl f
-    go false t f = absurd (some_is l f)
-
-refused_reply : (h : Head) (reply : Reply) (l : Account) → IsReplyRefused h l → after_reply h reply l ≡ None
-refused_reply h reply l (NoReceiver tl d) = rw tl (rw d refl)
-refused_reply h reply l (NoRequest c tl d n) = rw tl (rw d (rw n refl))
-refused_reply h reply l (OtherNode c request n ne) = rw n.label (rw n.device (rw n.outstanding (rw (number_differs request.target h.source ne) refl)))
-
-other_kind : (h : Head) (reply : Reply) (c : ℕ) (request : Request) (l : Account) → Ends h c request l → is_reply_to request.operation reply ≡ false → after_reply h reply l ≡ None
-other_kind h reply c request l n k = rw n.label (rw n.device (rw n.outstanding (go (request.target == h.source))))
-  where
-    go : (b : Bool) → cond (b && is_reply_to request.operation reply) (replied c request request.operation reply l) None ≡ None
-    go true = rw k refl
-    go false = refl
-
--- ---- reads
-
-read_refused : (h : Head) (l : Account) → after_reply h Read l ≡ None → IsReadRefused h l
-read_refused h l e = reply_refused h Read l (IsReadRefused h l) e (λ r. IsReadRefused.Unexpected r) (λ c request n t k. other c request n request.operation refl k)
-    (λ c request n t k f. none c request request.operation f)
-  where
-    other : (c : ℕ) (request : Request) → Ends h c request l → (operation : Operation) → request.operation ≡ operation → is_reply_to operation Read ≡ false → IsReadRefused h l
-    other c request n Reads o k = absurd (true≢false k)
-    other c request n (Locks function bytes) o k = OtherKind c request function bytes n o
-
-    none : (c : ℕ) (request : Request) (operation : Operation) → replied c request operation Read l ≡ None → IsReadRefused h l
-    none c request Reads f = absurd (some_is (ended c l) f)
-    none c request (Locks function bytes) f = absurd (some_is (ended c l) f)
-
-refused_read : (h : Head) (l : Account) → IsReadRefused h l → after_reply h Read l ≡ None
-refused_read h l (IsReadRefused.Unexpected r) = refused_reply h Read l r
-refused_read h l (OtherKind c request function bytes n o) = other_kind h Read c request l n (rw o refl)
+use Rattle.fw_model_account.proofs.RefusedReads.{some_is, number_is, number_not, number_same, number_differs, request_refused, refused_request, reply_refused, refused_reply, other_kind, read_refused}
+use Rattle.fw_model_account.proofs.RefusedReads.{refused_read}
 
 -- ---- locks
 

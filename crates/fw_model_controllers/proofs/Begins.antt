@@ -9,7 +9,7 @@ use Rattle.fw_model_controllers.proofs.Common.{breaking_job, Holding, Holds, has
 use Rattle.fw_cmp_jobs.specs.declared.job.Ending.TheVariants.{NoManager, Absent}
 use Rattle.fw_cmp_jobs.specs.Jobs.{absent_of, begin_managed, own_flow, is_undecided}
 use Rattle.fw_model_controllers.specs.Controllers.{StandsAt}
-use Rattle.fw_model_controllers.proofs.Decisions.{none_at_output, no_output}
+use Rattle.fw_model_controllers.proofs.InputDecisions.{none_at_output, no_output}
 use Rattle.fw_model_controllers.proofs.Goes.{holds_same}
 
 -- what a controller has beside its current job

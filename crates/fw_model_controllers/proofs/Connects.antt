@@ -11,7 +11,8 @@ use Rattle.fw_cmp_jobs.specs.Requests.{first_word}
 use Rattle.fw_model_controllers.specs.Holding.{one_at}
 use Rattle.fw_model_controllers.proofs.Counts.{room_of_empty}
 use Rattle.fw_model_controllers.proofs.Words.{output_word, output_shows, settings_shown, shows_connected, room_is, output_more, settings_set, units_shown}
-use Rattle.fw_model_controllers.proofs.Decisions.{IsNext, FlowIs, out_next, held_next, joined_next}
+use Rattle.fw_model_controllers.proofs.Decisions.{IsNext, out_next, held_next}
+use Rattle.fw_model_controllers.proofs.InputDecisions.{FlowIs, joined_next}
 use Rattle.fw_model_controllers.proofs.Goes.{stays}
 use Rattle.fw_model_controllers.proofs.Answers.{IsComplete, complete, swapped, has_output_plug, same_plug_is, seen_is}
 use Rattle.fw_model_controllers.proofs.Makes.{needs_are, held_is}

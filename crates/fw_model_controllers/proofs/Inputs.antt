@@ -11,7 +11,8 @@ use Rattle.fw_cmp_jobs.specs.Plugs.{one_more, with_channel}
 use Rattle.fw_cmp_jobs.specs.Decisions.{decide_leave_in}
 use Rattle.fw_cmp_jobs.specs.Requests.{input_word as joined_word}
 use Rattle.fw_model_controllers.proofs.Words.{Shows, input_word, input_shows, channel_shown, shows_connected, shows_own, room_is, input_more, input_less, input_channel_set}
-use Rattle.fw_model_controllers.proofs.Decisions.{FlowIs, in_next, refused_next, made_next, leave_input_next, input_left_next}
+use Rattle.fw_model_controllers.proofs.InputDecisions.{FlowIs, in_next, refused_next, made_next}
+use Rattle.fw_model_controllers.proofs.LeavingDecisions.{leave_input_next, input_left_next}
 use Rattle.fw_model_controllers.proofs.Goes.{stays}
 use Rattle.fw_model_controllers.proofs.Answers.{IsComplete, complete, heard, was_refused, swapped, same_plug_is, own_input}
 use Rattle.fw_model_controllers.proofs.Moved.{Hears, moves_by, moved, one_input, inputs_fit}

@@ -27,7 +27,7 @@ use Rattle.fw_cmp.specs.Jobs.{ready}
 use Rattle.fw_model_controllers.proofs.Turns.{asking}
 use Rattle.fw_model_controllers.proofs.Addressees.{target_is, addressee_there, number_at, node_is}
 use Rattle.fw_async.specs.declared.packet.Packet.{Packet}
-use Rattle.fw_model_controllers.proofs.StageFits.{half_is}
+use Rattle.fw_model_controllers.proofs.OutputFits.{half_is}
 use Rattle.fw_log_entry.specs.declared.entry.Entry.TheVariants.{Async}
 use Rattle.fw_log_entry.specs.declared.nodes.NodeRow.{NodeRow}
 use Rattle.fw_model_account.specs.Fold.{next_account}

@@ -3,6 +3,9 @@ pub mod Counts
 pub mod Holdings
 pub mod Words
 pub mod Decisions
+pub mod ManagerDecisions
+pub mod InputDecisions
+pub mod LeavingDecisions
 pub mod Registers
 pub mod Goes
 pub mod Answers
@@ -30,6 +33,7 @@ pub mod Nexts
 pub mod Given
 pub mod Standing
 pub mod Together
+pub mod OutputFits
 pub mod StageFits
 pub mod Fits
 pub mod Leads

@@ -11,7 +11,8 @@ use Rattle.fw_cmp_jobs.specs.Decisions.{units_or, is_other}
 use Rattle.fw_model_controllers.specs.InStep.{works}
 use Rattle.fw_model_controllers.proofs.Words.{output_word, units_shown, remainder_shown}
 use Rattle.fw_model_controllers.proofs.Registers.{open_is, bit_cleared, remainder_less}
-use Rattle.fw_model_controllers.proofs.Decisions.{some_units, NeedsAre, ended_next, out_next, channel_next, units_next, allocated_next, funded_next}
+use Rattle.fw_model_controllers.proofs.Decisions.{some_units, NeedsAre, ended_next, out_next}
+use Rattle.fw_model_controllers.proofs.ManagerDecisions.{channel_next, units_next, allocated_next, funded_next}
 use Rattle.fw_model_controllers.proofs.Goes.{IsSeen, stays}
 use Rattle.fw_model_controllers.proofs.Answers.{IsComplete, complete, heard, was_refused, swapped, has_output_plug, same_plug_is, seen_is}
 use Rattle.fw_model_controllers.proofs.Moved.{Hears, moves_by, moved, reserved_is, stays_at_plugs, settings_fit, outputs_fit}

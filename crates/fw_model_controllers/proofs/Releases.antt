@@ -16,7 +16,9 @@ use Rattle.fw_model_controllers.specs.Holding.{plug_reservation}
 use Rattle.fw_model_controllers.specs.InStep.{again}
 use Rattle.fw_model_controllers.proofs.Words.{output_word, output_shows, shows_connected, shows_own, output_less, remainder_shown}
 use Rattle.fw_model_controllers.proofs.Registers.{bit_set, remainder_more}
-use Rattle.fw_model_controllers.proofs.Decisions.{IsNext, some_units, ended_next, on_next, leave_output_next, raise_next, release_next, restore_next, released_next}
+use Rattle.fw_model_controllers.proofs.Decisions.{IsNext, some_units, ended_next, on_next}
+use Rattle.fw_model_controllers.proofs.LeavingDecisions.{leave_output_next}
+use Rattle.fw_model_controllers.proofs.ManagerDecisions.{raise_next, release_next, restore_next, released_next}
 use Rattle.fw_model_controllers.proofs.Goes.{stays}
 use Rattle.fw_model_controllers.proofs.Answers.{IsComplete, complete, heard, swapped, own_output, seen_is}
 use Rattle.fw_model_controllers.proofs.Makes.{seen_here, managed, held_is}

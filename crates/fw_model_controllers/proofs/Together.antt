@@ -21,7 +21,7 @@ use Rattle.fw_model_account.proofs.Deaths.{death_keeps as death_sound}
 use Rattle.fw_model_account.proofs.Packets.{asked_keeps as asked_sound, ended_keeps as ended_sound}
 use Rattle.fw_cmp.specs.Controllers.{first_state}
 use Rattle.fw_cmp.proofs.Fitting.{first_fits}
-use Rattle.fw_cmp.proofs.Overtaken.{state_reset_fits, second_fits}
+use Rattle.fw_cmp.proofs.SlotsReset.{state_reset_fits, second_fits}
 use Rattle.fw_model_controllers.specs.Holding.{no_holding}
 use Rattle.fw_model_controllers.specs.Controllers.{holding_of, StandsAt}
 use Rattle.fw_model_controllers.specs.Together.{AreInStep, Becomes, SendsRequest, SendsNothing, TakesTurn, HearsAnswer, TakesJob, BusResets, EndsSecond, Dies, Withholds}
@@ -30,7 +30,8 @@ use Rattle.fw_model_controllers.proofs.Carried.{carried_is, carried_sound, carri
 use Rattle.fw_model_controllers.proofs.Events.{asked_keeps, asked_leaves, ended_keeps, ended_leaves, death_keeps, death_leaves, dead_holds, withholding_keeps, withholding_leaves}
 use Rattle.fw_model_controllers.proofs.Fits.{next_fits, heard_fits}
 use Rattle.fw_model_controllers.proofs.Goes.{keeps_self}
-use Rattle.fw_cmp.proofs.GoingOn.{next_goes_on, hear_goes_on, second_goes_on, state_reset_goes_on, first_goes_on}
+use Rattle.fw_cmp.proofs.GoingOn.{next_goes_on, hear_goes_on}
+use Rattle.fw_cmp.proofs.ResetGoesOn.{second_goes_on, state_reset_goes_on, first_goes_on}
 use Rattle.fw_model_controllers.proofs.Given.{given_fits, given_in_step, given_goes_on}
 use Rattle.fw_model_controllers.proofs.Standing.{update_here, update_there, carried_outstanding, heard_none, reset_outstanding, given_current}
 use Rattle.fw_model_controllers.proofs.Kept.{output_there, input_there, kept_in_step}

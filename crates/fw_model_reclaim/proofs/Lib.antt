@@ -39,4 +39,5 @@ pub mod Making
 pub mod Complete
 pub mod AvoidsHeard
 pub mod AvoidsTurns
+pub mod WithheldChannels
 pub mod Avoiding

@@ -12,7 +12,7 @@ use Rattle.fw_manager.specs.declared.candidate.BidProgress.{BidProgress}
 use Rattle.fw_manager.specs.declared.candidate.BidProgress.TheVariants.{Fresh, Asked, Answered}
 use Rattle.fw_model_run.specs.Bidding.{BidStep, is_candidate}
 use Rattle.fw_model_run.specs.Candidates.{AreCandidates, HasCandidates}
-use Rattle.fw_model_run.proofs.Contending.{each_candidate, no_candidate}
+use Rattle.fw_model_run.proofs.Candidacies.{each_candidate, no_candidate}
 use Rattle.fw_model_run.proofs.Grows.{Number, number_there, manager_there}
 use Rattle.fw_model_run.proofs.Resets.{declaring, MayReset, reset_shows, still_living, numbered}
 use Rattle.fw_model_run.proofs.Settling.{half_turn}

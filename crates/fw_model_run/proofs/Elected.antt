@@ -6,7 +6,8 @@ use Rattle.fw_model_run.specs.Elected.{Answers, no_answers, first_won, with_answ
 use Rattle.fw_model_run.specs.Elected.{id_of, IsNoReset, HasNoReset, IsBid, IsElection, WrittenIn, ElectsOne}
 use Rattle.fw_model_run.specs.Entries.{elected}
 use Rattle.fw_model_run.proofs.Along.{step_led}
-use Rattle.fw_model_run.proofs.Contending.{first_election, step_bids}
+use Rattle.fw_model_run.proofs.Candidacies.{first_election}
+use Rattle.fw_model_run.proofs.Contending.{step_bids}
 use Rattle.fw_model_run.proofs.Kept.{first_numbers, step_numbers}
 use Rattle.fw_model_run.proofs.Leads.{linked_of}
 use Rattle.fw_model_run.proofs.Led.{Led}

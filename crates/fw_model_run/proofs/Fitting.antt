@@ -38,7 +38,7 @@ use Rattle.fw_model_run.specs.Numbers.{EndingShows, StageShows}
 use Rattle.fw_model_run.proofs.Bounds.{ReplyFits, node_few, number_few, node_fits}
 use Rattle.fw_model_run.proofs.Buses.{linked_small}
 use Rattle.fw_model_run.proofs.Directories.{told}
-use Rattle.fw_model_run.proofs.Endings.{ReadyFits, ready_fits, made_shows}
+use Rattle.fw_model_run.proofs.ReadyEndings.{ReadyFits, ready_fits, made_shows}
 use Rattle.fw_model_run.proofs.Hears.{Heard, heard_of, half_hears, reply_heard}
 use Rattle.fw_model_run.proofs.Leads.{IsLinked, linked_of}
 use Rattle.fw_model_run.proofs.Responses.{node_of_target, heard_node}

@@ -11,7 +11,8 @@ use Rattle.fw_model_run.specs.Frames.{decks_after, IsFollowedBy}
 use Rattle.fw_model_run.specs.Good.{IsDeck, IsLinkedNode}
 use Rattle.fw_model_run.specs.Found.{FoundFrame, FoundWrite}
 use Rattle.fw_model_run.specs.TransactionDeeds.{MayReceive, MaySendFrame, receiving, sending_frame}
-use Rattle.fw_model_run.proofs.Decks.{each_deck, next_sendable, sent_is, commanded_is, inserted_is, ejected_is}
+use Rattle.fw_model_run.proofs.Decks.{each_deck, next_sendable, sent_is, inserted_is, ejected_is}
+use Rattle.fw_model_run.proofs.CommandedDecks.{commanded_is}
 use Rattle.fw_model_run.proofs.Leads.{linked_of}
 use Rattle.fw_model_run.proofs.Transactions.{linked_number_of}
 

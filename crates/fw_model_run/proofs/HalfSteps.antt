@@ -5,7 +5,8 @@ use Rattle.fw_model_run.proofs.Common.{Overtaken, IsHeard, ControllerState, new_
 use Rattle.fw_model_run.proofs.Common.{half_of, asks, taken, after_half, half, has_request, IsGood}
 use Rattle.fw_model_run.proofs.Common.{Asks, cases_eq, update, heard, after_loss}
 use Rattle.fw_model_run.specs.HalfSteps.{HalfStep}
-use Rattle.fw_model_run.proofs.Hears.{hears_good, heard_of, half_hears, reply_heard}
+use Rattle.fw_model_run.proofs.HearsGood.{hears_good}
+use Rattle.fw_model_run.proofs.Hears.{heard_of, half_hears, reply_heard}
 use Rattle.fw_model_run.proofs.Turns.{turn_good, update_new, update_others}
 use Rattle.fw_model_run.specs.Afterwards.{stage_of}
 

@@ -1,12 +1,8 @@
--- The half step in which a controller hears the answer to its request leads from a good state to a good state.
-use Rattle.fw_model_run.proofs.Common.{◌≡◌, ◌≢◌, ◌⊎◌, inl, inr, ℕ, ◌==◌, ◌&&◌, not, cond, Bool, true, false, List}
-use Rattle.fw_model_run.proofs.Common.{[], Option, Some, None, is_some, unwrap_or, refl, ap, sym, subst, ◌∙◌, arith, option_map}
-use Rattle.fw_model_run.proofs.Common.{IsTrue, IsFalse, to_be_bytes, w32, cases_eq, PlugAt, update, Packet, ReadQuadletReply}
-use Rattle.fw_model_run.proofs.Common.{LockReply, Reply, Swap, Async, ResetEntry, Account, row_of_node, next_account}
-use Rattle.fw_model_run.proofs.Common.{node_of, Hearing, Job, Access, Target, Stage, new_controller, offset_of, access_of, addressee_of, request_at, heard, after_hear, packet_of, kind_at, row_of}
-use Rattle.fw_model_run.proofs.Common.{procedure_head, goes_on_reclaiming, AsksWhatStands, reply_from, State, while_talking, list_to}
-use Rattle.fw_model_run.proofs.Common.{linked_number, manager_in, directory_of, is_living, is_deaf, epoch_of}
-use Rattle.fw_model_run.proofs.Common.{half_of, half, taken, after_half, dub_between, IsGood, IsLatest, world_of}
+-- The half step in which a controller hears the answer to its request, and what it leaves of the account.
+use Rattle.fw_model_run.proofs.Common.{◌≡◌, ℕ, ◌==◌, cond, Bool, true, false, List, [], Option, Some, None, is_some, refl, ap, sym, subst, ◌∙◌, arith, option_map, IsTrue, IsFalse, to_be_bytes, w32}
+use Rattle.fw_model_run.proofs.Common.{PlugAt, update, Packet, ReadQuadletReply, LockReply, Reply, Swap, Async, ResetEntry, Account, row_of_node, next_account, node_of, Hearing, Job, Access, Target}
+use Rattle.fw_model_run.proofs.Common.{Stage, offset_of, access_of, addressee_of, request_at, after_hear, packet_of, kind_at, row_of, procedure_head, AsksWhatStands, reply_from, State, while_talking}
+use Rattle.fw_model_run.proofs.Common.{linked_number, directory_of, is_living, half_of, half, dub_between, IsGood, IsLatest}
 use Rattle.std.proofs.Common.{IsSome, is_none}
 use Rattle.fw_model_account.specs.Moves.{Move, AllocateChannel, AllocateUnits, ConnectFirst, ConnectOverlaid, ConnectInput, DisconnectInput, DisconnectOutput, ReleaseUnits, ReleaseChannel, after}
 use Rattle.fw_model_account.specs.Packets.{ended}
@@ -20,14 +16,11 @@ use Rattle.fw_model_controllers.specs.Registers.{IsAnswer, succeeds}
 use Rattle.fw_model_controllers.specs.Requests.{IsNodeOf, IsResponse}
 use Rattle.fw_model_controllers.proofs.Addressees.{target_is, addressee_there, number_at, node_is}
 use Rattle.fw_model_controllers.proofs.Leads.{target_register, answer_leads}
-use Rattle.fw_model_reclaim.specs.Worlds.{Answer}
 use Rattle.fw_model_run.specs.HalfSteps.{hears, hears_from}
-use Rattle.fw_model_run.specs.Good.{IsDeck, AreLosses}
 use Rattle.fw_model_run.proofs.Answers.{nodes_answer}
 use Rattle.fw_model_run.proofs.Buses.{linked_at, linked_small}
-use Rattle.fw_model_run.proofs.Counts.{silent}
 use Rattle.fw_model_run.proofs.Directories.{told}
-use Rattle.fw_model_run.proofs.Turns.{becomes, each_of, living_linked, update_others, quiet_losses}
+use Rattle.fw_model_run.proofs.Turns.{living_linked}
 
 -- ---- the response
 
@@ -90,59 +83,11 @@ carried_bus d j s r l = go (succeeds (swap_of j s) r) (move_of j s)
     go true None = (refl, refl)
     go true (Some x) = moved_bus d x.0 x.1 l
 
--- ---- the state after it
-
-abbrev answered : State → ℕ → Job → Stage → Reply → State
-answered s d j stage r = record s {
-  account = ended d (carried_out d j stage r s.account);
-  controllers = update s.controllers d (after_hear (s.controllers d) r);
-  asked_at = update s.asked_at d (s.asked_at d);
-  streams = while_talking (ended d (carried_out d j stage r s.account)) s.streams;
-  dub = dub_between s.account (ended d (carried_out d j stage r s.account)) s.dub;
-}
-
 -- an outstanding request: its register, and the node that it went to
 pub record Asked (s : State) (d : ℕ) (j : Job) (stage : Stage) (t : Target) (to : ℕ) (r : Reply) : Type 0 where
   pub current : (s.controllers d).current ≡ Hearing j stage
   pub target : target_of j stage ≡ Some t
   pub answer : IsAnswer s.account t r
-
-answered_good : (s : State) (d n to : ℕ) (e : ResetEntry) (j : Job) (stage : Stage) (t : Target) (r : Reply) → IsGood s → IsTrue (is_living s d) → IsFalse (is_deaf s d) → s.account.latest ≡ Some e
-    → IsLatest (Some e) s.declared s.account → linked_number (Some e) d ≡ Some n → Asked s d j stage t to r → IsGood (answered s d j stage r)
-answered_good s d n to e j stage t r g lives quiet is h number x = record {
-  declared = g.declared;
-  latest = subst (λ o. IsLatest o u.declared u.account) (sym (latest ∙ is)) h;
-  reclaims = goes_on_reclaiming (world_of s) (world_of u) (Answer d r) g.reclaims (record {
-    device = linked_small s e d n h.1 number;
-    job = j;
-    stage = stage;
-    current = x.current;
-    target = t;
-    asked = x.target;
-    answer = x.answer;
-    account = refl;
-    becomes = becomes s.controllers d (after_hear (s.controllers d) r);
-    directory = ap (λ o. record { node = list_to 63 (linked_number o); manager = manager_in o; over_at = s.clock.over_at }) latest;
-  });
-  stands = each_of (λ c. AsksWhatStands c.current) s.controllers d (after_hear (s.controllers d) r) (subst (λ c. AsksWhatStands (heard c r)) (sym x.current) tt) g.stands;
-  unused = λ k off. unused k (sym (ap (λ o. is_some (linked_number o k) && not (s.dead k)) latest) ∙ off) (cases_eq k d);
-  time = record { second = λ runs. g.time.second (sym (carried_bus d j stage r s.account).1 ∙ runs); over_at = g.time.over_at; cycle = g.time.cycle };
-  losses = subst (λ o. AreLosses s.lost u.controllers s.resets (epoch_of o)) (sym latest) (quiet_losses s d (after_hear (s.controllers d) r) g quiet);
-  half_steps = g.half_steps;
-  written = g.written;
-  decks = λ k. subst (λ o. IsDeck o s.clock.cycle k (s.decks k)) (sym latest) (g.decks k);
-  streams = silent u.account s.streams;
-}
-  where
-    u : State
-    u = answered s d j stage r
-
-    latest : (carried_out d j stage r s.account).latest ≡ s.account.latest
-    latest = (carried_bus d j stage r s.account).0
-
-    unused : (k : ℕ) → IsFalse (is_living s k) → (k ≡ d) ⊎ (k ≢ d) → update s.controllers d (after_hear (s.controllers d) r) k ≡ new_controller
-    unused k off (inl same) = let on : is_living s k ≡ true = ap (is_living s) same ∙ lives in absurd (grind (arith, on, off))
-    unused k off (inr ne) = update_others s.controllers d (after_hear (s.controllers d) r) k ne ∙ g.unused k off
 
 -- ---- the half step
 
@@ -226,15 +171,6 @@ half_hears s d j stage g current x = record { access = access; answer = answer; 
         answer_leads (directory_of s) s.account s.controllers s.clock.cycle place x.to (row_of d (kind_at s.declared.kinds d)) j stage a r response.packet g.reclaims.step dir
         (linked_small s x.entry d x.number x.shows.1 x.linked) row current access x.goes answer response.is
 
-heard_good : (s : State) (d : ℕ) (j : Job) (stage : Stage) → IsGood s → IsTrue (is_living s d) → IsFalse (is_deaf s d) → (s.controllers d).current ≡ Hearing j stage → (x : Heard s d j stage)
-    → HalfHears s d j stage x → IsGood (after_half s d)
-heard_good s d j stage g lives quiet current x h =
-    subst (λ z. IsGood (taken s d z)) (sym h.half_is) (subst (λ l. IsGood (with_answer s d r l)) (sym (ap (λ o. unwrap_or o s.account) h.leads))
-    (answered_good s d x.number x.to x.entry j stage x.target r g lives quiet x.is x.shows x.linked (record { current = current; target = x.asked; answer = h.answer })))
-  where
-    r : Reply
-    r = reply_heard s d j stage x
-
 -- if a request is outstanding there is its node
 pub heard_of : (s : State) (d : ℕ) (j : Job) (stage : Stage) → IsGood s → IsTrue (is_living s d) → (s.controllers d).current ≡ Hearing j stage → Heard s d j stage
 heard_of s d j stage g lives current = of_latest s.account.latest refl (living_linked s d lives) g.latest
@@ -265,6 +201,3 @@ heard_of s d j stage g lives current = of_latest s.account.latest refl (living_l
     of_latest : (o : Option ResetEntry) → s.account.latest ≡ o → IsTrue (is_some (linked_number o d)) → IsLatest o s.declared s.account → Heard s d j stage
     of_latest None is on h = absurd (grind (arith, on))
     of_latest (Some e) is on h = of_number e is h (linked_number (Some e) d) refl on
-
-pub hears_good : (s : State) (d : ℕ) (j : Job) (stage : Stage) → IsGood s → IsTrue (is_living s d) → IsFalse (is_deaf s d) → (s.controllers d).current ≡ Hearing j stage → IsGood (after_half s d)
-hears_good s d j stage g lives quiet current = let x = heard_of s d j stage g lives current in heard_good s d j stage g lives quiet current x (half_hears s d j stage g current x)

@@ -13,7 +13,8 @@ use Rattle.fw_order.specs.declared.order.Access.{Access}
 use Rattle.fw_order.specs.declared.order.Access.TheVariants.{Read, Swap}
 use Rattle.fw_model_run.specs.HalfSteps.{HalfStep as Half}
 use Rattle.fw_model_run.specs.Numbers.{CurrentShows}
-use Rattle.fw_model_run.proofs.Endings.{next_shows, hears_shows, reset_shows}
+use Rattle.fw_model_run.proofs.ReadyEndings.{next_shows, reset_shows}
+use Rattle.fw_model_run.proofs.Endings.{hears_shows}
 use Rattle.fw_model_run.proofs.Events.{break_current}
 use Rattle.fw_model_run.proofs.Fitting.{heard_fits}
 use Rattle.fw_model_run.proofs.Hears.{heard_of, half_hears, reply_heard}

@@ -4,7 +4,7 @@ use Rattle.fw_script_command.specs.declared.command.Command.TheVariants as Comma
 use Rattle.fw_order.specs.declared.order.Order.TheVariants.{Settle}
 use Rattle.fw_model_run.specs.Settling.{RoundsSuffice}
 use Rattle.fw_model_run.proofs.OneLog.{Last, last_of, snoc_same}
-use Rattle.fw_model_run.proofs.Settling.{enough}
+use Rattle.fw_model_run.proofs.EnoughRounds.{enough}
 
 -- ---- lists
 

@@ -78,6 +78,7 @@ impl Node {
     }
 
     /// What follows from bytes that node `from` writes to FCP_COMMAND.
+    #[inline(always)]
     fn command<F: Fn(u16, u32, u16) -> [u8; 480], H: Fn(u32, u8) -> u8>(
         &mut self,
         from: u8,
@@ -104,6 +105,7 @@ impl Node {
 
     /// The packet that is sent next: the response to the latest command, if it waits, and then the notices of changes. None
     /// exactly if no response waits and no kept value has changed. The bytes of a frame of a block lie in `room`.
+    #[inline(always)]
     pub fn outgoing<'a>(&mut self, room: &'a mut Bytes512) -> Option<Packet<'a>>
         ensures packet { result ≡ option_map (frame_packet (number_of self.old.number)) (next_frame self.old) }
         ensures node { self.new ≡ after_frame self.old }

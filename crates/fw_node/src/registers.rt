@@ -30,6 +30,7 @@ impl Node {
     /// Carries a request packet to this node out in cycle `now`, and gives the response packet. From a command frame that is
     /// written to FCP_COMMAND follows that the unit carries it out; its response is the next packet of `outgoing`, which
     /// must have given the response to each command before.
+    #[inline(always)]
     pub fn answer<F: Fn(u16, u32, u16) -> [u8; 480], H: Fn(u32, u8) -> u8>(
         &mut self,
         now: u64,

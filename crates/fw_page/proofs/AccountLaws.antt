@@ -1,7 +1,7 @@
 -- What a page says of the account at its end.
 use Rattle.fw_page.proofs.Common.{◌≡◌, ℕ, ◌+◌, List, ◌++◌, Option, Some, None, Result, ap, subst, sym, ◌∙◌, OnOk, append-nil, Account}
-use Rattle.fw_ledger.specs.declared.tables.Tables.{Tables}
-use Rattle.fw_ledger.specs.Stands.{StandsFor}
+use Rattle.fw_account_tables.specs.declared.tables.Tables.{Tables}
+use Rattle.fw_account_tables.specs.Stands.{StandsFor}
 use Rattle.fw_page_phrases.specs.declared.note.AccountStop.{AccountStop}
 use Rattle.fw_page_strip.specs.Drawing.{LedgerFor}
 use Rattle.fw_page_content.specs.Sums.{stopped_text, followed_text, account_text}

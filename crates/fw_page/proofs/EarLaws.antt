@@ -5,8 +5,8 @@ use Rattle.std.specs.List.{slice_get}
 use Rattle.std.specs.Option.{option_map}
 use Rattle.std.proofs.lemmas.Option.{slice_get_past, slice_get_read}
 use Rattle.std.proofs.lemmas.Bool.Decides.{nat_tests}
-use Rattle.fw_ledger.specs.declared.tables.Tables.{Tables}
-use Rattle.fw_ledger.specs.Stands.{StandsFor}
+use Rattle.fw_account_tables.specs.declared.tables.Tables.{Tables}
+use Rattle.fw_account_tables.specs.Stands.{StandsFor}
 use Rattle.fw_page_marks.specs.Places.{device_at, device_of, row_device}
 use Rattle.fw_page_scene.specs.Lines.{hears_by}
 use Rattle.fw_page_strip.specs.Drawing.{LedgerFor}

@@ -31,7 +31,13 @@ impl Sheet {
             &head,
             told_by(p, standing),
         )?;
-        put_answer_words(&mut self.words, &self.room.pairs, standing, p)?;
+        put_answer_words(
+            &mut self.words,
+            &self.room.pairs,
+            &mut self.room.memo,
+            standing,
+            p,
+        )?;
         self.progress.count_later(p, standing);
         let devices = self.progress.devices(head.destination, head.source);
         let class = answer_kind(standing, p).class();

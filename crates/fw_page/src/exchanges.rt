@@ -56,7 +56,13 @@ impl Sheet {
         let Some(p) = self.progress.kept_packet() else {
             return Ok(());
         };
-        put_alone_words(&mut self.words, &self.room.pairs, request, &p)?;
+        put_alone_words(
+            &mut self.words,
+            &self.room.pairs,
+            &mut self.room.memo,
+            request,
+            &p,
+        )?;
         let head = self
             .progress
             .request_head(true, request, " w8", number, cycle);
@@ -83,7 +89,14 @@ impl Sheet {
         let Some(asking) = self.progress.kept_packet() else {
             return Ok(());
         };
-        put_exchange_words(&mut self.words, &self.room.pairs, request, &asking, p)?;
+        put_exchange_words(
+            &mut self.words,
+            &self.room.pairs,
+            &mut self.room.memo,
+            request,
+            &asking,
+            p,
+        )?;
         let _ = self.progress.end_request(&t.what, p);
         self.progress.count_answer(p, request, false);
         let head = self

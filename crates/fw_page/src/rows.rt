@@ -12,6 +12,7 @@ use crate::progress::Progress;
 use fw_log_names::{Pairs, put_word};
 use fw_page_content::{RowHead, put_head};
 use fw_page_marks::put_halves;
+use fw_page_registers::Memo;
 use fw_page_scene::Scene;
 use std::alloc::{AllocError, Global};
 use std::mem;
@@ -20,6 +21,8 @@ use std::mem;
 #[derive(Drop)]
 pub(crate) struct RowBuffers {
     pub(crate) pairs: Pairs,
+    // The phrases that were said last.
+    pub(crate) memo: Memo,
     pub(crate) shapes: Vec<u8>,
     // What the next row draws over the columns.
     pub(crate) lines: Vec<u8>,
@@ -29,6 +32,7 @@ impl RowBuffers {
     pub(crate) fn new(alloc: Global) -> RowBuffers {
         RowBuffers {
             pairs: Pairs::new(),
+            memo: Memo::new(alloc),
             shapes: Vec::new(alloc),
             lines: Vec::new(alloc),
         }

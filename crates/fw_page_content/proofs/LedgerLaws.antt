@@ -3,7 +3,7 @@ use Rattle.fw_page_content.proofs.Common.{◌≡◌, ℕ, Bool, true, false, Lis
 use Rattle.std.proofs.Common.{not, Option, Some, None, Result, Bor}
 use Rattle.std.specs.Prelude.{OnOk}
 use Rattle.std.specs.Option.{is_some, option_copied}
-use Rattle.fw_ledger.specs.declared.tables.Tables.{Tables}
+use Rattle.fw_account_tables.specs.declared.tables.Tables.{Tables}
 use Rattle.fw_page_strip.specs.Drawing.{LedgerFor}
 
 pub by_ledger : {T E : Type 0} (r : Result T E) (s t : List ℕ) (tables : Tables) (f : Option Account → List ℕ) → ((a : Account) → StandsFor tables a → OnOk r (t ≡ s ++ f (Some a)))

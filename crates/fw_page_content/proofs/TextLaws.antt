@@ -3,7 +3,7 @@ use Rattle.fw_page_content.proofs.Common.{◌≡◌, ℕ, Bool, true, false, Lis
 use Rattle.std.proofs.Common.{append_assoc}
 use Rattle.fw_page_content.specs.Heads.{anchor_text}
 use Rattle.fw_page_marks.proofs.TextLaws.{following}
-use Rattle.fw_page_phrases.proofs.TextLaws.{seven}
+use Rattle.fw_page_registers.proofs.TextLaws.{seven}
 
 pub eight : (s t1 t2 t3 t4 t5 t6 t7 t8 x1 x2 x3 x4 x5 x6 x7 x8 : List ℕ) → t1 ≡ s ++ x1 → t2 ≡ t1 ++ x2 → t3 ≡ t2 ++ x3 → t4 ≡ t3 ++ x4 → t5 ≡ t4 ++ x5 → t6 ≡ t5 ++ x6 → t7 ≡ t6 ++ x7 → t8 ≡ t7
     ++ x8 → t8 ≡ s ++ (((((((x1 ++ x2) ++ x3) ++ x4) ++ x5) ++ x6) ++ x7) ++ x8)

@@ -13,7 +13,7 @@ use Rattle.fw_log_registers.specs.Places.{place_of}
 use Rattle.fw_log_registers.specs.Words.{place_text}
 use Rattle.fw_log_explain.specs.Lines.{value_text, saying_text, tape_text}
 use Rattle.fw_page_marks.specs.Shapes.{symbol_at}
-use Rattle.fw_page_phrases.specs.Asks.{code_word}
+use Rattle.fw_page_registers.specs.Words.{code_word}
 
 -- the name of a device
 abbrev pub device_name : ℕ → List ℕ

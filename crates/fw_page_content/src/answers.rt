@@ -10,6 +10,7 @@ use fw_log_explain::head_of;
 use fw_log_names::Pairs;
 use fw_page_marks::{Columns, Line, SwapResult, put_arrow, put_cross};
 use fw_page_phrases::{Kind, OutstandingRequest, answer_of, put_answer, put_who, told_of};
+use fw_page_registers::Memo;
 use std::alloc::AllocError;
 
 /// The kind of the request that a response answers, as far as it is told.
@@ -53,6 +54,7 @@ pub fn put_answer_marks(
 pub fn put_answer_words(
     words: &mut Vec<u8>,
     pairs: &Pairs,
+    memo: &mut Memo,
     standing: Option<&OutstandingRequest>,
     p: &Packet,
 ) -> Result<(), AllocError>
@@ -67,5 +69,5 @@ pub fn put_answer_words(
         head.destination,
         head.tl,
     )?;
-    put_answer(words, pairs, standing, p)
+    put_answer(words, pairs, memo, standing, p)
 }

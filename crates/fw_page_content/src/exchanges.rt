@@ -8,12 +8,14 @@ use fw_log_names::{Pairs, put_word};
 use fw_log_requests::Asked;
 use fw_page_marks::{Columns, Line, SwapResult, put_arrow, put_cross, put_turn};
 use fw_page_phrases::{BROADCAST, Request, put_ask, put_got, put_who};
+use fw_page_registers::Memo;
 use std::alloc::AllocError;
 
 // Appends who asks whom, with this sign between, and for what.
 fn put_asked(
     words: &mut Vec<u8>,
     pairs: &Pairs,
+    memo: &mut Memo,
     request: &Request,
     sign: &str,
     p: &Packet,
@@ -29,7 +31,7 @@ fn put_asked(
         asked.destination,
         asked.label,
     )?;
-    put_ask(words, pairs, request, p)
+    put_ask(words, pairs, memo, request, p)
 }
 
 /// Appends the marks of a request that is not answered at once.
@@ -48,12 +50,13 @@ pub fn put_alone_marks(
 pub fn put_alone_words(
     words: &mut Vec<u8>,
     pairs: &Pairs,
+    memo: &mut Memo,
     request: &Request,
     p: &Packet,
 ) -> Result<(), AllocError>
     ensures { OnOk result (words.new.items ≡ words.old.items ++ alone_words request.now p.now) }
 {
-    put_asked(words, pairs, request, "&rarr;", p)?;
+    put_asked(words, pairs, memo, request, "&rarr;", p)?;
     if request.asked.destination == BROADCAST {
         return Ok(());
     }
@@ -78,13 +81,14 @@ pub fn put_exchange_marks(
 pub fn put_exchange_words(
     words: &mut Vec<u8>,
     pairs: &Pairs,
+    memo: &mut Memo,
     request: &Request,
     asking: &Packet,
     p: &Packet,
 ) -> Result<(), AllocError>
     ensures { OnOk result (words.new.items ≡ words.old.items ++ exchange_words request.now asking.now p.now) }
 {
-    put_asked(words, pairs, request, "&#8644;", asking)?;
+    put_asked(words, pairs, memo, request, "&#8644;", asking)?;
     put_word(words, " ")?;
-    put_got(words, pairs, Some(request), p)
+    put_got(words, pairs, memo, Some(request), p)
 }

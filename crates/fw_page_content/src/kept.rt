@@ -3,12 +3,13 @@
 ghost use Rattle.std.specs.Prelude.{◌≡◌, ◌++◌, [], OnOk, Option};
 ghost use Rattle.std.specs.Option.{option_copied};
 ghost use Rattle.fw_model_account.specs.Account.{Account};
-ghost use Rattle.fw_ledger.specs.Stands.{StandsFor, flow_of};
+ghost use Rattle.fw_account_tables.specs.Stands.{StandsFor, flow_of};
 ghost use Rattle.fw_page_strip.specs.Drawing.{LedgerFor};
 ghost use Rattle.fw_page_content.specs.Kept.{orphan, orphans_in, orphans, flow_words, flow_after, flows, kept_text, orphans_text, account_text};
 
 use crate::sums::put_comma;
-use fw_ledger::{Ledger, Reclaimable};
+use fw_account_tables::Reclaimable;
+use fw_ledger::Ledger;
 use fw_log_names::put_word;
 use fw_page_marks::{put_later, put_part, put_plural};
 use fw_page_strip::{Class, Owner, owner_of, reclaimable};

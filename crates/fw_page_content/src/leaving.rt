@@ -3,11 +3,12 @@
 ghost use Rattle.std.specs.Prelude.{◌≡◌, ◌<◌, ◌++◌, IfSome, OnOk, Option};
 ghost use Rattle.std.specs.Option.{option_copied};
 ghost use Rattle.fw_model_account.specs.Account.{Account};
-ghost use Rattle.fw_ledger.specs.Stands.{StandsFor, allocation_of};
+ghost use Rattle.fw_account_tables.specs.Stands.{StandsFor, allocation_of};
 ghost use Rattle.fw_page_strip.specs.Drawing.{LedgerFor};
 ghost use Rattle.fw_page_content.specs.Leaving.{left_at, left_units, units_left, left_in, left_text, units_text, dropped_of, dropped_text, dropped_by, not_taken, not_taken_in, not_taken_text};
 
-use fw_ledger::{Charge, Ledger};
+use fw_account_tables::Charge;
+use fw_ledger::Ledger;
 use fw_log_names::put_word;
 use fw_page_marks::{put_part, put_plural};
 use fw_page_phrases::OutstandingRequest;

@@ -11,7 +11,7 @@ use fw_log_explain::{put_saying, put_tape, put_value};
 use fw_log_names::{Pairs, event_name, event_saying, outcome_name, put_named, put_word};
 use fw_log_registers::{RegisterPlace, put_place};
 use fw_page_marks::{Columns, put_part, put_use};
-use fw_page_phrases::put_code;
+use fw_page_registers::put_code;
 use std::alloc::AllocError;
 
 /// The symbol of an outcome.

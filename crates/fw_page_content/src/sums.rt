@@ -3,7 +3,7 @@
 ghost use Rattle.std.specs.Prelude.{◌≡◌, ◌++◌, [], OnOk, Option};
 ghost use Rattle.std.specs.Option.{option_copied};
 ghost use Rattle.fw_model_account.specs.Account.{Account};
-ghost use Rattle.fw_ledger.specs.Stands.{StandsFor};
+ghost use Rattle.fw_account_tables.specs.Stands.{StandsFor};
 ghost use Rattle.fw_page_content.specs.Sums.{with_comma, comma, or_word, count_text, outcomes_to, events_of, named_events, kinds_text, owner_words, owners_text, stopped_text, followed_text, entries_word, entries_text, answers_text};
 
 use crate::counts::Counts;

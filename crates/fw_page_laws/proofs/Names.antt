@@ -5,7 +5,7 @@ use Rattle.std.specs.Option.{option_map, option_or}
 use Rattle.fw_words.specs.Quadlet.{quadlet_at}
 use Rattle.fw_log_names.specs.Texts.{first_quadlets, quadlets_text, quadlet_text}
 use Rattle.fw_log_frames.specs.Frames.{first_name}
-use Rattle.fw_page_phrases.specs.Asks.{wrapped}
+use Rattle.fw_page_registers.specs.Words.{wrapped}
 use Rattle.fw_page_laws.specs.Markup.{mode_after, name_at}
 use Rattle.fw_page_laws.proofs.Modes.{Goes, IsWhole, IsSteady, Kept, more-goes, none-goes, hex-goes, one-goes, plain_kept, space_plain}
 

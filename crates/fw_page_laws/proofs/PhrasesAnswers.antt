@@ -8,7 +8,7 @@ use Rattle.fw_page_laws.proofs.PhrasesAsking.{subject-outside}
 use Rattle.fw_page_laws.proofs.PhrasesAsks.{code-outside, code_quadlets-outside, code_word-outside, sized-outside}
 use Rattle.fw_page_laws.proofs.RegistersTold.{told_text-outside}
 use Rattle.fw_page_phrases.specs.Answers.{answer_text, change, change_of, complete, completed, got, link_text, made_text, read_text, refused}
-use Rattle.fw_page_phrases.specs.Asks.{told}
+use Rattle.fw_page_registers.specs.Words.{told}
 use Rattle.fw_page_phrases.specs.Made.{changed_by, found, is_made, rcode_of}
 use Rattle.fw_log_registers.specs.Words.{told_text}
 use Rattle.fw_words.specs.declared.swap.Swap.{Swap}

@@ -7,7 +7,8 @@ use Rattle.fw_log_names.specs.Texts.{hex_bytes, quadlets_text}
 use Rattle.fw_page_laws.proofs.FramesFrames.{frame_text-outside}
 use Rattle.fw_page_laws.proofs.PhrasesAsking.{subject-outside}
 use Rattle.fw_page_laws.proofs.RegistersTold.{told_text-outside}
-use Rattle.fw_page_phrases.specs.Asks.{ask, block_written, brought, code, code_data, code_quadlets, code_word, end_text, framed, label_text, lock_asked, quadlet_written, sized, swap_asked, told, who}
+use Rattle.fw_page_phrases.specs.Asks.{ask, block_written, brought, code_data, code_quadlets, end_text, framed, label_text, lock_asked, quadlet_written, sized, who}
+use Rattle.fw_page_registers.specs.Words.{code, code_word, swap_asked, told}
 use Rattle.fw_log_registers.specs.Words.{told_text}
 use Rattle.fw_log_registers.specs.declared.place.RegisterPlace.{RegisterPlace}
 use Rattle.fw_log_registers.specs.declared.told.RegisterValue.TheVariants.{Word}

@@ -7,7 +7,8 @@ use Rattle.fw_log_registers.specs.declared.place.RegisterPlace.{RegisterPlace}
 use Rattle.fw_log_registers.specs.Places.{place_of}
 use Rattle.fw_page_phrases.specs.declared.request.Request.{Request}
 use Rattle.fw_page_phrases.specs.declared.standing.OutstandingRequest.{OutstandingRequest}
-use Rattle.fw_page_phrases.specs.Asks.{brought, code_word}
+use Rattle.fw_page_phrases.specs.Asks.{brought}
+use Rattle.fw_page_registers.specs.Words.{code_word}
 use Rattle.fw_page_phrases.specs.Made.{is_made}
 use Rattle.fw_page_phrases.specs.Answers.{answer_text, got, made_text}
 

@@ -10,7 +10,8 @@ use Rattle.fw_log_registers.specs.Words.{told_text}
 use Rattle.fw_page_phrases.specs.declared.request.Request.{Request}
 use Rattle.fw_page_phrases.specs.declared.standing.OutstandingRequest.{OutstandingRequest}
 use Rattle.fw_page_phrases.specs.Asking.{subject}
-use Rattle.fw_page_phrases.specs.Asks.{wrapped, code, code_word, code_quadlets, sized, told}
+use Rattle.fw_page_registers.specs.Words.{wrapped, code, code_word, told}
+use Rattle.fw_page_phrases.specs.Asks.{code_quadlets, sized}
 use Rattle.fw_page_phrases.specs.Made.{rcode_of, found, is_made, changed_by}
 
 -- a response code that is not complete

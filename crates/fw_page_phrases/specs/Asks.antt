@@ -8,12 +8,10 @@ use Rattle.fw_words.specs.Swaps.{quadlet_swap}
 use Rattle.fw_words.specs.declared.swap.Swap.{Swap}
 use Rattle.fw_log_names.specs.Texts.{hex, hex_bytes, quadlets_text}
 use Rattle.fw_log_registers.specs.declared.place.RegisterPlace.{RegisterPlace}
-use Rattle.fw_log_registers.specs.declared.told.RegisterValue.{RegisterValue}
-use Rattle.fw_log_registers.specs.declared.told.RegisterValue.TheVariants.{Word, Swap as TheSwap}
 use Rattle.fw_log_registers.specs.Places.{place_of}
-use Rattle.fw_log_registers.specs.Words.{told_text}
 use Rattle.fw_log_frames.specs.Frames.{frame_text}
 use Rattle.fw_log_explain.specs.Lines.{takes_frames}
+use Rattle.fw_page_registers.specs.Words.{code, code_word, swap_asked}
 use Rattle.fw_page_phrases.specs.declared.request.Request.{Request}
 use Rattle.fw_page_phrases.specs.Asking.{subject}
 
@@ -28,19 +26,6 @@ label_text label = if label == 0 then [] else codes " label " ++ decimal label
 -- who sends a packet to whom, with this sign between
 unfoldable pub who : ℕ → List ℕ → ℕ → ℕ → List ℕ
 who source sign destination label = codes "<i>" ++ end_text source ++ sign ++ end_text destination ++ label_text label ++ codes "</i> "
-
--- a text within these tags, or nothing if it is nothing
-abbrev pub wrapped : List ℕ → List ℕ → List ℕ → List ℕ
-wrapped prefix back [] = []
-wrapped prefix back (c ∷ cs) = prefix ++ (c ∷ cs) ++ back
-
--- a text as a code
-abbrev pub code : List ℕ → List ℕ
-code text = codes "<code>" ++ text ++ codes "</code>"
-
--- a word, and what it says at its place
-unfoldable pub code_word : RegisterPlace → ℕ → List ℕ
-code_word place word = code (hex 8 word) ++ wrapped (codes "<small>") (codes "</small>") (told_text (Word word) place)
 
 -- the digits of bytes
 unfoldable pub code_data : List ℕ → List ℕ
@@ -65,14 +50,6 @@ quadlet_written place value = if takes_frames place then framed (to_be_bytes w32
 -- a block that is written
 unfoldable pub block_written : RegisterPlace → List ℕ → List ℕ
 block_written place bytes = if takes_frames place then framed bytes else sized (codes ", data_length ") bytes
-
--- what a swap is told as
-abbrev pub told : Swap → RegisterValue
-told s = TheSwap s.argument s.new
-
--- what a swap is to change
-unfoldable pub swap_asked : RegisterPlace → Swap → List ℕ
-swap_asked place s = codes "<em>" ++ told_text (told s) place ++ codes "</em> <code>" ++ hex 8 s.argument ++ codes " &rarr; " ++ hex 8 s.new ++ codes "</code>"
 
 -- a lock: of a quadlet compare_swap what it is to change, of another its quadlets
 abbrev pub lock_asked : RegisterPlace → List ℕ → Option Swap → List ℕ

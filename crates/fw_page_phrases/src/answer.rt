@@ -4,14 +4,14 @@ ghost use Rattle.std.specs.Prelude.{◌≡◌, ◌++◌, OnOk, Some};
 ghost use Rattle.std.specs.Option.{option_copied};
 ghost use Rattle.fw_page_phrases.specs.Answers.{refused, made_text, read_text, complete, completed, got, change, link_text, answer_text};
 
-use crate::asks::{put_code, put_code_quadlets, put_sized, put_within, told};
+use crate::asks::{put_code_quadlets, put_sized};
 use crate::request::Request;
 use crate::standing::OutstandingRequest;
 use crate::tells::{changed_by, found, is_made, rcode_of};
 use fw_async::Packet;
 use fw_log_names::{Pairs, put_hex8, put_named, put_word, rcode_name};
-use fw_log_registers::RegisterPlace;
 use fw_page_marks::put_part;
+use fw_page_registers::Memo;
 use std::alloc::AllocError;
 
 // Appends a response code that is not complete.
@@ -28,6 +28,7 @@ fn put_refused(text: &mut Vec<u8>, rcode: u8) -> Result<(), AllocError>
 fn put_made(
     text: &mut Vec<u8>,
     pairs: &Pairs,
+    memo: &mut Memo,
     request: &Request,
     old: u32,
 ) -> Result<(), AllocError>
@@ -37,7 +38,7 @@ fn put_made(
         return put_word(text, r#"<b class="y">made</b>"#);
     }
     put_word(text, r#"<b class="n">not made</b>, it is "#)?;
-    put_code(text, pairs, RegisterPlace::of(request.asked.offset), old)
+    memo.put_code(text, pairs, request.asked.offset, old)
 }
 
 // Appends the word that a read brings.
@@ -45,13 +46,14 @@ fn put_made(
 fn put_read(
     text: &mut Vec<u8>,
     pairs: &Pairs,
+    memo: &mut Memo,
     request: Option<&Request>,
     value: u32,
 ) -> Result<(), AllocError>
     ensures { OnOk result (text.new.items ≡ text.old.items ++ read_text (option_copied request.entry) value) }
 {
     match request {
-        Some(request) => put_code(text, pairs, RegisterPlace::of(request.asked.offset), value),
+        Some(request) => memo.put_code(text, pairs, request.asked.offset, value),
         None => {
             put_word(text, "<code>")?;
             put_hex8(text, pairs, value)?;
@@ -65,13 +67,14 @@ fn put_read(
 fn put_complete(
     text: &mut Vec<u8>,
     pairs: &Pairs,
+    memo: &mut Memo,
     request: Option<&Request>,
     p: &Packet,
 ) -> Result<(), AllocError>
     ensures { OnOk result (text.new.items ≡ text.old.items ++ complete (option_copied request.entry) p.now) }
 {
     match p {
-        Packet::ReadQuadletReply { value, .. } => put_read(text, pairs, request, *value),
+        Packet::ReadQuadletReply { value, .. } => put_read(text, pairs, memo, request, *value),
         Packet::ReadBlockReply { bytes, .. } => {
             put_sized(text, pairs, "data_length ", bytes.as_slice())
         }
@@ -87,6 +90,7 @@ fn put_complete(
 fn put_completed(
     text: &mut Vec<u8>,
     pairs: &Pairs,
+    memo: &mut Memo,
     request: Option<&Request>,
     p: &Packet,
     found: Option<u32>,
@@ -95,18 +99,19 @@ fn put_completed(
 {
     match request {
         Some(request) => match found {
-            Some(old) => put_made(text, pairs, request, old),
-            None => put_complete(text, pairs, Some(request), p),
+            Some(old) => put_made(text, pairs, memo, request, old),
+            None => put_complete(text, pairs, memo, Some(request), p),
         },
-        None => put_complete(text, pairs, None, p),
+        None => put_complete(text, pairs, memo, None, p),
     }
 }
 
-/// Appends what an answer brings.
+/// Appends what an answer brings. A phrase that was said before is copied.
 #[tactic(auto, unfolding(crate::specs::Answers::got))]
 pub fn put_got(
     text: &mut Vec<u8>,
     pairs: &Pairs,
+    memo: &mut Memo,
     request: Option<&Request>,
     p: &Packet,
 ) -> Result<(), AllocError>
@@ -117,7 +122,7 @@ pub fn put_got(
         return put_refused(text, rcode);
     }
     let old = found(p, request);
-    put_completed(text, pairs, request, p, old)
+    put_completed(text, pairs, memo, request, p, old)
 }
 
 // Appends what a swap that was made has changed.
@@ -125,6 +130,7 @@ pub fn put_got(
 fn put_change(
     text: &mut Vec<u8>,
     pairs: &Pairs,
+    memo: &mut Memo,
     request: &Request,
     p: &Packet,
 ) -> Result<(), AllocError>
@@ -133,8 +139,7 @@ fn put_change(
     let Some(swap) = changed_by(request, found(p, Some(request))) else {
         return Ok(());
     };
-    let place = RegisterPlace::of(request.asked.offset);
-    put_within(text, pairs, ("<em>", "</em>"), place, told(swap))
+    memo.put_changed(text, pairs, request.asked.offset, swap)
 }
 
 // Appends a link to the entry of a request.
@@ -150,16 +155,17 @@ fn put_link(text: &mut Vec<u8>, number: u64) -> Result<(), AllocError>
 fn put_later(
     text: &mut Vec<u8>,
     pairs: &Pairs,
+    memo: &mut Memo,
     standing: &OutstandingRequest,
     p: &Packet,
 ) -> Result<(), AllocError>
     ensures { OnOk result (text.new.items ≡ text.old.items ++ answer_text (Some standing.now) p.now) }
 {
     put_link(text, standing.number)?;
-    standing.request.put_subject(text, pairs)?;
-    put_change(text, pairs, &standing.request, p)?;
+    standing.request.put_kept_subject(text, pairs, memo)?;
+    put_change(text, pairs, memo, &standing.request, p)?;
     put_word(text, " ")?;
-    put_got(text, pairs, Some(&standing.request), p)
+    put_got(text, pairs, memo, Some(&standing.request), p)
 }
 
 /// Appends an answer, by the outstanding request and that it answers, if there is one.
@@ -167,16 +173,17 @@ fn put_later(
 pub fn put_answer(
     text: &mut Vec<u8>,
     pairs: &Pairs,
+    memo: &mut Memo,
     standing: Option<&OutstandingRequest>,
     p: &Packet,
 ) -> Result<(), AllocError>
     ensures { OnOk result (text.new.items ≡ text.old.items ++ answer_text (option_copied standing.entry) p.now) }
 {
     match standing {
-        Some(standing) => put_later(text, pairs, standing, p),
+        Some(standing) => put_later(text, pairs, memo, standing, p),
         None => {
             put_word(text, "<b>answer</b> ")?;
-            put_got(text, pairs, None, p)?;
+            put_got(text, pairs, memo, None, p)?;
             put_word(text, ", no request stands")
         }
     }

@@ -2,16 +2,17 @@
 
 ghost use Rattle.std.specs.Prelude.{◌≡◌, ◌++◌, OnOk, drop};
 ghost use Rattle.fw_log_names.specs.Texts.{quadlets_text};
-ghost use Rattle.fw_log_registers.specs.Words.{told_text};
-ghost use Rattle.fw_page_phrases.specs.Asks.{end_text, label_text, who, wrapped, code_word, code_data, code_quadlets, sized, swap_asked, told, brought, ask};
+ghost use Rattle.fw_page_phrases.specs.Asks.{end_text, label_text, who, code_data, code_quadlets, sized, lock_asked, brought, ask};
+ghost use Rattle.fw_log_registers.specs.Places.{place_of};
 
 use crate::request::Request;
 use crate::standing::BROADCAST;
 use crate::written::{put_block_written, put_quadlet_written};
 use fw_async::{Packet, local_number};
 use fw_log_names::{Pairs, put_bytes, put_hex4, put_hex8, put_number, put_quadlets, put_word};
-use fw_log_registers::{RegisterPlace, RegisterValue, put_told};
+use fw_log_registers::RegisterPlace;
 use fw_page_marks::put_part;
+use fw_page_registers::Memo;
 use fw_words::{Swap, get_quadlet};
 use std::alloc::AllocError;
 
@@ -55,49 +56,6 @@ pub fn put_who(
     put_end(text, pairs, destination)?;
     put_label(text, label)?;
     put_word(text, "</i> ")
-}
-
-/// Appends what is told of a place within these tags, or nothing if that is nothing.
-pub fn put_within(
-    text: &mut Vec<u8>,
-    pairs: &Pairs,
-    tags: (&str, &str),
-    place: RegisterPlace,
-    told: RegisterValue,
-) -> Result<(), AllocError>
-    ensures { OnOk result (text.new.items ≡ text.old.items ++ wrapped tags.entry.0.now tags.entry.1.now (told_text told place)) }
-{
-    let before = text.len();
-    put_word(text, tags.0)?;
-    let start = text.len();
-    put_told(text, pairs, place, told)?;
-    let end = text.len();
-    if end == start {
-        text.truncate(before);
-        return Ok(());
-    }
-    put_word(text, tags.1)
-}
-
-/// Appends a word, and what it says at its place.
-pub fn put_code(
-    text: &mut Vec<u8>,
-    pairs: &Pairs,
-    place: RegisterPlace,
-    word: u32,
-) -> Result<(), AllocError>
-    ensures { OnOk result (text.new.items ≡ text.old.items ++ code_word place word) }
-{
-    put_word(text, "<code>")?;
-    put_hex8(text, pairs, word)?;
-    put_word(text, "</code>")?;
-    put_within(
-        text,
-        pairs,
-        ("<small>", "</small>"),
-        place,
-        RegisterValue::Word(word),
-    )
 }
 
 // Appends the digits of bytes.
@@ -145,31 +103,23 @@ pub fn put_code_quadlets(text: &mut Vec<u8>, pairs: &Pairs, bytes: &[u8]) -> Res
     put_word(text, "</code>")
 }
 
-// Appends what a swap is to change.
-fn put_swap(
+// Appends what a lock brings: of a quadlet compare_swap what it is to change, of another its quadlets.
+fn put_lock(
     text: &mut Vec<u8>,
     pairs: &Pairs,
-    place: RegisterPlace,
-    s: Swap,
+    memo: &mut Memo,
+    offset: u64,
+    swap: Option<Swap>,
+    bytes: &[u8],
 ) -> Result<(), AllocError>
-    ensures { OnOk result (text.new.items ≡ text.old.items ++ swap_asked place s) }
+    ensures { OnOk result (text.new.items ≡ text.old.items ++ lock_asked (place_of offset) bytes.now swap) }
 {
-    put_word(text, "<em>")?;
-    put_told(text, pairs, place, told(s))?;
-    put_word(text, "</em> <code>")?;
-    put_hex8(text, pairs, s.argument)?;
-    put_word(text, " &rarr; ")?;
-    put_hex8(text, pairs, s.new)?;
-    put_word(text, "</code>")
-}
-
-/// What a swap is told as.
-pub fn told(s: Swap) -> RegisterValue
-    ensures { result ≡ told s }
-{
-    RegisterValue::Swap {
-        old: s.argument,
-        new: s.new,
+    match swap {
+        Some(s) => memo.put_swap(text, pairs, offset, s),
+        None => {
+            put_word(text, " ")?;
+            put_code_quadlets(text, pairs, bytes)
+        }
     }
 }
 
@@ -178,40 +128,50 @@ pub fn told(s: Swap) -> RegisterValue
 fn put_brought(
     text: &mut Vec<u8>,
     pairs: &Pairs,
-    place: RegisterPlace,
+    memo: &mut Memo,
+    offset: u64,
     p: &Packet,
 ) -> Result<(), AllocError>
-    ensures { OnOk result (text.new.items ≡ text.old.items ++ brought place p.now) }
+    ensures { OnOk result (text.new.items ≡ text.old.items ++ brought (place_of offset) p.now) }
 {
     match p {
-        Packet::WriteQuadlet { value, .. } => put_quadlet_written(text, pairs, place, *value),
-        Packet::WriteBlock { bytes, .. } => put_block_written(text, pairs, place, bytes.as_slice()),
+        Packet::WriteQuadlet { value, .. } => {
+            put_quadlet_written(text, pairs, RegisterPlace::of(offset), *value)
+        }
+        Packet::WriteBlock { bytes, .. } => {
+            put_block_written(text, pairs, RegisterPlace::of(offset), bytes.as_slice())
+        }
         Packet::ReadBlock { length, .. } => put_part(text, ", data_length ", u64::from(*length)),
         Packet::Lock {
             function,
             bytes,
             ..
-        } => match Swap::of_lock(*function, bytes.as_slice()) {
-            Some(s) => put_swap(text, pairs, place, s),
-            None => {
-                put_word(text, " ")?;
-                put_code_quadlets(text, pairs, bytes.as_slice())
-            }
-        },
+        } => {
+            let bytes = bytes.as_slice();
+            put_lock(
+                text,
+                pairs,
+                memo,
+                offset,
+                Swap::of_lock(*function, bytes),
+                bytes,
+            )
+        }
         _ => Ok(()),
     }
 }
 
-/// Appends what a request asks for.
+/// Appends what a request asks for. A phrase that was said before is copied.
 #[tactic(auto, unfolding(crate::specs::Asks::ask))]
 pub fn put_ask(
     text: &mut Vec<u8>,
     pairs: &Pairs,
+    memo: &mut Memo,
     request: &Request,
     p: &Packet,
 ) -> Result<(), AllocError>
     ensures { OnOk result (text.new.items ≡ text.old.items ++ ask request.now p.now) }
 {
-    request.put_subject(text, pairs)?;
-    put_brought(text, pairs, RegisterPlace::of(request.asked.offset), p)
+    request.put_kept_subject(text, pairs, memo)?;
+    put_brought(text, pairs, memo, request.asked.offset, p)
 }

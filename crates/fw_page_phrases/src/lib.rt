@@ -14,7 +14,7 @@ mod tells;
 mod written;
 
 pub use answer::{put_answer, put_got};
-pub use asks::{put_ask, put_code, put_who};
+pub use asks::{put_ask, put_who};
 pub use cycles::{put_cycles, put_flow};
 pub use note::{AccountStop, Break, put_break, put_stop};
 pub use request::{Kind, Request};

@@ -8,6 +8,7 @@ use fw_csr::offset::BUS_MANAGER_ID;
 use fw_log_names::{Pairs, function_name, put_named, put_word};
 use fw_log_registers::{RegisterPlace, put_place};
 use fw_log_requests::{Answer, Asked};
+use fw_page_registers::{Memo, Phrase, Words};
 use std::alloc::AllocError;
 
 /// The kind of a request: each has a colour, and can be hidden.
@@ -91,8 +92,10 @@ fn function_of(p: &Packet) -> u8
 }
 
 impl Request {
-    ghost use Rattle.std.specs.Prelude.{◌≡◌, ◌++◌, OnOk};
+    ghost use Rattle.std.specs.Prelude.{◌≡◌, ◌++◌, OnOk, IfSome};
+    ghost use Rattle.fw_log_registers.specs.Places.{place_of};
     ghost use Rattle.fw_page_phrases.specs.Asking.{request_by, kind_of, verb, subject};
+    ghost use Rattle.fw_page_registers.specs.Phrases.{words_text};
 
     /// What is kept of a packet, if it is a request.
     #[tactic(auto, unfolding(crate::specs::Asking::request_by))]
@@ -153,5 +156,41 @@ impl Request {
         self.put_verb(text)?;
         put_word(text, "</b> ")?;
         put_place(text, pairs, RegisterPlace::of(self.asked.offset))
+    }
+
+    // What is said of the register that it asks for, but for a lock that is no quadlet compare_swap.
+    #[tactic(auto, unfolding(crate::specs::Asking::subject, fw_page_registers::specs::Phrases::words_text))]
+    fn words(&self) -> Option<Words>
+        ensures { IfSome result (λ words. words_text (place_of self.now.asked.offset) words ≡ subject self.now) }
+    {
+        match (self.asked.answer, self.asked.swap) {
+            (Answer::Write, _) => Some(Words::Write),
+            (Answer::ReadQuadlet, _) => Some(Words::Read),
+            (Answer::ReadBlock, _) => Some(Words::ReadBlock),
+            (Answer::Lock, Some(_)) => Some(Words::Swap),
+            (Answer::Lock, None) => None,
+        }
+    }
+
+    /// Appends the same, which may be a phrase that is kept.
+    pub(crate) fn put_kept_subject(
+        &self,
+        text: &mut Vec<u8>,
+        pairs: &Pairs,
+        memo: &mut Memo,
+    ) -> Result<(), AllocError>
+        ensures { OnOk result (text.new.items ≡ text.old.items ++ subject self.now) }
+    {
+        match self.words() {
+            Some(words) => memo.put(
+                text,
+                pairs,
+                &Phrase {
+                    offset: self.asked.offset,
+                    words,
+                },
+            ),
+            None => self.put_subject(text, pairs),
+        }
     }
 }

@@ -4,10 +4,11 @@ ghost use Rattle.std.specs.Prelude.{◌≡◌, ◌++◌, OnOk};
 ghost use Rattle.fw_log_explain.specs.Lines.{takes_frames};
 ghost use Rattle.fw_page_phrases.specs.Asks.{framed, quadlet_written, block_written};
 
-use crate::asks::{put_code, put_sized};
+use crate::asks::put_sized;
 use fw_log_frames::put_frame;
 use fw_log_names::{Pairs, put_word};
 use fw_log_registers::{NamedRegister, RegisterPlace};
+use fw_page_registers::put_code;
 use std::alloc::AllocError;
 
 // Frames are written there.

@@ -8,8 +8,8 @@ use Rattle.fw_audit.specs.Found.{Judges, StandsAfter}
 use Rattle.fw_model_audit.specs.declared.fault.AuditFault.{AuditFault}
 use Rattle.fw_model_audit.specs.Judged.{verdict}
 use Rattle.fw_ledger.specs.declared.answer.Answer.{Answer}
-use Rattle.fw_ledger.specs.declared.tables.Tables.{Tables}
-use Rattle.fw_ledger.specs.Stands.{StandsFor}
+use Rattle.fw_account_tables.specs.declared.tables.Tables.{Tables}
+use Rattle.fw_account_tables.specs.Stands.{StandsFor}
 use Rattle.fw_page_phrases.specs.declared.note.AccountStop.{AccountStop}
 use Rattle.fw_page_strip.specs.Drawing.{LedgerFor}
 use Rattle.fw_page_scene.specs.Beside.{IsBeside, FollowsFor, has_stopped}

@@ -3,6 +3,7 @@ pub mod MadeLaws
 pub mod LineLaws
 pub mod MarkLaws
 pub mod BarLaws
+pub mod DrawnLaws
 pub mod CutLaws
 pub mod VerdictLaws
 pub mod FollowLaws

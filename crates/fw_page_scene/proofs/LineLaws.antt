@@ -15,8 +15,8 @@ use Rattle.fw_plug.specs.Changes.{counter_of, channel_of}
 use Rattle.fw_plug.specs.Words.{OutFields, InFields, FitsRegister, out_word, in_word, is_connected}
 use Rattle.fw_plug.proofs.Changes.{broadcast_of_word, counter_of_word, in_broadcast_of_word, in_counter_of_word, in_channel_of_word}
 use Rattle.fw_words.specs.Quadlet.{field}
-use Rattle.fw_ledger.specs.declared.tables.Tables.{Tables}
-use Rattle.fw_ledger.specs.Stands.{StandsFor}
+use Rattle.fw_account_tables.specs.declared.tables.Tables.{Tables}
+use Rattle.fw_account_tables.specs.Stands.{StandsFor}
 use Rattle.fw_page_strip.specs.Drawing.{LedgerFor}
 use Rattle.fw_page_scene.specs.Lines.{hears_at, hears_word, by_account}
 

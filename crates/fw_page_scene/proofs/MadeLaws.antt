@@ -17,10 +17,10 @@ use Rattle.fw_model_account.specs.Packets.{Locked, after_packet, answered, repli
 use Rattle.fw_model_account.specs.Words.{register_of}
 use Rattle.fw_model_audit.specs.Looked.{looked, quadlet_in, Response, Replies, Other}
 use Rattle.fw_ledger.specs.Refused.{ShowsAnswer, IsAnswered}
-use Rattle.fw_ledger.specs.Stands.{AskedFor}
+use Rattle.fw_account_tables.specs.Stands.{AskedFor}
 use Rattle.fw_ledger.specs.declared.answer.Answer.{Answer}
-use Rattle.fw_ledger.specs.declared.tables.Asked.{Asked}
-use Rattle.fw_ledger.specs.declared.tables.Asked.TheVariants.{Nothing as NotAsked, Read as AsksRead, Swap, Lock as AsksLock}
+use Rattle.fw_account_tables.specs.declared.tables.Asked.{Asked}
+use Rattle.fw_account_tables.specs.declared.tables.Asked.TheVariants.{Nothing as NotAsked, Read as AsksRead, Swap, Lock as AsksLock}
 use Rattle.fw_page_scene.specs.Followed.{made_by, is_made, may_move}
 use Rattle.fw_page_scene.specs.Laws.{StaysDrawn}
 use Rattle.fw_page_scene.proofs.StillLaws.{Only, same, ends, packets, only_drawn, others_move_nothing}

@@ -2,8 +2,8 @@
 use Rattle.std.specs.Prelude.{◌≡◌, Bool, true, false, Option, Some, None}
 use Rattle.std.specs.Option.{is_some}
 use Rattle.fw_model_account.specs.Account.{Account}
-use Rattle.fw_ledger.specs.Stands.{StandsFor}
-use Rattle.fw_ledger.specs.declared.tables.Tables.{Tables}
+use Rattle.fw_account_tables.specs.Stands.{StandsFor}
+use Rattle.fw_account_tables.specs.declared.tables.Tables.{Tables}
 use Rattle.fw_page_phrases.specs.declared.note.AccountStop.{AccountStop}
 use Rattle.fw_page_scene.specs.declared.account.Account.{Account as Beside}
 use Rattle.fw_page_scene.specs.Followed.{Followed}

@@ -9,8 +9,8 @@ use Rattle.fw_model_account.specs.Fold.{next_account, no_account}
 use Rattle.fw_model_audit.specs.declared.fault.AuditFault.{AuditFault}
 use Rattle.fw_model_audit.specs.Judged.{verdict}
 use Rattle.fw_ledger.specs.declared.answer.Answer.{Answer}
-use Rattle.fw_ledger.specs.declared.tables.Asked.{Asked}
-use Rattle.fw_ledger.specs.declared.tables.Asked.TheVariants.{Swap}
+use Rattle.fw_account_tables.specs.declared.tables.Asked.{Asked}
+use Rattle.fw_account_tables.specs.declared.tables.Asked.TheVariants.{Swap}
 use Rattle.fw_page_phrases.specs.declared.note.AccountStop.{AccountStop}
 
 -- the account after the entries so far, or where it stopped

@@ -3,9 +3,10 @@
 ghost use Rattle.std.specs.Prelude.{◌≡◌};
 ghost use Rattle.fw_page_scene.specs.Followed.{is_moving, is_made, may_move};
 
+use fw_account_tables::Asked;
 use fw_async::Packet;
 use fw_audit::take_entry;
-use fw_ledger::{Answer, Asked, Ledger};
+use fw_ledger::{Answer, Ledger};
 use fw_log_entry::Entry;
 use fw_page_phrases::AccountStop;
 use std::alloc::{AllocError, Global};

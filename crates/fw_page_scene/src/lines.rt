@@ -3,7 +3,7 @@
 ghost use Rattle.std.specs.Prelude.{◌≡◌, ◌≤◌, ◌++◌, OnOk, Option, None};
 ghost use Rattle.std.specs.Option.{option_copied};
 ghost use Rattle.fw_model_account.specs.Account.{Account};
-ghost use Rattle.fw_ledger.specs.Stands.{StandsFor};
+ghost use Rattle.fw_account_tables.specs.Stands.{StandsFor};
 ghost use Rattle.fw_page_strip.specs.Drawing.{LedgerFor};
 ghost use Rattle.fw_page_scene.specs.Lines.{talks, lingers, hears_by, by_account, holds, spot_shape};
 

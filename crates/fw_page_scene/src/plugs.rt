@@ -2,7 +2,7 @@
 
 ghost use Rattle.std.specs.Prelude.{◌≡◌};
 ghost use Rattle.fw_model_account.specs.Account.{Account, has_connection};
-ghost use Rattle.fw_ledger.specs.Stands.{StandsFor};
+ghost use Rattle.fw_account_tables.specs.Stands.{StandsFor};
 ghost use Rattle.fw_page_scene.specs.Lines.{talks, goes_on, hears_word, hears_at, hears_by};
 
 use fw_ledger::Ledger;

@@ -5,3 +5,4 @@ pub mod LabelLaws
 pub mod ShareLaws
 pub mod RequestLaws
 pub mod StripLaws
+pub mod ReachLaws

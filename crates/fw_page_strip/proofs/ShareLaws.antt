@@ -5,9 +5,9 @@ use Rattle.fw_model_account.specs.Account.{Account, has_connection}
 use Rattle.fw_model_account.specs.Network.{is_output}
 use Rattle.fw_model_account.specs.Sound.{IsSound}
 use Rattle.fw_model_account.specs.Words.{word_of, OutputPlug}
-use Rattle.fw_ledger.specs.declared.tables.Reclaimable.{Reclaimable}
-use Rattle.fw_ledger.specs.declared.tables.Tables.{Tables}
-use Rattle.fw_ledger.specs.Stands.{StandsFor, SecondFor, flow_of, continues_at}
+use Rattle.fw_account_tables.specs.declared.tables.Reclaimable.{Reclaimable}
+use Rattle.fw_account_tables.specs.declared.tables.Tables.{Tables}
+use Rattle.fw_account_tables.specs.Stands.{StandsFor, SecondFor, flow_of, continues_at}
 use Rattle.fw_plug.specs.declared.word.OutWord.{OutWord}
 use Rattle.fw_page_strip.specs.Owners.{flow_on, flow_by}
 

@@ -121,8 +121,8 @@ pub record AreSums (s : Totals) (l : Account) (n : ℕ) : Type 0 where
   pub pending : s.pending ≡ sum_to n (λ ch. units_as Pending (l.allocations ch))
   pub orphaned : s.orphaned ≡ sum_to n (λ ch. units_as Orphaned (l.allocations ch))
 
-pub sums_none : (l : Account) → AreSums (record { connected = 0; pending = 0; orphaned = 0 }) l 0
-sums_none l = record {
+pub sums_none : (l : Account) (n : ℕ) → AreSums (record { connected = 0; pending = 0; orphaned = 0; reach = n }) l 0
+sums_none l n = record {
   connected = sym (sum_none (λ ch. units_as Connected (l.allocations ch)));
   pending = sym (sum_none (λ ch. units_as Pending (l.allocations ch)));
   orphaned = sym (sum_none (λ ch. units_as Orphaned (l.allocations ch)));
@@ -149,13 +149,6 @@ sums_more s t l n o sound low a is x y z =
       pending = let e = y (omega arith) in omega arith;
       orphaned = let e = z (omega arith) in omega arith;
     }
-
-pub sums_all : (s : Totals) (l : Account) (n : ℕ) → n ≡ 64 → AreSums s l n → AreTotals s l
-sums_all s l n e a = record {
-  connected = a.connected ∙ ap (λ k. sum_to k (λ ch. units_as Connected (l.allocations ch))) e;
-  pending = a.pending ∙ ap (λ k. sum_to k (λ ch. units_as Pending (l.allocations ch))) e;
-  orphaned = a.orphaned ∙ ap (λ k. sum_to k (λ ch. units_as Orphaned (l.allocations ch))) e;
-}
 
 -- what stands before a class, by the sums of an account
 pub before_is : (t : Totals) (l : Account) (class : Class) (n : ℕ) → IsSound l → AreTotals t l

@@ -1,21 +1,22 @@
 -- What a strip has drawn, and over which account (own).
 use Rattle.std.specs.Prelude.{◌≡◌, ℕ, Bool, true, false, List, Option, Some, None}
 use Rattle.fw_model_account.specs.Account.{Account}
-use Rattle.fw_ledger.specs.Stands.{StandsFor}
-use Rattle.fw_ledger.specs.declared.tables.Tables.{Tables}
+use Rattle.fw_account_tables.specs.Stands.{StandsFor}
+use Rattle.fw_account_tables.specs.declared.tables.Tables.{Tables}
 use Rattle.fw_page_strip.specs.declared.drawn.Drawn.{Drawn}
 use Rattle.fw_page_strip.specs.declared.amounts.Totals.{Totals}
 use Rattle.fw_page_strip.specs.declared.owner.Class.TheVariants.{Pending, Connected, Orphaned}
 use Rattle.fw_page_strip.specs.declared.owner.Owner.{Owner}
 use Rattle.fw_page_strip.specs.Labels.{taken}
 use Rattle.fw_page_strip.specs.Lanes.{lanes}
-use Rattle.fw_page_strip.specs.Owners.{owners, units_of_class}
+use Rattle.fw_page_strip.specs.Owners.{AreNobodys, owners, units_of_class}
 
--- these are the units of an account, by how they are had
+-- these are the units of an account, by how they are had, and how many channels come up to the last that somebody has
 pub record AreTotals (t : Totals) (l : Account) : Type 0 where
   pub connected : t.connected ≡ units_of_class l Connected
   pub pending : t.pending ≡ units_of_class l Pending
   pub orphaned : t.orphaned ≡ units_of_class l Orphaned
+  pub reach : AreNobodys l t.reach
 
 -- this is drawn of an account, or of none
 pub record IsDrawnOf (d : Drawn) (l : Option Account) : Type 0 where

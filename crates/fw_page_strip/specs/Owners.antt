@@ -1,12 +1,12 @@
 -- Who has each channel, and how many units each class has (own).
-use Rattle.std.specs.Prelude.{ℕ, zero, suc, ◌+◌, ◌==◌, nat_lt, ◌&&◌, Bool, true, false, List, [], ◌∷◌, ◌++◌, codes, replicate, Option, Some, None, if◌then◌else◌}
+use Rattle.std.specs.Prelude.{◌≡◌, ◌≤◌, ◌<◌, ℕ, zero, suc, ◌+◌, ◌==◌, nat_lt, ◌&&◌, Bool, true, false, List, [], ◌∷◌, ◌++◌, codes, replicate, Option, Some, None, if◌then◌else◌}
 use Rattle.fw_terms.specs.Tables.{same_plug, sum_to, find_to}
 use Rattle.std.specs.Option.{is_some}
 use Rattle.fw_terms.specs.declared.plug.PlugAt.{PlugAt}
 use Rattle.fw_model_account.specs.Account.{Pending as PendingHolder, Connected as ConnectedHolder, Orphaned as OrphanedHolder, Holder, Allocation, Flow, Account, is_withheld, plug_of}
-use Rattle.fw_ledger.specs.declared.tables.Reclaimable.{Reclaimable}
-use Rattle.fw_ledger.specs.declared.tables.Reclaimable.TheVariants.{Nothing as NoFlow}
-use Rattle.fw_ledger.specs.Stands.{reclaimable_at}
+use Rattle.fw_account_tables.specs.declared.tables.Reclaimable.{Reclaimable}
+use Rattle.fw_account_tables.specs.declared.tables.Reclaimable.TheVariants.{Nothing as NoFlow}
+use Rattle.fw_account_tables.specs.Stands.{reclaimable_at}
 use Rattle.fw_page_strip.specs.declared.owner.Class.{Class}
 use Rattle.fw_page_strip.specs.declared.owner.Class.TheVariants.{Pending, Connected, Orphaned, Kept, Withheld}
 use Rattle.fw_page_strip.specs.declared.owner.Owner.{Owner}
@@ -66,6 +66,10 @@ owner_by (Some x) withheld flow = Plug (class_of x.holder) (plug_of x.holder)
 -- who has a channel
 abbrev pub owner : Account → ℕ → Owner
 owner l channel = owner_by (l.allocations channel) (is_withheld l.withheld channel) (flow_on l channel)
+
+-- nobody has the channels from this one on
+abbrev pub AreNobodys : Account → ℕ → Type 0
+AreNobodys l n = (channel : ℕ) → n ≤ channel → channel < 64 → owner l channel ≡ Nobody
 
 -- the owners of the first n channels
 unfoldable pub owners_below : Account → ℕ → List Owner

@@ -1,14 +1,15 @@
 //! The units that are taken, by class and channel.
 
-ghost use Rattle.std.specs.Prelude.{◌≡◌, ◌<◌};
+ghost use Rattle.std.specs.Prelude.{◌≡◌, ◌<◌, ◌≤◌};
 ghost use Rattle.fw_model_account.specs.Account.{Account};
-ghost use Rattle.fw_ledger.specs.Stands.{StandsFor, allocation_of};
+ghost use Rattle.fw_account_tables.specs.Stands.{StandsFor, allocation_of};
 ghost use Rattle.fw_page_strip.specs.Drawing.{AreTotals};
-ghost use Rattle.fw_page_strip.specs.Owners.{flow_on, units_as, has_units_of, has_units, kept_for, amount};
+ghost use Rattle.fw_page_strip.specs.Owners.{AreNobodys, owners_below, flow_on, units_as, has_units_of, has_units, kept_for, amount};
 
-use crate::owner::{Class, is_same};
+use crate::owner::{Class, Owner, is_same};
 use crate::shares::{charge, reclaimable};
-use fw_ledger::{Charge, Ledger, Reclaimable};
+use fw_account_tables::{Charge, Reclaimable};
+use fw_ledger::Ledger;
 use fw_terms::PlugAt;
 
 /// How many channels there are.
@@ -20,11 +21,13 @@ pub(crate) struct Totals {
     pub(crate) connected: u32,
     pub(crate) pending: u32,
     pub(crate) orphaned: u32,
+    // So many channels come up to the last that somebody has: few of them, as the lowest that is free is taken.
+    pub(crate) reach: usize,
 }
 
 impl Totals {
     ghost use Rattle.std.specs.Prelude.{◌≡◌, ◌+◌, ◌<◌, ◌^◌};
-    ghost use Rattle.fw_ledger.specs.Stands.{allocation_of};
+    ghost use Rattle.fw_account_tables.specs.Stands.{allocation_of};
     ghost use Rattle.fw_page_strip.specs.Owners.{total_before, units_as};
 
     // With those of a channel more.
@@ -32,6 +35,7 @@ impl Totals {
         ensures connected { self.connected + units_as Class.Connected (allocation_of charge) < 2 ^ 32 → result.connected ≡ self.connected + units_as Class.Connected (allocation_of charge) }
         ensures pending { self.pending + units_as Class.Pending (allocation_of charge) < 2 ^ 32 → result.pending ≡ self.pending + units_as Class.Pending (allocation_of charge) }
         ensures orphaned { self.orphaned + units_as Class.Orphaned (allocation_of charge) < 2 ^ 32 → result.orphaned ≡ self.orphaned + units_as Class.Orphaned (allocation_of charge) }
+        ensures reach { result.reach ≡ self.reach }
     {
         Totals {
             connected: self
@@ -43,6 +47,7 @@ impl Totals {
             orphaned: self
                 .orphaned
                 .saturating_add(units_as(charge, Class::Orphaned)),
+            reach: self.reach,
         }
     }
 
@@ -73,16 +78,33 @@ fn units_as(charge: Charge, class: Class) -> u32
     }
 }
 
-/// The units of all channels, by an account.
-pub(crate) fn sums_of(ledger: &Ledger) -> Totals
-    ensures { (l : Account) → StandsFor ledger.now l → AreTotals result l }
+// How many channels come up to the last that somebody has.
+fn reach_of(owners: &[Owner; 64]) -> usize
+    ensures few { result ≤ 64 }
+    ensures nobodys { (l : Account) → owners.now ≡ owners_below l 64 → AreNobodys l result }
 {
+    let mut reach = 0;
+    for channel in 0..CHANNELS {
+        if !matches!(owners[channel], Owner::Nobody) {
+            reach = channel + 1;
+        }
+    }
+    reach
+}
+
+/// The units of all channels, by an account and the owners of its channels.
+pub(crate) fn sums_of(ledger: &Ledger, owners: &[Owner; 64]) -> Totals
+    ensures few { result.reach ≤ 64 }
+    ensures totals { (l : Account) → StandsFor ledger.now l → owners.now ≡ owners_below l 64 → AreTotals result l }
+{
+    let reach = reach_of(owners);
     let mut sums = Totals {
         connected: 0,
         pending: 0,
         orphaned: 0,
+        reach,
     };
-    for channel in 0..CHANNELS {
+    for channel in 0..reach {
         sums = sums.with(charge(ledger, channel));
     }
     sums

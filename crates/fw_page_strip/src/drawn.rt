@@ -2,7 +2,7 @@
 
 ghost use Rattle.std.specs.Prelude.{◌≡◌};
 ghost use Rattle.fw_model_account.specs.Account.{Account};
-ghost use Rattle.fw_ledger.specs.Stands.{StandsFor};
+ghost use Rattle.fw_account_tables.specs.Stands.{StandsFor};
 ghost use Rattle.fw_page_strip.specs.Owners.{owners_below};
 
 use crate::amounts::CHANNELS;
@@ -37,7 +37,7 @@ impl Drawn {
     ghost use Rattle.std.specs.Prelude.{◌≡◌, [], OnOk, Option, Some, None};
     ghost use Rattle.std.specs.Option.{option_copied};
     ghost use Rattle.fw_model_account.specs.Account.{Account};
-    ghost use Rattle.fw_ledger.specs.Stands.{StandsFor};
+    ghost use Rattle.fw_account_tables.specs.Stands.{StandsFor};
     ghost use Rattle.fw_page_strip.specs.Drawing.{IsDrawnOf, LedgerFor};
 
     pub(crate) fn new(alloc: Global) -> Drawn

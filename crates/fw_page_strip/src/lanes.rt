@@ -1,13 +1,13 @@
 //! The lanes of a strip: the units that are taken as a bar, and each channel that somebody has.
 
-ghost use Rattle.std.specs.Prelude.{◌≡◌, ◌<◌, ◌+◌, ◌^◌, ◌++◌, IfOk, OnOk, Some};
+ghost use Rattle.std.specs.Prelude.{◌≡◌, ◌<◌, ◌≤◌, ◌+◌, ◌^◌, ◌++◌, IfOk, OnOk, Some};
 ghost use Rattle.fw_model_account.specs.Account.{Account};
-ghost use Rattle.fw_ledger.specs.Stands.{StandsFor};
+ghost use Rattle.fw_account_tables.specs.Stands.{StandsFor};
 ghost use Rattle.fw_page_strip.specs.Drawing.{AreTotals};
-ghost use Rattle.fw_page_strip.specs.Owners.{owners_below, owner_class, is_class, units_before};
+ghost use Rattle.fw_page_strip.specs.Owners.{AreNobodys, owners_below, owner_class, is_class};
 ghost use Rattle.fw_page_strip.specs.Lanes.{bar_part, bar_below, bar, lane, channels_below, class_path, lanes};
 
-use crate::amounts::{CHANNELS, Totals, amount, sums_of};
+use crate::amounts::{Totals, amount, sums_of};
 use crate::owner::{Class, Owner, owner_in};
 use fw_ledger::Ledger;
 use fw_page_marks::{put_path, put_rect};
@@ -38,13 +38,14 @@ fn put_units(shapes: &mut Vec<u8>, before: u32, units: u32) -> Result<u32, Alloc
 fn put_parts(
     shapes: &mut Vec<u8>,
     ledger: &Ledger,
-    before: u32,
+    totals: Totals,
     class: Class,
 ) -> Result<(), AllocError>
-    ensures { (l : Account) → StandsFor ledger.now l → before ≡ units_before l class → OnOk result (shapes.new.items ≡ shapes.old.items ++ bar_below l class 64) }
+    requires { totals.reach ≤ 64 }
+    ensures { (l : Account) → StandsFor ledger.now l → AreTotals totals l → OnOk result (shapes.new.items ≡ shapes.old.items ++ bar_below l class 64) }
 {
-    let mut following = before;
-    for channel in 0..CHANNELS {
+    let mut following = totals.before(class);
+    for channel in 0..totals.reach {
         following = put_units(shapes, following, amount(ledger, class, channel))?;
     }
     Ok(())
@@ -57,16 +58,16 @@ fn put_bar(
     totals: Totals,
     class: Class,
 ) -> Result<(), AllocError>
+    requires { totals.reach ≤ 64 }
     ensures { (l : Account) → StandsFor ledger.now l → AreTotals totals l → OnOk result (shapes.new.items ≡ shapes.old.items ++ bar l class) }
 {
-    let before = totals.before(class);
     match class {
         Class::Orphaned => {
-            put_units(shapes, before, totals.orphaned)?;
+            put_units(shapes, totals.before(class), totals.orphaned)?;
             Ok(())
         }
         Class::Withheld => Ok(()),
-        _ => put_parts(shapes, ledger, before, class),
+        _ => put_parts(shapes, ledger, totals, class),
     }
 }
 
@@ -98,10 +99,16 @@ fn put_lane(
 }
 
 // Appends the channels that are had so.
-fn put_channels(shapes: &mut Vec<u8>, owners: &[Owner; 64], class: Class) -> Result<(), AllocError>
-    ensures { (l : Account) → owners.now ≡ owners_below l 64 → OnOk result (shapes.new.items ≡ shapes.old.items ++ channels_below l class 64) }
+fn put_channels(
+    shapes: &mut Vec<u8>,
+    owners: &[Owner; 64],
+    reach: usize,
+    class: Class,
+) -> Result<(), AllocError>
+    requires { reach ≤ 64 }
+    ensures { (l : Account) → owners.now ≡ owners_below l 64 → AreNobodys l reach → OnOk result (shapes.new.items ≡ shapes.old.items ++ channels_below l class 64) }
 {
-    for channel in 0..CHANNELS {
+    for channel in 0..reach {
         put_lane(shapes, class, channel, owner_in(owners, channel))?;
     }
     Ok(())
@@ -116,11 +123,12 @@ fn put_class(
     totals: Totals,
     class: Class,
 ) -> Result<(), AllocError>
+    requires { totals.reach ≤ 64 }
     ensures { (l : Account) → StandsFor ledger.now l → AreTotals totals l → owners.now ≡ owners_below l 64 → OnOk result (text.new.items ≡ text.old.items ++ class_path l class) }
 {
     shapes.clear();
     put_bar(shapes, ledger, totals, class)?;
-    put_channels(shapes, owners, class)?;
+    put_channels(shapes, owners, totals.reach, class)?;
     put_path(text, class.path(), shapes)
 }
 
@@ -133,7 +141,7 @@ pub(crate) fn put_lanes(
 ) -> Result<(), AllocError>
     ensures { (l : Account) → StandsFor ledger.now l → owners.now ≡ owners_below l 64 → OnOk result (text.new.items ≡ text.old.items ++ lanes (Some l)) }
 {
-    let totals = sums_of(ledger);
+    let totals = sums_of(ledger, owners);
     put_class(text, shapes, ledger, owners, totals, Class::Pending)?;
     put_class(text, shapes, ledger, owners, totals, Class::Connected)?;
     put_class(text, shapes, ledger, owners, totals, Class::Orphaned)?;

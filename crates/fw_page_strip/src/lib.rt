@@ -13,5 +13,5 @@ mod strip;
 pub use labels::Change;
 pub use laws::strips_draw_the_account;
 pub use owner::{Class, Owner, owner_of};
-pub use shares::{charge, goes_on, reclaimable};
+pub use shares::{charge, goes_on, reclaimable, reclaims};
 pub use strip::Strip;

@@ -3,12 +3,13 @@
 ghost use Rattle.std.specs.Prelude.{◌≡◌, ◌<◌};
 ghost use Rattle.fw_terms.specs.Tables.{same_plug};
 ghost use Rattle.fw_model_account.specs.Account.{Account, is_withheld};
-ghost use Rattle.fw_ledger.specs.Stands.{StandsFor, allocation_of, flow_of};
+ghost use Rattle.fw_account_tables.specs.Stands.{StandsFor, allocation_of, flow_of};
 ghost use Rattle.fw_page_strip.specs.Labels.{owner_in};
 ghost use Rattle.fw_page_strip.specs.Owners.{owner_free, owner_by, owner};
 
 use crate::shares::{charge, reclaimable, withholds};
-use fw_ledger::{Charge, Ledger, Reclaimable};
+use fw_account_tables::{Charge, Reclaimable};
+use fw_ledger::Ledger;
 use fw_terms::PlugAt;
 
 /// The channel that a bus may withhold.

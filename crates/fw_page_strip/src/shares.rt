@@ -2,10 +2,11 @@
 
 ghost use Rattle.std.specs.Prelude.{◌≡◌, ◌<◌, length};
 ghost use Rattle.fw_model_account.specs.Account.{Account};
-ghost use Rattle.fw_ledger.specs.Stands.{StandsFor, allocation_of, flow_of, charge_at, continues_at, place};
+ghost use Rattle.fw_account_tables.specs.Stands.{StandsFor, allocation_of, flow_of, charge_at, continues_at, place};
 ghost use Rattle.fw_page_strip.specs.Owners.{flow_on, flow_by};
 
-use fw_ledger::{Charge, Ledger, Reclaimable};
+use fw_account_tables::{Charge, Reclaimable};
+use fw_ledger::Ledger;
 use fw_terms::PlugAt;
 
 /// How many output plugs a device has at most: the tables have so many places for each.
@@ -63,6 +64,13 @@ pub fn reclaimable(ledger: &Ledger, channel: usize) -> Reclaimable
 {
     let tables = ledger.tables();
     flow_by(tables.reclaiming, &tables.reclaimable, channel)
+}
+
+/// Whether a reclaim second runs.
+pub fn reclaims(ledger: &Ledger) -> bool
+    ensures { (l : Account) → StandsFor ledger.now l → result ≡ l.reclaiming }
+{
+    ledger.tables().reclaiming
 }
 
 /// Whether an output plug of the latest reset entry goes on talking from before it, with no connection.

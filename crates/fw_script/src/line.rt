@@ -38,6 +38,7 @@ fn line_feed(bytes: &[u8]) -> Option<usize>
 
 /// What stands at the beginning of some bytes, of which the first `room` are within the script's limit. If the bytes are
 /// not yet `whole`, others may follow them.
+#[inline(always)]
 pub(crate) fn prefix_of(rest: &[u8], room: usize, whole: bool) -> Prefix
     ensures { IsPrefix rest.now room whole result }
 {

@@ -34,6 +34,7 @@ pub enum Keyword {
 }
 
 /// The keyword that the word is.
+#[inline(always)]
 pub fn keyword_of(word: &[u8]) -> Option<Keyword>
     ensures { result ≡ keyword_in word.now }
 {

@@ -27,7 +27,8 @@ pub use Rattle.fw_trace.specs.Traces.{TellsPrefix, Traces}
 pub use Rattle.fw_trace.specs.Tracing.{Begun, HasLines, Tracing, kept_from}
 pub use Rattle.fw_trace.specs.declared.lack.Lack.{Lack}
 pub use Rattle.fw_trace.specs.declared.lack.Lack.TheVariants.{Memory}
-pub use Rattle.fw_trace_lines.specs.Caused.{Telling, caused_text, untold}
+pub use Rattle.fw_trace_lines.specs.Caused.{Telling, untold}
+pub use Rattle.fw_trace_names.specs.CausedLines.{caused_text}
 pub use Rattle.fw_trace_lines.specs.Commands.{Traced, begun, last_lines, lines_from, telling_following}
 pub use Rattle.std.proofs.Common.{Bool, Err, List, None, Ok, Option, Some, [], ap, append_assoc, arith, false, inl, inr, length, refl, subst, sym, take, true, ℕ, ◌++◌, ◌+◌, ◌<◌, ◌∙◌, ◌∷◌, ◌≡◌, ◌⊎◌}
 pub use Rattle.std.proofs.Math.Logic.{∥∥₁_elim}

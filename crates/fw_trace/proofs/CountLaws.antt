@@ -2,7 +2,7 @@
 use Rattle.fw_trace.proofs.Common.{◌≡◌, refl, sym, ap, ◌∙◌, ◌+◌, List, [], ◌∷◌, ◌++◌, None, append_assoc, arith, append-nil, Timed, ReadFault, WriteFault, TooLong, NoMemory, DeskRelations, Course}
 use Rattle.fw_trace.proofs.Common.{Refused, Stopped, Telling, untold, begun, Part, PartsRun, kept_from}
 use Rattle.fw_script_words.specs.declared.ending.RunEnding.TheVariants.{Done}
-use Rattle.fw_trace_lines.specs.Caused.{Caused}
+use Rattle.fw_trace_names.specs.CausedLines.{Caused}
 use Rattle.fw_trace_lines.specs.Laws.{entries_told, entries_due}
 use Rattle.fw_trace_lines.proofs.CountLaws.{tells_all}
 use Rattle.fw_trace.specs.Laws.{part_lines, caused_lines, LeavesNothingOut, EndsAsItsRun}

@@ -1,5 +1,6 @@
 pub mod Common
 pub mod Framings
+pub mod PieceLaws
 pub mod TellingLaws
 pub mod PlaceLaws
 pub mod PassedLaws
@@ -16,5 +17,6 @@ pub mod StopLaws
 pub mod CutLaws
 pub mod WholeLaws
 pub mod NextLaws
+pub mod LookLaws
 pub mod HeaderLaws
 pub mod CountLaws

@@ -8,7 +8,7 @@ use Rattle.fw_script_words.specs.Going.{Going}
 use Rattle.fw_trace.specs.Passed.{grows_prefix-prop}
 use Rattle.fw_trace.proofs.PassedLaws.{passed_prefix}
 use Rattle.fw_trace.proofs.RunLaws.{only_read, going_opens}
-use Rattle.fw_trace.proofs.TellingLaws.{text_append}
+use Rattle.fw_trace.proofs.PieceLaws.{text_append}
 
 longer_text : (given rest first more whole : List ℕ) (before : List ℕ) → given ++ rest ≡ before ++ first → whole ≡ first ++ more → given ++ (rest ++ more) ≡ before ++ whole
 longer_text given rest first more whole before e f =

@@ -28,7 +28,7 @@ use Rattle.fw_trace.proofs.Common.{Done, DeskRelations, log_bytes, BusView}
 use Rattle.fw_log_entry.specs.declared.version.Version.{Version}
 use Rattle.fw_log.specs.Reader.{finish_of}
 use Rattle.fw_log.specs.declared.LogFault.{LogFault}
-use Rattle.fw_log.proofs.HistoryLaws.{finishes}
+use Rattle.fw_log.proofs.FinishLaws.{finishes}
 use Rattle.fw_script.specs.declared.stage.ReaderStage.TheVariants.{AfterEnd, Failed}
 use Rattle.fw_model_run.specs.Runs.{Run}
 use Rattle.fw_model_run.proofs.Logs.{run_opens, run_spells}

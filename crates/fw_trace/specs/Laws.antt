@@ -6,7 +6,8 @@ use Rattle.fw_script_words.specs.Course.{course_at}
 use Rattle.fw_script_words.specs.Ending.{Runs}
 use Rattle.fw_script_words.specs.declared.ending.RunEnding.{RunEnding}
 use Rattle.fw_script_words.specs.declared.ending.RunEnding.TheVariants.{Done, Refused, Stopped}
-use Rattle.fw_trace_lines.specs.Caused.{Caused, Telling, untold}
+use Rattle.fw_trace_names.specs.CausedLines.{Caused}
+use Rattle.fw_trace_lines.specs.Caused.{Telling, untold}
 use Rattle.fw_trace_lines.specs.Commands.{begun, command_lines}
 use Rattle.fw_trace_lines.specs.Laws.{entries_told, entries_due}
 use Rattle.fw_trace.specs.Parts.{Part, kept_after}

@@ -15,7 +15,8 @@ use Rattle.fw_model_run.specs.Actions.{Action}
 use Rattle.fw_model_run.specs.Carrying.{Carries}
 use Rattle.fw_model_run.specs.Rules.{Decides}
 use Rattle.fw_trace_lines.specs.Lines.{line_text}
-use Rattle.fw_trace_lines.specs.Caused.{Telling, untold, caused_text}
+use Rattle.fw_trace_lines.specs.Caused.{Telling, untold}
+use Rattle.fw_trace_names.specs.CausedLines.{caused_text}
 use Rattle.fw_trace_lines.specs.Commands.{begun, ended, telling_following, command_lines}
 use Rattle.fw_script_words.specs.Course.{Course}
 

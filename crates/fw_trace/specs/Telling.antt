@@ -3,7 +3,8 @@ use Rattle.std.specs.Prelude.{◌≡◌, ℕ, ◌^◌, ◌-◌, ◌≤◌, Bool,
 use Rattle.fw_log_entry.specs.declared.entry.Timed.{Timed}
 use Rattle.fw_log.specs.History.{HasRead}
 use Rattle.fw_log.specs.Reader.{State}
-use Rattle.fw_trace_lines.specs.Caused.{caused_text, entry_lines, telling_after}
+use Rattle.fw_trace_names.specs.CausedLines.{caused_text}
+use Rattle.fw_trace_lines.specs.Caused.{entry_lines, telling_after}
 use Rattle.fw_trace_lines.specs.Commands.{Traced, lines_from, telling_following}
 use Rattle.fw_trace.specs.declared.lack.Lack.{Lack}
 use Rattle.fw_trace.specs.declared.lack.Lack.TheVariants.{Memory, Sink}

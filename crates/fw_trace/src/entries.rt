@@ -8,7 +8,8 @@ ghost use Rattle.fw_log_entry.specs.declared.entry.Timed.{Timed as ATimed};
 ghost use Rattle.fw_log.specs.History.{HasRead};
 ghost use Rattle.fw_log.specs.Passing.{CountsUp};
 ghost use Rattle.fw_log.specs.Reader.{total};
-ghost use Rattle.fw_trace_lines.specs.Caused.{caused_text, entry_lines, telling_after};
+ghost use Rattle.fw_trace_names.specs.CausedLines.{caused_text};
+ghost use Rattle.fw_trace_lines.specs.Caused.{entry_lines, telling_after};
 ghost use Rattle.fw_trace.specs.Telling.{TakesKnown, TakesOne, TakesPiece};
 
 use crate::bodies::put_body;

@@ -18,45 +18,15 @@ use Rattle.fw_log_registers.specs.Places.{place_of}
 use Rattle.fw_log_requests.specs.declared.asked.Answer.TheVariants.{Lock as LockResponse}
 use Rattle.fw_log_requests.specs.declared.asked.Asked.{Asked}
 use Rattle.fw_log_requests.specs.Requests.{asked_by}
-use Rattle.fw_trace_lines.specs.declared.packets.Reply.{Reply}
-use Rattle.fw_trace_lines.specs.Requests.{with_asked, latest_asked}
-use Rattle.fw_trace_lines.specs.Names.{Naming, id_text}
-use Rattle.fw_trace_lines.specs.Told.{asked_text, carried_text, changes_asked, rcode_or, swapped_text, answer_text, response_text}
-use Rattle.fw_trace_lines.specs.Caused.{
-  DeferredRequest,
-  Telling,
-  Caused,
-  caused_text,
-  at_cycle,
-  one,
-  kind_of,
-  held_by,
-  is_joined,
-  lone_lines,
-  joined_line,
-  joined_lines,
-  late_lines,
-  response_lines,
-  packet_lines,
-  lines_by,
-  entry_lines,
-  telling_after,
-}
-use Rattle.fw_trace_lines.specs.Replies.{
-  quadlet_of,
-  reply_of,
-  found_text,
-  word_told,
-  brought_text,
-  reply_text,
-  replied_text,
-  joined_with,
-  late_reply,
-  reply_lines,
-  said_lines,
-  with_request,
-  with_response,
-}
+use Rattle.fw_trace_requests.specs.declared.packets.Reply.{Reply}
+use Rattle.fw_trace_requests.specs.Requests.{with_asked, latest_asked}
+use Rattle.fw_trace_names.specs.Names.{Naming, id_text}
+use Rattle.fw_trace_requests.specs.Answers.{asked_text, carried_text, changes_asked, rcode_or, swapped_text, answer_text, response_text}
+use Rattle.fw_trace_requests.specs.Held.{DeferredRequest, is_joined, lone_lines, joined_with}
+use Rattle.fw_trace_lines.specs.Caused.{Telling, one, kind_of, held_by, joined_line, joined_lines, late_lines, response_lines, packet_lines, lines_by, entry_lines, telling_after}
+use Rattle.fw_trace_names.specs.CausedLines.{Caused, caused_text, at_cycle}
+use Rattle.fw_trace_requests.specs.Replies.{quadlet_of, reply_of, found_text, word_told, brought_text, reply_text, replied_text}
+use Rattle.fw_trace_lines.specs.Replies.{late_reply, reply_lines, said_lines, with_request, with_response}
 use Rattle.fw_trace_lines.specs.Commands.{Traced}
 
 -- ---- swaps

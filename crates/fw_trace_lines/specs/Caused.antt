@@ -1,7 +1,6 @@
 -- What a command caused: lines, each of so many entries. One request is held back, since the response that answers it may come next.
-use Rattle.std.specs.Prelude.{ℕ, ◌==◌, Bool, false, List, [], ◌∷◌, ◌++◌, codes, decimal, Option, Some, None, if◌then◌else◌}
+use Rattle.std.specs.Prelude.{ℕ, ◌==◌, List, [], ◌∷◌, ◌++◌, codes, Option, Some, None, if◌then◌else◌}
 use Rattle.fw_async.specs.Heads.{head_of}
-use Rattle.fw_async.specs.declared.packet.Head.{Head}
 use Rattle.fw_async.specs.declared.packet.Packet.{Packet}
 use Rattle.fw_async.specs.declared.packet.Packet.TheVariants.{WriteReply, ReadQuadletReply, ReadBlockReply, LockReply}
 use Rattle.fw_log_entry.specs.declared.codes.event.TheConstants as Events
@@ -12,23 +11,19 @@ use Rattle.fw_log_entry.specs.declared.entry.Timed.{Timed}
 use Rattle.fw_log_requests.specs.declared.asked.Answer.{Answer}
 use Rattle.fw_log_requests.specs.declared.asked.Answer.TheVariants.{Write as WriteResponse, ReadQuadlet as ReadQuadletResponse, ReadBlock as ReadBlockResponse, Lock as LockResponse}
 use Rattle.fw_log_requests.specs.declared.asked.Asked.{Asked}
-use Rattle.fw_log_requests.specs.Requests.{asked_by, answers}
-use Rattle.fw_trace_lines.specs.Requests.{requests_after, latest_asked}
+use Rattle.fw_log_requests.specs.Requests.{asked_by}
 use Rattle.fw_trace_lines.specs.declared.job.TracedConnection.{TracedConnection}
 use Rattle.fw_trace_lines.specs.declared.streams.Stream.{Stream}
-use Rattle.fw_trace_lines.specs.Names.{Naming, nameless, devices_of, id_text}
 use Rattle.fw_trace_lines.specs.Jobs.{job_at, jobs_after, without_device}
 use Rattle.fw_trace_lines.specs.Streams.{no_streams, with_packet}
-use Rattle.fw_trace_lines.specs.Told.{asked_text, carried_text, changes_asked, answer_text, response_text, reset_text, event_text, outcome_text, shown_text}
+use Rattle.fw_trace_lines.specs.Told.{reset_text, event_text, outcome_text, shown_text}
+use Rattle.fw_trace_names.specs.Names.{Naming, nameless, devices_of, id_text}
+use Rattle.fw_trace_names.specs.CausedLines.{Caused, at_cycle}
+use Rattle.fw_trace_requests.specs.Requests.{requests_after, latest_asked}
+use Rattle.fw_trace_requests.specs.Answers.{answer_text, response_text}
+use Rattle.fw_trace_requests.specs.Held.{DeferredRequest, held_of, lone_lines, is_joined}
 
 -- ---- what is kept
-
--- a request that is held back, with the texts that its line is made of: what stands before the arrow and after it, and what it would change
-pub record DeferredRequest : Type 0 where
-  pub asked : Asked
-  pub prefix : List ℕ
-  pub told : List ℕ
-  pub changes : List ℕ
 
 -- what is kept from entry to entry
 pub record Telling : Type 0 where
@@ -45,20 +40,6 @@ untold = record { naming = nameless; requests = []; jobs = []; held = None; stre
 
 -- ---- lines
 
--- a line: how many entries it tells, and its text
-pub record Caused : Type 0 where
-  pub entries : ℕ
-  pub text : List ℕ
-
--- the bytes of lines
-abbrev pub caused_text : List Caused → List ℕ
-caused_text [] = []
-caused_text (l ∷ ls) = l.text ++ 10 ∷ caused_text ls
-
--- what a line that was caused begins with
-abbrev pub at_cycle : ℕ → List ℕ
-at_cycle cycle = codes "      " ++ decimal cycle ++ codes " "
-
 -- a line of one entry
 abbrev pub one : ℕ → List ℕ → List Caused
 one cycle text = record { entries = 1; text = at_cycle cycle ++ text } ∷ []
@@ -73,38 +54,14 @@ kind_of (ReadBlockReply h rcode bytes) = Some ReadBlockResponse
 kind_of (LockReply h rcode function bytes) = Some LockResponse
 kind_of p = None
 
--- a request that is held back
-abbrev pub held_of : Naming → ℕ → Packet → Asked → DeferredRequest
-held_of n cycle p q = record {
-  asked = q;
-  prefix = at_cycle cycle ++ id_text n q.source;
-  told = id_text n q.destination ++ codes " " ++ asked_text q ++ carried_text p;
-  changes = changes_asked n q;
-}
-
 -- a request is held back, if the packet is one
 unfoldable pub held_by : Naming → ℕ → Packet → Option Asked → Option DeferredRequest
 held_by n cycle p None = None
 held_by n cycle p (Some q) = Some (held_of n cycle p q)
 
--- what a swap would change that no answer has decided
-unfoldable pub if_made : List ℕ → List ℕ
-if_made [] = []
-if_made (b ∷ bs) = codes "; if made" ++ b ∷ bs
-
--- the line of a request that is answered later, or not at all
-unfoldable pub lone_lines : Option DeferredRequest → List Caused
-lone_lines None = []
-lone_lines (Some h) = record { entries = 1; text = h.prefix ++ codes " -> " ++ h.told ++ if_made h.changes } ∷ []
-
 -- the line of a request and of its answer
 unfoldable pub joined_line : Naming → DeferredRequest → Packet → Caused
 joined_line n h p = record { entries = 2; text = h.prefix ++ codes " <-> " ++ h.told ++ answer_text n h.asked p }
-
--- a response of this kind answers the request that is held back
-unfoldable pub is_joined : Option Answer → Head → Option DeferredRequest → Bool
-is_joined (Some kind) h (Some held) = answers kind h held.asked
-is_joined kind h held = false
 
 -- the line of a response to an earlier request
 unfoldable pub late_lines : Telling → ℕ → Packet → List Caused

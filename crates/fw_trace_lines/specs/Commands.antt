@@ -5,10 +5,12 @@ use Rattle.fw_log_entry.specs.declared.entry.Timed.{Timed}
 use Rattle.fw_trace_lines.specs.declared.job.Connection.{Connection}
 use Rattle.fw_trace_lines.specs.declared.job.TracedConnection.{TracedConnection}
 use Rattle.fw_trace_lines.specs.declared.streams.Stream.{Stream}
-use Rattle.fw_trace_lines.specs.Names.{Naming, with_declared}
+use Rattle.fw_trace_names.specs.Names.{Naming, with_declared}
 use Rattle.fw_trace_lines.specs.Jobs.{connection_of, with_job}
 use Rattle.fw_trace_lines.specs.Streams.{no_streams, stream_at, stream_text}
-use Rattle.fw_trace_lines.specs.Caused.{Telling, Caused, at_cycle, lone_lines, entry_lines, telling_after}
+use Rattle.fw_trace_lines.specs.Caused.{Telling, entry_lines, telling_after}
+use Rattle.fw_trace_names.specs.CausedLines.{Caused, at_cycle}
+use Rattle.fw_trace_requests.specs.Held.{lone_lines}
 
 -- a command is about to be carried out: a device that it declares has its name from then on
 abbrev pub begun : Command → Telling → Telling

@@ -5,7 +5,8 @@ use Rattle.fw_async.specs.declared.packet.Packet.TheVariants.{CycleStart}
 use Rattle.fw_log_entry.specs.declared.entry.Entry.{Entry}
 use Rattle.fw_log_entry.specs.declared.entry.Entry.TheVariants.{Async, Iso}
 use Rattle.fw_log_entry.specs.declared.entry.Timed.{Timed}
-use Rattle.fw_trace_lines.specs.Caused.{Telling, Caused}
+use Rattle.fw_trace_lines.specs.Caused.{Telling}
+use Rattle.fw_trace_names.specs.CausedLines.{Caused}
 use Rattle.fw_trace_lines.specs.Commands.{command_lines}
 
 -- how many entries lines tell

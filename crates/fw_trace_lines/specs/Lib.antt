@@ -1,9 +1,6 @@
-pub mod Names
 pub mod Jobs
-pub mod Requests
 pub mod Streams
 pub mod Told
-pub mod Phrases
 pub mod Caused
 pub mod Replies
 pub mod Lines

@@ -4,7 +4,7 @@ use Rattle.std.specs.Option.{is_some}
 use Rattle.fw_cip.specs.declared.packet.IsoPacket.{IsoPacket}
 use Rattle.fw_outside.specs.Outside.{counted}
 use Rattle.fw_trace_lines.specs.declared.streams.Stream.{Stream}
-use Rattle.fw_trace_lines.specs.Names.{Naming, node_text}
+use Rattle.fw_trace_names.specs.Names.{Naming, node_text}
 
 -- no packet
 abbrev pub no_stream : Stream

@@ -5,15 +5,13 @@ ghost use Rattle.fw_log_explain.specs.Lines.{shown_place};
 ghost use Rattle.fw_trace_lines.specs.Told.{manager_text, reset_text, event_device, event_text, missing_text, outcome_value, outcome_text, shown_text};
 
 use crate::job::{TracedConnection, put_doing};
-use crate::naming::Names;
-use crate::parts::{put_named_part, put_part};
-use crate::registers::put_named_word;
 use crate::sayings::{put_saying, put_tape, put_value};
 use fw_csr::REGISTER_SPACE;
 use fw_log_entry::codes::{NO_DEVICE, outcome};
 use fw_log_entry::{EventEntry, OutcomeEntry, ResetEntry, ShownEntry};
 use fw_log_names::{Pairs, event_name, event_saying, outcome_name, put_word};
 use fw_log_registers::{RegisterPlace, put_place};
+use fw_trace_names::{Names, put_named_part, put_named_word, put_part};
 use std::alloc::AllocError;
 
 // Appends the resource manager that a bus reset has found.

@@ -3,10 +3,10 @@
 ghost use Rattle.std.specs.Prelude.{◌≡◌, ◌++◌, ℕ, List, OnOk};
 ghost use Rattle.fw_trace_lines.specs.Jobs.{connection_of, plug_text, connection_text, new_job, is_now, is_older, is_older_at, made_after, over_after, goes_on, verb_of, doing_text};
 
-use crate::parts::put_part;
 use fw_log_entry::codes::outcome;
 use fw_log_names::put_word;
 use fw_script_command::{Command, Name};
+use fw_trace_names::put_part;
 use std::alloc::AllocError;
 
 /// A connection as the line names it that asks for it: each plug by its device and its number.

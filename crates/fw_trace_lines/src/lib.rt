@@ -4,21 +4,11 @@
 //! latest bus reset, the latest request of each node under each label, and the jobs that an outcome may be of.
 #![tactic(auto)]
 
-mod answers;
 mod events;
-mod held;
 mod job;
 mod jobs;
 mod laws;
 mod line;
-mod memo;
-mod naming;
-mod packets;
-mod parts;
-mod phrase;
-mod registers;
-mod replies;
-mod requests;
 mod sayings;
 mod streams;
 mod tracer;

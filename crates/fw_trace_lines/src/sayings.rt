@@ -5,10 +5,10 @@ ghost use Rattle.std.specs.Option.{option_copied};
 ghost use Rattle.fw_log_names.specs.Texts.{quadlet_text};
 ghost use Rattle.fw_log_explain.specs.Lines.{saying_text, tape_text, rcode_text, value_text};
 
-use crate::parts::{put_named_part, put_part};
 use fw_log_entry::codes::outcome;
 use fw_log_entry::{EventEntry, has_tape};
 use fw_log_names::{Pairs, put_quadlet, put_word, rcode_name, system_name};
+use fw_trace_names::{put_named_part, put_part};
 use std::alloc::AllocError;
 
 // Appends what an event says, if it says anything.

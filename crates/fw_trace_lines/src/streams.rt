@@ -3,14 +3,13 @@
 ghost use Rattle.std.specs.Prelude.{◌≡◌, ◌++◌, OnOk};
 ghost use Rattle.std.specs.Option.{is_some};
 ghost use Rattle.fw_outside.specs.Outside.{counted};
-ghost use Rattle.fw_trace_lines.specs.Caused.{caused_text};
+ghost use Rattle.fw_trace_names.specs.CausedLines.{caused_text};
 ghost use Rattle.fw_trace_lines.specs.Commands.{stream_lines, first_streams};
-ghost use Rattle.fw_trace_lines.specs.Streams.{no_stream, no_streams, stream_at, with_block, with_packet, amounts_text, stream_text};
+ghost use Rattle.fw_trace_lines.specs.Streams.{count_text, no_stream, no_streams, stream_at, with_block, with_packet, amounts_text, stream_text};
 
-use crate::naming::Names;
-use crate::parts::{put_count, put_cycle, put_part};
 use fw_cip::IsoPacket;
-use fw_log_names::{CycleRow, put_word};
+use fw_log_names::{CycleRow, put_number, put_word};
+use fw_trace_names::{Names, put_cycle, put_part};
 use std::alloc::AllocError;
 use std::marker::Model;
 
@@ -93,6 +92,17 @@ impl Stream {
         put_word(text, ", ")?;
         put_count(text, self.blocks, "block")
     }
+}
+
+// Appends so many of a thing.
+#[tactic(auto, unfolding(crate::specs::Streams::count_text))]
+fn put_count(text: &mut Vec<u8>, n: u64, noun: &str) -> Result<(), AllocError>
+    ensures { OnOk result (text.new.items ≡ text.old.items ++ count_text n noun.now) }
+{
+    put_number(text, n)?;
+    put_word(text, " ")?;
+    put_word(text, noun)?;
+    put_word(text, if n == 1 { "" } else { "s" })
 }
 
 // One more, of a count that stands still at the last number of 64 bits.

@@ -2,23 +2,22 @@
 
 ghost use Rattle.std.specs.Prelude.{◌≡◌, ◌++◌, [], ℕ, OnOk};
 ghost use Rattle.fw_log_entry.specs.declared.entry.Entry.TheVariants.{Async, Iso};
-ghost use Rattle.fw_trace_lines.specs.Caused.{untold, caused_text, entry_lines, telling_after};
+ghost use Rattle.fw_trace_lines.specs.Caused.{untold, entry_lines, telling_after};
+ghost use Rattle.fw_trace_names.specs.CausedLines.{caused_text};
 ghost use Rattle.fw_trace_lines.specs.Commands.{begun, ended, last_lines};
 ghost use Rattle.fw_trace_lines.specs.Lines.{line_text};
 
-use crate::held::HeldBack;
 use crate::job::Connection;
 use crate::jobs::Jobs;
 use crate::line::put_line;
-use crate::memo::Memo;
-use crate::naming::Names;
-use crate::requests::{Requests, asked_by};
 use crate::streams::Streams;
 use fw_async::Packet;
 use fw_cip::IsoPacket;
 use fw_log_entry::Timed;
 use fw_log_names::{CycleRow, Pairs};
 use fw_script_command::Command;
+use fw_trace_names::Names;
+use fw_trace_requests::{HeldBack, Memo, Requests, asked_by};
 use std::alloc::{AllocError, Global};
 use std::marker::Model;
 
@@ -43,10 +42,11 @@ pub struct Tracer {
 
 impl Model for Tracer {
     ghost use Rattle.fw_trace_lines.specs.Commands.{Traced};
+    ghost use Rattle.fw_trace_requests.specs.Held.{held_by_names};
 
     ghost Value = { Traced };
 
-    ghost view = { λ t. record { text = t.text.items; telling = record { naming = t.names; requests = t.requests; jobs = t.jobs; held = t.held; streams = t.streams; cycle = t.cycle } } };
+    ghost view = { λ t. record { text = t.text.items; telling = record { naming = t.names; requests = t.requests; jobs = t.jobs; held = held_by_names t.names t.held.bare t.held.made; streams = t.streams; cycle = t.cycle } } };
 }
 
 impl Tracer {
@@ -96,6 +96,8 @@ impl Tracer {
         ensures text { self.new.text ≡ self.old.text }
         ensures kept { OnOk result (self.new.telling ≡ begun command.now self.old.telling) }
     {
+        self.held
+            .settle(&mut self.digits, &self.pairs, &mut self.memo, &self.names)?;
         self.names.declare(command)
     }
 
@@ -104,7 +106,7 @@ impl Tracer {
         ensures text { OnOk result (self.new.text ≡ self.old.text ++ caused_text (entry_lines self.old.telling t.now)) }
         ensures kept { OnOk result (self.new.telling ≡ telling_after self.old.telling t.now) }
     {
-        self.renumber(&t.what);
+        self.renumber(&t.what)?;
         self.put_lines(t.cycle, &t.what)?;
         self.take(t)
     }
@@ -127,7 +129,7 @@ impl Tracer {
         ensures text { OnOk result (self.new.text ≡ self.old.text ++ caused_text (entry_lines self.old.telling (record { cycle = cycle; what = Iso p.now }))) }
         ensures kept { OnOk result (self.new.telling ≡ telling_after self.old.telling (record { cycle = cycle; what = Iso p.now })) }
     {
-        self.held.put_lone(&mut self.text)?;
+        self.put_held()?;
         self.held.release();
         self.streams.take(p);
         self.cycle = cycle;

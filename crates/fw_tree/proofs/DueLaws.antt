@@ -8,7 +8,8 @@ use Rattle.fw_tree.specs.Parents.{IsDue, IsOpenMarked, staying}
 use Rattle.fw_tree.proofs.ForestLaws.{truth, first_of, second_of, open_to, opened}
 use Rattle.fw_tree.proofs.ParentLaws.{Leave, leave_more, set_seen_other}
 use Rattle.fw_tree.proofs.PlacedLaws.{none_open}
-use Rattle.fw_tree.proofs.RoundLaws.{in_range, same_end, same_port}
+use Rattle.fw_tree.proofs.RoundLaws.{in_range}
+use Rattle.fw_tree.proofs.OpenPortLaws.{same_end, same_port}
 
 -- a device that is not due does not leave
 not_due : (stays due : Bool) (n : ℕ) → (stays ≡ true → n ≡ 1 → due ≡ true) → due ≡ false → false ≡ (stays && (n == 1))

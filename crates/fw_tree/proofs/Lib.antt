@@ -8,14 +8,17 @@ pub mod OneNumberingLaws
 pub mod OneRootLaws
 pub mod ReachLaws
 pub mod RootLaws
+pub mod OpenPortLaws
 pub mod RoundLaws
 pub mod SeenLaws
 pub mod SelfIdLaws
 pub mod PathLaws
 pub mod NumberingLaws
 pub mod ParentLaws
+pub mod TieLaws
 pub mod TopologyLaws
 pub mod PlacedLaws
 pub mod CopyLaws
+pub mod BranchLaws
 pub mod TreeLaws
 pub mod StepLaws

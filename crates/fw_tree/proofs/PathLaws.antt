@@ -5,9 +5,10 @@ use Rattle.fw_tree.specs.Rounds.{IsRoot}
 use Rattle.fw_tree.specs.Paths.{is_prefix}
 use Rattle.fw_tree.specs.Numbers.{LeadsDown, at_root, down_to}
 use Rattle.fw_tree.proofs.ForestLaws.{both, first_of, second_of, open_to}
-use Rattle.fw_tree.proofs.RoundLaws.{same_port, same_end, earlier, goes}
+use Rattle.fw_tree.proofs.OpenPortLaws.{same_port, same_end}
+use Rattle.fw_tree.proofs.RoundLaws.{earlier, goes}
 use Rattle.fw_tree.proofs.RootLaws.{leaves_once, root_no_parent}
-use Rattle.fw_tree.proofs.ParentLaws.{wins_tie}
+use Rattle.fw_tree.proofs.TieLaws.{wins_tie}
 
 -- a device has one parent
 pub one_parent : (g : Peers) (d p q r t : ℕ) → HasParent g d p r → HasParent g d q t → p ≡ q

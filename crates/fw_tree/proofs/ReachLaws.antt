@@ -11,7 +11,7 @@ use Rattle.fw_tree.proofs.ForestLaws.{truth, both, first_of, second_of}
 use Rattle.fw_tree.proofs.RoundLaws.{in_range}
 use Rattle.fw_tree.proofs.SeenLaws.{seen_same, seen_keeps, seen_from, unseen_set, only_from, reached_first, walked}
 use Rattle.fw_tree.proofs.TopologyLaws.{Ends, sound_new, sound_add, sound_join, ends_within}
-use Rattle.fw_tree.proofs.TreeLaws.{port_within}
+use Rattle.fw_tree.proofs.BranchLaws.{port_within}
 
 -- a cable at the port leads to a device that was not seen
 leads_out : List Bool → Option End → Bool

@@ -3,7 +3,8 @@ use Rattle.fw_tree.proofs.Common.{◌≡◌, ◌⊎◌, inl, inr, ℕ, zero, suc
 use Rattle.fw_tree.proofs.Common.{peer, Walk, here, along, LeadsTo, InRange, is_seen, open_count, stays, LeavesBy, HasParent, Parent, IsParent, IsOn, Settled, HasNoLoop, AreCables}
 use Rattle.fw_tree.specs.Rounds.{Tie, WinsTie, IsRoot}
 use Rattle.fw_tree.proofs.ForestLaws.{truth, both, first_of, second_of, open_to, opened}
-use Rattle.fw_tree.proofs.RoundLaws.{one_of, leaves, goes, stayed, earlier, always, both_stay, pair, bus_splits, Ended, between, one_stays, in_range, led}
+use Rattle.fw_tree.proofs.OpenPortLaws.{one_of}
+use Rattle.fw_tree.proofs.RoundLaws.{leaves, goes, stayed, earlier, always, both_stay, pair, bus_splits, Ended, between, one_stays, in_range, led}
 
 -- who is left of a tie after its round: nobody
 no_more : (g : Peers) (on : ℕ → Bool) (r t d e k : ℕ) → Ended g on r → Tie g (stays g t) d e → on d ≡ true → on k ≡ true → stays g (suc t) k ≡ true → ⊥

@@ -8,14 +8,13 @@ ghost use Rattle.fw_watch_known.specs.Judging.{judged};
 ghost use Rattle.fw_watch_known.specs.Swapped.{swapped};
 ghost use Rattle.fw_watch.specs.Judging.{judge_remarks};
 ghost use Rattle.fw_watch.specs.Swaps.{swap_remarks};
-ghost use Rattle.fw_watch.specs.Answering.{heed, made, not_manager_remarks, made_remarks, after_made, found_remarks, after_found, with_manager, followed_remarks, after_followed, answer_remarks, after_answer, packet_remarks, after_packet};
+ghost use Rattle.fw_watch.specs.Answering.{heed, not_manager_remarks, made_remarks, after_made, found_remarks, after_found, with_manager, followed_remarks, after_followed, answer_remarks, after_answer, packet_remarks, after_packet};
 
 use crate::judge::tell_judged;
-use crate::tell_swap::tell_swap;
+use crate::tell_swap::{tell_not_manager, tell_swap};
 use fw_async::Packet;
 use fw_watch_known::{Answer, Made, State};
-use fw_watch_remarks::{At, Journal, Known, Remark};
-use fw_words::Swap;
+use fw_watch_remarks::{At, Journal, Known};
 use std::alloc::AllocError;
 
 /// What is to be done with an answer.
@@ -44,10 +43,10 @@ fn how_to_heed(state: &State, at: At) -> Heed
     }
 }
 
-// Tells a swap at a node that is not the resource manager.
-#[inline(never)]
+// Tells the swap that an answer of a node has made that is not the resource manager, if it has made one.
+#[inline(always)]
 #[tactic(auto, unfolding(crate::specs::Answering::not_manager_remarks))]
-fn tell_not_manager(
+fn tell_refused(
     state: &State,
     journal: &mut Journal,
     cycle: u64,
@@ -55,42 +54,25 @@ fn tell_not_manager(
 ) -> Result<(), AllocError>
     ensures { OnOk result (journal.new ≡ told journal.old (not_manager_remarks state.now cycle a.now)) }
 {
-    if a.swap.is_none() {
-        return Ok(());
+    match a.swap {
+        Some(_) => tell_not_manager(state, journal, cycle, a.by, a.at),
+        None => Ok(()),
     }
-    let remark = Remark::NotManager {
-        by: a.by,
-        at: a.at,
-        manager: state.manager.node(),
-    };
-    journal.say(cycle, remark)
 }
 
-// Takes a swap that an answer has made.
+// Takes a swap that was made.
 #[inline(never)]
-fn take_made(
-    state: &mut State,
-    journal: &mut Journal,
-    cycle: u64,
-    a: &Answer,
-    swap: Swap,
-) -> Result<(), AllocError>
-    ensures lines { OnOk result (journal.new ≡ told journal.old (swap_remarks state.old (made cycle a.now swap))) }
-    ensures known { OnOk result (state.new ≡ swapped state.old (made cycle a.now swap)) }
+fn take_made(state: &mut State, journal: &mut Journal, made: &Made) -> Result<(), AllocError>
+    ensures lines { OnOk result (journal.new ≡ told journal.old (swap_remarks state.old made.now)) }
+    ensures known { OnOk result (state.new ≡ swapped state.old made.now) }
 {
-    let made = Made {
-        cycle,
-        by: a.by,
-        at: a.at,
-        old: swap.argument,
-        new: swap.new,
-    };
-    tell_swap(state, journal, &made)?;
-    state.swap(&made);
+    tell_swap(state, journal, made)?;
+    state.swap(made);
     Ok(())
 }
 
-// Takes a swap that an answer has made, if it has made one.
+// Takes a swap that an answer has made, if it has made one. What is not inlined is not given the answer, so that it need not be put
+// together in memory.
 #[inline(always)]
 #[tactic(auto, unfolding(crate::specs::Answering::made_remarks, crate::specs::Answering::after_made))]
 fn take_swap(
@@ -102,10 +84,17 @@ fn take_swap(
     ensures lines { OnOk result (journal.new ≡ told journal.old (made_remarks cycle a.now a.now.swap state.old)) }
     ensures known { OnOk result (state.new ≡ after_made cycle a.now a.now.swap state.old) }
 {
-    match a.swap {
-        Some(swap) => take_made(state, journal, cycle, a, swap),
-        None => Ok(()),
-    }
+    let Some(swap) = a.swap else {
+        return Ok(());
+    };
+    let made = Made {
+        cycle,
+        by: a.by,
+        at: a.at,
+        old: swap.argument,
+        new: swap.new,
+    };
+    take_made(state, journal, &made)
 }
 
 // Takes a word that is found, which is not the one that is known to be there.
@@ -208,7 +197,7 @@ fn take_answer(
 {
     match how_to_heed(state, a.at) {
         Heed::Ignore => Ok(()),
-        Heed::Refuse => tell_not_manager(state, journal, cycle, a),
+        Heed::Refuse => tell_refused(state, journal, cycle, a),
         Heed::Follow => follow(state, journal, cycle, a),
     }
 }

@@ -1,12 +1,14 @@
 //! The lines of swaps that were made.
 
-ghost use Rattle.std.specs.Prelude.{◌≡◌, ◌<◌, ◌≤◌, OnOk};
-ghost use Rattle.fw_watch_remarks.specs.Remarks.{told};
+ghost use Rattle.std.specs.Prelude.{◌≡◌, ◌<◌, ◌≤◌, ◌∷◌, [], OnOk};
+ghost use Rattle.fw_watch_remarks.specs.Remarks.{told, said};
+ghost use Rattle.fw_watch_remarks.specs.declared.remark.Remark.TheVariants.{NotManager};
+ghost use Rattle.fw_watch_known.specs.States.{manager_node};
 ghost use Rattle.fw_watch.specs.Swaps.{many_remarks, new_units_remarks, units_remarks, taken_remarks, change_remarks, changes_remarks, channels_remarks, plug_remarks, swap_remarks};
 
 use crate::swap::{ALL_UNITS, changes, is_move, is_new, units_held};
 use fw_watch_known::{Made, State, only_change};
-use fw_watch_remarks::{Journal, Remark, WatchedRegister, bit};
+use fw_watch_remarks::{At, Journal, Remark, WatchedRegister, bit};
 use std::alloc::AllocError;
 
 // Tells a swap that leaves more units than there are.
@@ -189,4 +191,23 @@ pub(crate) fn tell_swap(state: &State, journal: &mut Journal, m: &Made) -> Resul
         WatchedRegister::ChannelsLow => tell_channels(state, journal, m, 32),
         WatchedRegister::Output(_) | WatchedRegister::Input(_) => tell_plug(journal, m),
     }
+}
+
+/// Tells a swap at a node that is not the resource manager.
+#[inline(never)]
+pub(crate) fn tell_not_manager(
+    state: &State,
+    journal: &mut Journal,
+    cycle: u64,
+    by: u16,
+    at: At,
+) -> Result<(), AllocError>
+    ensures { OnOk result (journal.new ≡ told journal.old (said cycle (NotManager by at (manager_node state.now.manager)) ∷ [])) }
+{
+    let remark = Remark::NotManager {
+        by,
+        at,
+        manager: state.manager.node(),
+    };
+    journal.say(cycle, remark)
 }

@@ -6,7 +6,7 @@ ghost use Rattle.fw_watch_remarks.specs.Remarks.{with_line, said, counted};
 use crate::count::counted;
 use crate::remark::Remark;
 use crate::texts::put_line;
-use fw_log_names::Pairs;
+use fw_log_names::{CycleRow, Pairs};
 use std::alloc::{AllocError, Global};
 use std::marker::Model;
 
@@ -18,6 +18,8 @@ const TEXT_ROOM: usize = 16_384;
 pub struct Journal {
     text: Vec<u8>,
     findings: u64,
+    // The cycle that a line begins with.
+    row: CycleRow,
     pairs: Pairs,
 }
 
@@ -37,6 +39,7 @@ impl Journal {
         Ok(Journal {
             text: Vec::with_capacity(alloc, TEXT_ROOM)?,
             findings: 0,
+            row: CycleRow::of(0),
             pairs: Pairs::new(),
         })
     }
@@ -67,7 +70,7 @@ impl Journal {
     pub fn say(&mut self, cycle: u64, remark: Remark) -> Result<(), AllocError>
         ensures { OnOk result (self.new ≡ with_line self.old (said cycle remark)) }
     {
-        put_line(&mut self.text, &self.pairs, cycle, &remark)?;
+        put_line(&mut self.text, &self.pairs, &mut self.row, cycle, &remark)?;
         if remark.is_finding() {
             self.findings = counted(self.findings);
         }

@@ -11,7 +11,7 @@ use crate::parts::{
 use crate::register::{At, put_at};
 use crate::remark::Remark;
 use crate::unseen::put_unseen;
-use fw_log_names::{Pairs, put_number, put_word};
+use fw_log_names::{CycleRow, Pairs, put_word};
 use std::alloc::AllocError;
 
 // Appends a bus reset.
@@ -168,18 +168,31 @@ fn put_remark(text: &mut Vec<u8>, pairs: &Pairs, remark: &Remark) -> Result<(), 
     }
 }
 
+// Appends the cycle that a line begins with, and a space: all bytes of its row, of which those after the space are cut off again.
+#[inline(always)]
+fn put_cycle(text: &mut Vec<u8>, row: &CycleRow) -> Result<(), AllocError>
+    ensures { OnOk result (text.new.items ≡ text.old.items ++ row.now) }
+{
+    let (bytes, size) = row.row();
+    text.extend_from_slice(bytes)?;
+    let over = 24 - size;
+    text.truncate(text.len() - over);
+    Ok(())
+}
+
 /// Appends the line of a remark.
 #[tactic(auto, unfolding(crate::specs::Remarks::line))]
 pub fn put_line(
     text: &mut Vec<u8>,
     pairs: &Pairs,
+    row: &mut CycleRow,
     cycle: u64,
     remark: &Remark,
 ) -> Result<(), AllocError>
     ensures { OnOk result (text.new.items ≡ text.old.items ++ line (said cycle remark.now)) }
 {
-    put_number(text, cycle)?;
-    put_word(text, " ")?;
+    row.set(cycle);
+    put_cycle(text, row)?;
     put_remark(text, pairs, remark)?;
     put_word(text, "\n")
 }

@@ -1,3 +1,2 @@
 pub mod ApartLaws
 pub mod GlanceLaws
-pub mod QueueLaws

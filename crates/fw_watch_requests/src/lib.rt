@@ -3,7 +3,6 @@
 
 mod asked;
 mod glance;
-mod queue;
 mod standing;
 mod taking;
 

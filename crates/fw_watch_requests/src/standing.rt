@@ -7,9 +7,9 @@ ghost use Rattle.fw_watch_requests.specs.Standing.{asked, is_of, latest, standin
 
 use crate::asked::{Answer, Asked, Asking};
 use crate::glance::{Kind, head_at, kind_at, offset_at, rcode_at, swap_at};
-use crate::queue::Queue;
-use crate::taking::{make_room, take_answered, take_same};
+use crate::taking::{make_room, take_answered, take_same, take_source};
 use fw_async::{Head, Packet, whole_packet};
+use fw_request_queue::Queue;
 use fw_words::{COMPARE_SWAP, quadlet_at};
 use std::marker::Model;
 
@@ -21,7 +21,7 @@ const ASKERS: usize = 64;
 /// looked for then.
 #[derive(Drop)]
 pub struct OutstandingRequests {
-    queue: Queue,
+    queue: Queue<Asked>,
     // Whether an outstanding request may be of a node_ID that ends in these six bits.
     askers: [bool; ASKERS],
 }
@@ -102,7 +102,7 @@ impl OutstandingRequests {
     pub fn end_of(&mut self, source: u16)
         ensures { self.new ≡ without_source source self.old }
     {
-        self.queue.take_source(source);
+        take_source(&mut self.queue, source);
     }
 
     // The request that a response answers, which stands no longer.
@@ -183,6 +183,16 @@ impl OutstandingRequests {
         }
     }
 
+    // As `take`, from the bytes of a packet that may be of any form. It is no part of the loop over packets.
+    #[inline(never)]
+    fn take_other(&mut self, bytes: &[u8]) -> Option<Answer>
+        requires { IsPacket bytes.now }
+        ensures value { (p : AsyncPacket) → Spells p bytes.now → result ≡ answer_of self.old p }
+        ensures known { (p : AsyncPacket) → Spells p bytes.now → self.new ≡ standing_following p self.old }
+    {
+        self.take(&whole_packet(bytes))
+    }
+
     /// As `take`, from the bytes of the packet: of the usual forms no packet is made of them.
     #[inline(always)]
     pub fn take_bytes(&mut self, bytes: &[u8]) -> Option<Answer>
@@ -219,7 +229,7 @@ impl OutstandingRequests {
                 )
             }
             Kind::WriteReply => None,
-            Kind::Other => self.take(&whole_packet(bytes)),
+            Kind::Other => self.take_other(bytes),
         }
     }
 }

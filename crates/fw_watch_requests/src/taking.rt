@@ -3,12 +3,12 @@
 ghost use Rattle.std.specs.Prelude.{◌≡◌, ◌<◌, ◌≤◌, ◌++◌, ◌∷◌, true, false, [], List, IfSome, length};
 ghost use Rattle.std.specs.List.{position};
 ghost use Rattle.fw_watch_requests.specs.declared.asked.Asked.{Asked as AnAsked};
-ghost use Rattle.fw_watch_requests.specs.Standing.{answers, latest, without_answered, without_same, answered};
+ghost use Rattle.fw_watch_requests.specs.Standing.{answers, latest, without_answered, without_same, without_source, answered};
 ghost use Rattle.fw_watch_requests.specs.Kept.{AreApart, AreOthers};
 
 use crate::asked::Asked;
-use crate::queue::Queue;
 use fw_async::Head;
+use fw_request_queue::Queue;
 
 /// How many requests are outstanding at most.
 const MOST: usize = 256;
@@ -43,20 +43,27 @@ fn first_answered(rows: &[Asked], read: bool, head: &Head) -> Option<Asked>
     }
 }
 
+// Keeps the requests that a response does not answer.
+fn retain_unanswered(queue: &mut Queue<Asked>, read: bool, head: &Head)
+    ensures { queue.new ≡ without_answered read head.now queue.old }
+{
+    queue.retain(|q| !q.is_answered(read, head));
+}
+
 // Takes the request away that a response answers, wherever it stands, and answers it.
 #[inline(never)]
-fn take_later(queue: &mut Queue, read: bool, head: Head) -> Option<Asked>
+fn take_later(queue: &mut Queue<Asked>, read: bool, head: Head) -> Option<Asked>
     ensures value { result ≡ answered read head queue.old }
     ensures known { queue.new ≡ without_answered read head queue.old }
 {
     let asked = asked_at(queue.as_slice(), read, &head);
-    queue.take_answered(read, &head);
+    retain_unanswered(queue, read, &head);
     asked
 }
 
 /// Takes the request away that a response answers, mostly the first, and answers it.
 #[inline(always)]
-pub(crate) fn take_answered(queue: &mut Queue, read: bool, head: &Head) -> Option<Asked>
+pub(crate) fn take_answered(queue: &mut Queue<Asked>, read: bool, head: &Head) -> Option<Asked>
     requires { AreApart queue.old }
     ensures value { result ≡ answered read head.now queue.old }
     ensures known { queue.new ≡ without_answered read head.now queue.old }
@@ -72,15 +79,15 @@ pub(crate) fn take_answered(queue: &mut Queue, read: bool, head: &Head) -> Optio
 
 // Takes those away that are of the same requester, node and label as a request, wherever they stand.
 #[inline(never)]
-fn take_all_same(queue: &mut Queue, head: Head)
+fn take_all_same(queue: &mut Queue<Asked>, head: Head)
     ensures { queue.new ≡ without_same head queue.old }
 {
-    queue.take_same(&head);
+    queue.retain(|q| !q.is_of(&head));
 }
 
 /// Takes those away that are of the same requester, node and label as a request, if one may be from its source.
 #[inline(always)]
-pub(crate) fn take_same(queue: &mut Queue, head: &Head, may_be: bool)
+pub(crate) fn take_same(queue: &mut Queue<Asked>, head: &Head, may_be: bool)
     requires { may_be ≡ false → AreOthers head.now queue.old }
     ensures { queue.new ≡ without_same head.now queue.old }
 {
@@ -89,9 +96,16 @@ pub(crate) fn take_same(queue: &mut Queue, head: &Head, may_be: bool)
     }
 }
 
+/// Takes those of a node away.
+pub(crate) fn take_source(queue: &mut Queue<Asked>, source: u16)
+    ensures { queue.new ≡ without_source source queue.old }
+{
+    queue.retain(|q| q.source != source);
+}
+
 /// The oldest request makes room for a new one, if as many stand as can.
 #[inline(always)]
-pub(crate) fn make_room(queue: &mut Queue)
+pub(crate) fn make_room(queue: &mut Queue<Asked>)
     requires { length queue.old ≤ 256 }
     ensures room { length queue.new < 256 }
     ensures latest { (new : AnAsked) → queue.new ++ new ∷ [] ≡ latest (queue.old ++ new ∷ []) }

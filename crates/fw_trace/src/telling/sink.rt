@@ -1,7 +1,7 @@
 //! A sink, and what is told to it.
 
 ghost use Rattle.std.specs.Prelude.{◌≡◌, ◌++◌, [], None, Some, OnOk};
-ghost use Rattle.fw_trace_lines.specs.Caused.{caused_text};
+ghost use Rattle.fw_trace_names.specs.CausedLines.{caused_text};
 ghost use Rattle.fw_trace_lines.specs.Commands.{begun, ended, last_lines};
 ghost use Rattle.fw_trace_lines.specs.Lines.{line_text};
 ghost use Rattle.fw_trace.specs.Framing.{framed};

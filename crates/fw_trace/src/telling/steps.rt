@@ -1,7 +1,8 @@
 //! What is told before a command and after it.
 
 ghost use Rattle.std.specs.Prelude.{◌≡◌, ◌++◌, [], None, false, OnOk, IfOk};
-ghost use Rattle.fw_trace_lines.specs.Caused.{untold, caused_text};
+ghost use Rattle.fw_trace_lines.specs.Caused.{untold};
+ghost use Rattle.fw_trace_names.specs.CausedLines.{caused_text};
 ghost use Rattle.fw_trace_lines.specs.Commands.{begun, ended, last_lines};
 ghost use Rattle.fw_trace_lines.specs.Lines.{line_text};
 ghost use Rattle.fw_trace.specs.Passed.{PassesBy, WasPassed};

@@ -6,15 +6,16 @@ ghost use Rattle.fw_async.specs.Reader.{Spells, IsPacket};
 ghost use Rattle.fw_async.specs.declared.packet.Packet.{Packet as APacket};
 ghost use Rattle.fw_async.specs.declared.packet.Packet.TheVariants.{Lock, LockReply};
 ghost use Rattle.fw_log_entry.specs.declared.entry.Entry.TheVariants.{Async};
-ghost use Rattle.fw_trace_lines.specs.Caused.{caused_text, entry_lines, lone_lines, telling_after};
+ghost use Rattle.fw_trace_names.specs.CausedLines.{caused_text};
+ghost use Rattle.fw_trace_lines.specs.Caused.{entry_lines, telling_after};
+ghost use Rattle.fw_trace_requests.specs.Held.{lone_lines};
 ghost use Rattle.fw_trace_lines.specs.Replies.{reply_lines, with_request, with_response};
 
 use super::Tracer;
-use crate::packets::Reply;
-use crate::requests::asked;
 use fw_async::{Head, whole_packet};
 use fw_async_glance::{Glance, glance_at};
 use fw_log_requests::{Answer, Asked};
+use fw_trace_requests::{Reply, asked};
 use fw_words::Swap;
 use std::alloc::AllocError;
 
@@ -24,7 +25,7 @@ impl Tracer {
         ensures text { OnOk result (self.new.text ≡ self.old.text ++ caused_text (lone_lines self.old.telling.held)) }
         ensures kept { OnOk result (self.new.telling ≡ with_request cycle q self.old.telling) }
     {
-        self.held.put_lone(&mut self.text)?;
+        self.put_held()?;
         self.take_request(cycle, q)?;
         self.cycle = cycle;
         Ok(())

@@ -1,21 +1,37 @@
 //! The lines that an entry brings.
 
 ghost use Rattle.std.specs.Prelude.{◌≡◌, ◌++◌, OnOk};
-ghost use Rattle.fw_trace_lines.specs.Caused.{caused_text, lone_lines, packet_lines, what_text, own_lines, lines_by};
+ghost use Rattle.fw_trace_names.specs.CausedLines.{caused_text};
+ghost use Rattle.fw_trace_requests.specs.Held.{lone_lines};
+ghost use Rattle.fw_trace_lines.specs.Caused.{packet_lines, what_text, own_lines, lines_by};
 ghost use Rattle.fw_trace_lines.specs.Commands.{last_lines};
 ghost use Rattle.fw_trace_lines.specs.Replies.{late_reply, reply_lines, said_lines};
 
 use super::Tracer;
 use crate::events::{put_event, put_outcome, put_reset, put_shown};
-use crate::packets::Reply;
-use crate::parts::put_cycle;
-use crate::replies::put_response;
 use fw_async::Packet;
 use fw_log_entry::Entry;
 use fw_log_names::put_word;
+use fw_trace_names::{put_cycle, put_ends};
+use fw_trace_requests::{Reply, put_response};
 use std::alloc::AllocError;
 
 impl Tracer {
+    // Appends the line of the request that is held back, if any, which is answered later, or not at all.
+    #[inline(always)]
+    pub(super) fn put_held(&mut self) -> Result<(), AllocError>
+        ensures text { OnOk result (self.new.text ≡ self.old.text ++ caused_text (lone_lines self.old.telling.held)) }
+        ensures kept { self.new.telling ≡ self.old.telling }
+    {
+        self.held.put_lone(
+            &mut self.text,
+            &mut self.digits,
+            &self.pairs,
+            &mut self.memo,
+            &self.names,
+        )
+    }
+
     // Appends a response to an earlier request.
     #[tactic(auto, unfolding(crate::specs::Replies::late_reply))]
     fn put_late(&mut self, cycle: u64, r: &Reply) -> Result<(), AllocError>
@@ -23,11 +39,15 @@ impl Tracer {
         ensures kept { self.new.telling ≡ self.old.telling }
     {
         let q = self.requests.latest(&r.head);
-        put_cycle(&mut self.text, &mut self.digits, cycle)?;
-        self.names.put_id(&mut self.text, r.head.destination)?;
-        put_word(&mut self.text, " <- ")?;
-        self.names.put_id(&mut self.text, r.head.source)?;
-        put_word(&mut self.text, " ")?;
+        put_ends(
+            &mut self.text,
+            &mut self.digits,
+            cycle,
+            &self.names,
+            r.head.destination,
+            b" <- ",
+            r.head.source,
+        )?;
         put_response(
             &mut self.text,
             &self.pairs,
@@ -44,7 +64,7 @@ impl Tracer {
         ensures text { OnOk result (self.new.text ≡ self.old.text ++ caused_text (lone_lines self.old.telling.held ++ late_reply self.old.telling cycle r.now)) }
         ensures kept { self.new.telling ≡ self.old.telling }
     {
-        self.held.put_lone(&mut self.text)?;
+        self.put_held()?;
         self.put_late(cycle, r)?;
         Ok(())
     }
@@ -56,7 +76,14 @@ impl Tracer {
         ensures kept { self.new.telling ≡ self.old.telling }
     {
         if self.held.is_joined(r) {
-            self.held.put_joined(&mut self.text, &self.pairs, &mut self.memo, &self.names, r)
+            self.held.put_joined(
+                &mut self.text,
+                &mut self.digits,
+                &self.pairs,
+                &mut self.memo,
+                &self.names,
+                r,
+            )
         } else {
             self.put_apart(cycle, r)
         }
@@ -70,7 +97,7 @@ impl Tracer {
     {
         match r {
             Some(r) => self.put_reply(cycle, &r),
-            None => self.held.put_lone(&mut self.text),
+            None => self.put_held(),
         }
     }
 
@@ -120,7 +147,7 @@ impl Tracer {
         ensures text { OnOk result (self.new.text ≡ self.old.text ++ caused_text (lone_lines self.old.telling.held ++ own_lines self.old.telling cycle what.now)) }
         ensures kept { self.new.telling ≡ self.old.telling }
     {
-        self.held.put_lone(&mut self.text)?;
+        self.put_held()?;
         self.put_own(cycle, what)?;
         Ok(())
     }
@@ -142,7 +169,7 @@ impl Tracer {
         ensures text { OnOk result (self.new.text ≡ self.old.text ++ caused_text (last_lines self.old.telling)) }
         ensures kept { self.new.telling ≡ self.old.telling }
     {
-        self.held.put_lone(&mut self.text)?;
+        self.put_held()?;
         self.streams
             .put_all(&mut self.text, &mut self.digits, self.cycle, &self.names)?;
         Ok(())

@@ -2,26 +2,29 @@
 
 ghost use Rattle.std.specs.Prelude.{◌≡◌, OnOk, Some};
 ghost use Rattle.fw_trace_lines.specs.Caused.{renumbered, taken, jobs_from, held_after, held_by};
-ghost use Rattle.fw_trace_lines.specs.Requests.{with_asked, with_latest};
-ghost use Rattle.fw_trace_lines.specs.Replies.{held_bare};
+ghost use Rattle.fw_trace_requests.specs.Requests.{with_asked, with_latest};
+ghost use Rattle.fw_trace_requests.specs.Held.{held_bare};
 
 use super::Tracer;
-use crate::requests::asked_by;
 use fw_async::Packet;
 use fw_log_entry::codes::event;
 use fw_log_entry::{Entry, Timed};
 use fw_log_requests::Asked;
+use fw_trace_requests::asked_by;
 use std::alloc::AllocError;
 
 impl Tracer {
     // Takes the nodes that an entry leaves.
-    pub(super) fn renumber(&mut self, what: &Entry)
+    pub(super) fn renumber(&mut self, what: &Entry) -> Result<(), AllocError>
         ensures text { self.new.text ≡ self.old.text }
-        ensures kept { self.new.telling ≡ renumbered what.now self.old.telling }
+        ensures kept { OnOk result (self.new.telling ≡ renumbered what.now self.old.telling) }
     {
         if let Entry::Reset(r) = what {
+            self.held
+                .settle(&mut self.digits, &self.pairs, &mut self.memo, &self.names)?;
             self.names.renumber(&r.get().nodes);
         }
+        Ok(())
     }
 
     // Takes what an entry makes of the jobs.
@@ -105,14 +108,8 @@ impl Tracer {
         }) }
     {
         self.requests.ask(q)?;
-        self.held.hold_bare(
-            &mut self.digits,
-            cycle,
-            &self.pairs,
-            &mut self.memo,
-            &self.names,
-            q,
-        )
+        self.held.hold_bare(cycle, q);
+        Ok(())
     }
 
     // Takes an entry, whose lines were told.

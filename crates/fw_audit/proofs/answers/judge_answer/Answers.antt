@@ -1,4 +1,4 @@
-use Rattle.fw_audit.proofs.Verdicts.{incomplete_judged, read_judged, swap_judged, lock_judged, nothing_judged}
+use Rattle.fw_audit.proofs.AnswerLaws.{incomplete_judged, read_judged, swap_judged, lock_judged, nothing_judged}
 use Rattle.fw_audit.proofs.answers.judge_answer.Goals as goal
 
 pub returns-then-answer-ne0 : goal.returns-then-answer-ne0

@@ -1,4 +1,4 @@
-use Rattle.fw_audit.proofs.Verdicts.{no_node_first, overlap_first, orphan_first, no_event_first}
+use Rattle.fw_audit.proofs.RefusalLaws.{no_node_first, overlap_first, orphan_first, no_event_first}
 use Rattle.fw_audit.proofs.refusals.fault_of.Goals as goal
 
 pub returns-in-NoNode : goal.returns-in-NoNode

@@ -1,4 +1,4 @@
-use Rattle.fw_audit.proofs.Verdicts.{no_move_first, wrong_word_first}
+use Rattle.fw_audit.proofs.RefusalLaws.{no_move_first, wrong_word_first}
 use Rattle.fw_audit.proofs.refusals.fault_of_swap.Goals as goal
 
 pub returns-then-swap-due : goal.returns-then-swap-due

@@ -1,9 +1,9 @@
 use Rattle.std.proofs.Common.{◌∙◌, ap, sym, subst}
 use Rattle.std.specs.Option.{option_map}
 use Rattle.fw_model_account.specs.Words.{word_of}
-use Rattle.fw_ledger.specs.Stands.{StandsFor, AskedFor}
-use Rattle.fw_ledger.specs.declared.tables.Asked.{Asked}
-use Rattle.fw_ledger.specs.declared.tables.Tables.{Tables}
+use Rattle.fw_account_tables.specs.Stands.{StandsFor, AskedFor}
+use Rattle.fw_account_tables.specs.declared.tables.Asked.{Asked}
+use Rattle.fw_account_tables.specs.declared.tables.Tables.{Tables}
 use Rattle.fw_audit.proofs.SoundLaws.{reply_clear}
 use Rattle.fw_audit.proofs.sound.take_read_reply.Goals as goal
 

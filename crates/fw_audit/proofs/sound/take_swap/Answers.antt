@@ -1,8 +1,8 @@
 use Rattle.std.proofs.Common.{sym, subst, ◌∙◌, arith}
 use Rattle.fw_model_account.specs.Account.{Locks}
 use Rattle.fw_words.specs.Swaps.{swap_bytes}
-use Rattle.fw_ledger.specs.Stands.{StandsFor}
-use Rattle.fw_ledger.specs.declared.tables.Tables.{Tables}
+use Rattle.fw_account_tables.specs.Stands.{StandsFor}
+use Rattle.fw_account_tables.specs.declared.tables.Tables.{Tables}
 use Rattle.fw_audit.proofs.SoundLaws.{lock_clear, swap_asked}
 use Rattle.fw_audit.proofs.sound.take_swap.Goals as goal
 

@@ -2,10 +2,10 @@ use Rattle.std.proofs.Common.{IfSome, ◌∙◌, ap, sym, subst, arith}
 use Rattle.std.specs.Int.{to_be_bytes, w32}
 use Rattle.std.specs.Option.{option_map}
 use Rattle.fw_model_account.specs.Words.{word_of}
-use Rattle.fw_ledger.specs.Stands.{StandsFor, AskedFor}
-use Rattle.fw_ledger.specs.Swaps.{IsThere}
-use Rattle.fw_ledger.specs.declared.tables.Asked.{Asked}
-use Rattle.fw_ledger.specs.declared.tables.Tables.{Tables}
+use Rattle.fw_account_tables.specs.Stands.{StandsFor, AskedFor}
+use Rattle.fw_account_tables.specs.Swaps.{IsThere}
+use Rattle.fw_account_tables.specs.declared.tables.Asked.{Asked}
+use Rattle.fw_account_tables.specs.declared.tables.Tables.{Tables}
 use Rattle.fw_audit.proofs.SoundLaws.{old_back, old_long, swap_clear, swap_shown}
 use Rattle.fw_audit.proofs.sound.take_swap_reply.Goals as goal
 

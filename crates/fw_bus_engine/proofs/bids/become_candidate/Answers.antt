@@ -1,7 +1,7 @@
 use Rattle.fw_bus_engine.proofs.Common.{List, sym, subst, ◌∙◌, arith, Action, Carries, HasElection, living_there}
 use Rattle.fw_order.specs.declared.order.Order.TheVariants as Orders
 use Rattle.fw_model_run.specs.Carrying.{becomes_candidate, stays_candidate}
-use Rattle.fw_bus_engine.proofs.Doings.{does_as, does_nothing, does_silent}
+use Rattle.fw_bus_engine.proofs.OneAction.{does_as, does_nothing, does_silent}
 use Rattle.fw_bus_engine.proofs.Tying.{enter_turns}
 use Rattle.fw_bus_engine.proofs.bids.become_candidate.Goals as goal
 

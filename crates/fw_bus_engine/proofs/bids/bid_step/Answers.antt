@@ -1,6 +1,6 @@
 use Rattle.fw_bus_engine.proofs.Common.{◌+◌, ap}
 use Rattle.fw_bus_engine.proofs.BidTimes.{bid_stays, bid_counted}
-use Rattle.fw_bus_engine.proofs.Doings.{does_one}
+use Rattle.fw_bus_engine.proofs.OneAction.{does_one}
 use Rattle.fw_bus_engine.proofs.bids.bid_step.Goals as goal
 
 pub turn-done-requires : goal.turn-done-requires

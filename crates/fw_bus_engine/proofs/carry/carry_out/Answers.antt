@@ -1,7 +1,7 @@
 use Rattle.fw_bus_engine.proofs.Common.{subst, Carries}
 use Rattle.fw_bus_state.specs.Orders.{MayCarry}
 use Rattle.fw_bus_engine.proofs.CarryLaws.{by_desk, carried, finish_turns, given_prefix}
-use Rattle.fw_bus_engine.proofs.Doings.{does_entry}
+use Rattle.fw_bus_engine.proofs.OneAction.{does_entry}
 use Rattle.fw_bus_engine.proofs.carry.carry_out.Goals as goal
 
 -- ---- what each call asks

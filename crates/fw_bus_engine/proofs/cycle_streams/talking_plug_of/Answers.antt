@@ -1,5 +1,5 @@
 use Rattle.fw_bus_engine.proofs.Common.{arith}
-use Rattle.fw_bus_engine.proofs.CycleTurns.{ready_talker}
+use Rattle.fw_bus_engine.proofs.PacketTurns.{ready_talker}
 use Rattle.fw_bus_engine.proofs.cycle_streams.talking_plug_of.Goals as goal
 
 pub number-requires : goal.number-requires

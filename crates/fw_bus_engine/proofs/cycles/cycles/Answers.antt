@@ -2,7 +2,8 @@ use Rattle.fw_bus_engine.proofs.Common.{ℕ, refl, rules, subst, sym, arith, ◌
 use Rattle.fw_bus_engine.proofs.Cycling.{cycles_cut, cycles_may, cycles_out, gathers_none, gathers_then}
 use Rattle.fw_bus_engine.proofs.Gathering.{gathers_cut, gathers_out}
 use Rattle.fw_bus_engine.proofs.Desks.{by_does}
-use Rattle.fw_bus_engine.proofs.Doings.{faults_then, ready_after}
+use Rattle.fw_bus_engine.proofs.OneAction.{faults_then}
+use Rattle.fw_bus_engine.proofs.Doings.{ready_after}
 use Rattle.fw_bus_engine.proofs.Plain.{time_left}
 use Rattle.fw_bus_engine.specs.Cycling.{WritesCycles}
 use Rattle.fw_bus_engine.specs.Filling.{Gathers}

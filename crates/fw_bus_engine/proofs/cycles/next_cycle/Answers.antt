@@ -1,7 +1,7 @@
 use Rattle.fw_bus_engine.proofs.Common.{◌≡◌, ◌+◌, true, false, ap, sym, ◌∙◌, arith, Machine}
 use Rattle.fw_bus_engine.proofs.CycleTurns.{comes_over, comes_alone}
 use Rattle.fw_bus_engine.proofs.Packets.{talkers_pass}
-use Rattle.fw_bus_engine.proofs.SecondTurns.{second_given}
+use Rattle.fw_bus_engine.proofs.SecondEnds.{second_given}
 use Rattle.fw_bus_engine.proofs.cycles.next_cycle.Goals as goal
 use Rattle.fw_bus_engine.proofs.cycles.next_cycle.Goals.{else-machine-via-then-machine+else-machine-2, else-machine-via-else-machine}
 

@@ -1,5 +1,6 @@
 use Rattle.fw_bus_engine.proofs.Common.{◌≤◌, ◌+◌, ℕ, refl, sym, ◌∙◌, arith}
-use Rattle.fw_bus_engine.proofs.OneCycle.{begun_in, root_few, cycle_then, cycle_alone, cycle_unheard}
+use Rattle.fw_bus_engine.proofs.BegunCycles.{begun_in, root_few}
+use Rattle.fw_bus_engine.proofs.OneCycle.{cycle_then, cycle_alone, cycle_unheard}
 use Rattle.fw_bus_engine.proofs.Doings.{ready_after}
 use Rattle.fw_bus_engine.proofs.cycles.put_cycle.Goals as goal
 

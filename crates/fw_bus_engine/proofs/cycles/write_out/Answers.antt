@@ -1,6 +1,6 @@
 use Rattle.fw_bus_engine.proofs.Common.{[], refl, Grows-nothing}
 use Rattle.fw_log_entry.proofs.WriteLaws.{writes_same}
-use Rattle.fw_bus_engine.proofs.Doings.{no_faults}
+use Rattle.fw_bus_engine.proofs.OneAction.{no_faults}
 use Rattle.fw_bus_engine.proofs.Gathering.{is_empty, is_full, passes_all}
 use Rattle.fw_bus_engine.proofs.cycles.write_out.Goals as goal
 

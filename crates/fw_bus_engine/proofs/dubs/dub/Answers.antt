@@ -1,4 +1,4 @@
-use Rattle.fw_bus_engine.proofs.Doings.{does_entry}
+use Rattle.fw_bus_engine.proofs.OneAction.{does_entry}
 use Rattle.fw_bus_engine.proofs.TapeTurns.{few_devices}
 use Rattle.fw_bus_engine.proofs.Tying.{tie_turns}
 use Rattle.fw_bus_engine.proofs.dubs.dub.Goals as goal

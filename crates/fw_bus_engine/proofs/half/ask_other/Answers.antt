@@ -6,7 +6,7 @@ use Rattle.fw_model_controllers.specs.Requests.{is_sent}
 use Rattle.fw_model_run.specs.HalfSteps.{said}
 use Rattle.fw_bus_engine.proofs.ControllerTurns.{asks_turn}
 use Rattle.fw_bus_engine.proofs.DeafTurns.{living_node}
-use Rattle.fw_bus_engine.proofs.Doings.{no_faults}
+use Rattle.fw_bus_engine.proofs.OneAction.{no_faults}
 use Rattle.fw_bus_engine.proofs.HalfTurns.{IsSilent, takes_asks, rests_says, node_numbers}
 use Rattle.fw_bus_engine.proofs.ResetTurns.{ready_cycle}
 use Rattle.fw_bus_engine.proofs.HalfWires.{Sends, sends_takes, sends_fits, sends_free, quiet_wire}

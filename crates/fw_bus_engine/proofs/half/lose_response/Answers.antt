@@ -1,5 +1,5 @@
 use Rattle.fw_bus_engine.proofs.Common.{Machine}
-use Rattle.fw_bus_engine.proofs.Doings.{does_entry}
+use Rattle.fw_bus_engine.proofs.OneAction.{does_entry}
 use Rattle.fw_bus_engine.proofs.Losing.{served_loses, served_unheard}
 use Rattle.fw_bus_engine.proofs.Served.{served_within, served_awaits}
 use Rattle.fw_bus_engine.proofs.half.lose_response.Goals as goal

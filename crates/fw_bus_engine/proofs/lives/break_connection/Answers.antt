@@ -1,4 +1,4 @@
-use Rattle.fw_bus_engine.proofs.Doings.{does_silent}
+use Rattle.fw_bus_engine.proofs.OneAction.{does_silent}
 use Rattle.fw_bus_engine.proofs.LifeTurns.{break_turns}
 use Rattle.fw_bus_engine.proofs.Common.{living_there}
 use Rattle.fw_bus_engine.proofs.lives.break_connection.Goals as goal

@@ -1,5 +1,5 @@
 use Rattle.fw_bus_engine.proofs.Common.{subst, GivesEntry, ◌∙◌}
-use Rattle.fw_bus_engine.proofs.Doings.{does_one}
+use Rattle.fw_bus_engine.proofs.OneAction.{does_one}
 use Rattle.fw_bus_engine.proofs.LifeTurns.{carry_turns}
 use Rattle.fw_bus_engine.proofs.lives.carry_request.Goals as goal
 

@@ -1,4 +1,4 @@
-use Rattle.fw_bus_engine.proofs.Doings.{does_silent}
+use Rattle.fw_bus_engine.proofs.OneAction.{does_silent}
 use Rattle.fw_bus_engine.proofs.LifeTurns.{connect_turns}
 use Rattle.fw_bus_engine.proofs.Common.{living_there}
 use Rattle.fw_bus_engine.proofs.lives.connect.Goals as goal

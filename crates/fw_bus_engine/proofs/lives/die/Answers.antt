@@ -1,6 +1,6 @@
 use Rattle.fw_bus_engine.proofs.Common.{◌≡◌, true, sym, subst, ◌∙◌, false≢true, Awaits, states_of, living_there}
 use Rattle.fw_cmp.specs.Losses.{MayTurn}
-use Rattle.fw_bus_engine.proofs.Doings.{does_when}
+use Rattle.fw_bus_engine.proofs.OneAction.{does_when}
 use Rattle.fw_bus_engine.proofs.LifeOrders.{dies_at}
 use Rattle.fw_bus_engine.proofs.lives.die.Goals as goal
 use Rattle.fw_bus_engine.proofs.lives.die.Goals.{else-late-via-then-late+else-has_request, else-late-via-else-late}

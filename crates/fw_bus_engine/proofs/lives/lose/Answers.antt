@@ -1,6 +1,7 @@
 use Rattle.fw_bus_engine.proofs.Common.{refl, living_there}
 use Rattle.std.proofs.Common.{Err}
-use Rattle.fw_bus_engine.proofs.Doings.{does_cut, does_entry, does_then}
+use Rattle.fw_bus_engine.proofs.Doings.{does_cut, does_then}
+use Rattle.fw_bus_engine.proofs.OneAction.{does_entry}
 use Rattle.fw_bus_engine.proofs.Losing.{loses_follows, loses_goes, tells_turns}
 use Rattle.fw_bus_engine.proofs.lives.lose.Goals as goal
 

@@ -1,5 +1,5 @@
 use Rattle.fw_bus_engine.proofs.Common.{sym, ◌∙◌}
-use Rattle.fw_bus_engine.proofs.Doings.{does_as, does_entry, does_nothing}
+use Rattle.fw_bus_engine.proofs.OneAction.{does_as, does_entry, does_nothing}
 use Rattle.fw_bus_engine.proofs.LifeOrders.{goes_on_at, starts_at}
 use Rattle.fw_bus_engine.proofs.LifeTurns.{start_turns}
 use Rattle.fw_bus_state.proofs.Living.{linked_there}

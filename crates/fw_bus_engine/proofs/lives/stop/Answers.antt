@@ -1,7 +1,7 @@
 use Rattle.fw_bus_engine.proofs.Common.{Some, sym, subst, arith, Pairs, without, TakesAction, living_there}
 use Rattle.fw_model_run.specs.Actions.{Die}
 use Rattle.fw_bus_engine.proofs.DeafTurns.{living_node}
-use Rattle.fw_bus_engine.proofs.Doings.{does_entry}
+use Rattle.fw_bus_engine.proofs.OneAction.{does_entry}
 use Rattle.fw_bus_engine.proofs.LifeTurns.{death_turns}
 use Rattle.fw_bus_engine.proofs.lives.stop.Goals as goal
 

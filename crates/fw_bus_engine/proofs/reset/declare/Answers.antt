@@ -2,7 +2,7 @@ use Rattle.fw_bus_engine.proofs.Common.{ℕ, List, length, ap, arith}
 use Rattle.fw_tree.specs.Cables.{here}
 use Rattle.fw_bus_engine.proofs.NewDevices.{MayAdd, first_does, later_turns, ready_first}
 use Rattle.fw_bus_state.proofs.Living.{no_names, some_names}
-use Rattle.fw_bus_engine.proofs.Doings.{does_silent}
+use Rattle.fw_bus_engine.proofs.OneAction.{does_silent}
 use Rattle.fw_bus_engine.proofs.reset.declare.Goals as goal
 
 pub add-requires : goal.add-requires

@@ -1,6 +1,6 @@
 use Rattle.fw_bus_engine.proofs.Common.{sym, refl, true, false}
 use Rattle.fw_bus_engine.proofs.NewCables.{IsCable, ready_joined, join_does, join_silent, few_of, first_joins, second_joins, both_join, neither_joins}
-use Rattle.fw_bus_engine.proofs.Doings.{does_silent}
+use Rattle.fw_bus_engine.proofs.OneAction.{does_silent}
 use Rattle.fw_bus_engine.proofs.reset.join.Goals as goal
 
 pub give_reset-requires-clause-on : goal.give_reset-requires-clause-on

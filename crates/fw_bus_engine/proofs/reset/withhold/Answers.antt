@@ -1,5 +1,5 @@
 use Rattle.fw_bus_engine.proofs.Common.{sym, ◌∙◌}
-use Rattle.fw_bus_engine.proofs.Doings.{does_as, does_entry, does_nothing}
+use Rattle.fw_bus_engine.proofs.OneAction.{does_as, does_entry, does_nothing}
 use Rattle.fw_bus_engine.proofs.Withholds.{goes_on_withholding, withhold_turns, withholds_at}
 use Rattle.fw_bus_engine.proofs.reset.withhold.Goals as goal
 

@@ -23,6 +23,10 @@ is_unsettled-requires-clause-within g c = c.round_end-end.ensures.within
 pub rest-requires-clause-ready : goal.rest-requires-clause-ready
 rest-requires-clause-ready g c = ready_after c.requires.ready c.loop-i.invariant.does
 
+pub rest-requires-clause-each : goal.rest-requires-clause-each
+rest-requires-clause-each g c =
+    c.mark_living-each.ensures.count ∙ sym (ap (λ (z : List ℕ). length z) (living_kept c.args.machine.now c.loop-i.machine c.loop-i.invariant.names c.loop-i.invariant.living))
+
 pub rest-requires-clause-few : goal.rest-requires-clause-few
 rest-requires-clause-few g c =
     rounds_within c.args.machine.now c.loop-i.machine c.loop-i.i c.args.count (omega (arith, c.loop-i-test.true))

@@ -1,4 +1,4 @@
-use Rattle.fw_bus_engine.proofs.SecondTurns.{second_given}
+use Rattle.fw_bus_engine.proofs.SecondEnds.{second_given}
 use Rattle.fw_bus_engine.proofs.second.end_second.Goals as goal
 
 pub returns-clause-does : goal.returns-clause-does

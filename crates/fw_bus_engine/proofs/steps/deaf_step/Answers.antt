@@ -1,5 +1,5 @@
 use Rattle.fw_bus_engine.proofs.Common.{◌∙◌, ◌+◌, inl, Some, refl, ap, sym, arith, false≢true, Reset, Machine, living_there}
-use Rattle.fw_bus_engine.proofs.Doings.{does_one, does_silent}
+use Rattle.fw_bus_engine.proofs.OneAction.{does_one, does_silent}
 use Rattle.fw_bus_engine.proofs.DeafTurns.{deaf_forces, deaf_waits, forced_few, living_half, living_node}
 use Rattle.fw_bus_engine.proofs.HalfTurns.{node_numbers}
 use Rattle.fw_bus_engine.proofs.Leaves.{deaf_leaves, half_asks, half_counted, half_either, reset_not, where_not}

@@ -1,5 +1,5 @@
 use Rattle.fw_bus_engine.proofs.Common.{◌≡◌, ◌∙◌, ◌+◌, ap, sym, refl, IsFalse, None, Listening, states_of, living_there, Ok, Err, Failed}
-use Rattle.fw_bus_engine.proofs.Doings.{does_one, does_silent}
+use Rattle.fw_bus_engine.proofs.OneAction.{does_one, does_silent}
 use Rattle.fw_bus_engine.proofs.Leaves.{half_counted, half_only_counted, said_nothing}
 use Rattle.fw_bus_engine.proofs.StepTurns.{idle_turns, step_turns}
 use Rattle.fw_bus_engine.proofs.steps.half_step.Goals as goal

@@ -1,5 +1,5 @@
 use Rattle.fw_bus_engine.proofs.Common.{◌∙◌, sym}
-use Rattle.fw_bus_engine.proofs.Doings.{does_entry}
+use Rattle.fw_bus_engine.proofs.OneAction.{does_entry}
 use Rattle.fw_bus_engine.proofs.Settles.{busy_looks_back, unsettled_turns}
 use Rattle.fw_bus_engine.proofs.steps.tell_unsettled.Goals as goal
 

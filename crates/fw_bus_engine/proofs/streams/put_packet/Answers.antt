@@ -1,8 +1,8 @@
 use Rattle.fw_bus_engine.proofs.Common.{◌++◌, ◌∙◌, ℕ, Option, Some, None, refl, ap, entry_bytes, Two, unheard, Recording}
 use Rattle.fw_log_entry.specs.declared.entry.Entry.TheVariants.{Iso}
 use Rattle.fw_bus_state.specs.Streaming.{count_at}
-use Rattle.fw_bus_engine.proofs.CycleTurns.{ready_talker, gives_none, gives_some, packet_done, packet_fits, packet_same}
-use Rattle.fw_bus_engine.proofs.Doings.{no_faults}
+use Rattle.fw_bus_engine.proofs.PacketTurns.{ready_talker, gives_none, gives_some, packet_done, packet_fits, packet_same}
+use Rattle.fw_bus_engine.proofs.OneAction.{no_faults}
 use Rattle.fw_bus_engine.proofs.Packets.{unheard_same}
 use Rattle.fw_bus_engine.proofs.streams.put_packet.Goals as goal
 

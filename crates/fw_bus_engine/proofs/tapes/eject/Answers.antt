@@ -1,6 +1,7 @@
 -- proofs/machine/Machine/eject/Answers.antt
 use Rattle.fw_bus_engine.proofs.Common.{refl, sym, ◌∙◌, Err, Ok}
-use Rattle.fw_bus_engine.proofs.Doings.{does_entry, does_then, ready_after}
+use Rattle.fw_bus_engine.proofs.OneAction.{does_entry}
+use Rattle.fw_bus_engine.proofs.Doings.{does_then, ready_after}
 use Rattle.fw_bus_engine.proofs.TapeTurns.{eject_turns, eject_follows, eject_cut, ejects_none, few_devices, still_declared}
 use Rattle.fw_bus_engine.proofs.tapes.eject.Goals as goal
 

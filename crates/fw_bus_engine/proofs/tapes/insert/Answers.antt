@@ -1,6 +1,7 @@
 -- proofs/machine/Machine/insert/Answers.antt
 use Rattle.fw_bus_engine.proofs.Common.{refl, arith, Err, Ok}
-use Rattle.fw_bus_engine.proofs.Doings.{does_entry, does_then, ready_after}
+use Rattle.fw_bus_engine.proofs.OneAction.{does_entry}
+use Rattle.fw_bus_engine.proofs.Doings.{does_then, ready_after}
 use Rattle.fw_bus_engine.proofs.TapeTurns.{insert_turns, insert_follows, insert_cut, few_devices, still_declared}
 use Rattle.fw_bus_engine.proofs.tapes.insert.Goals as goal
 

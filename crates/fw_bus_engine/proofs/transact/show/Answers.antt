@@ -1,4 +1,4 @@
-use Rattle.fw_bus_engine.proofs.Doings.{does_entry}
+use Rattle.fw_bus_engine.proofs.OneAction.{does_entry}
 use Rattle.fw_bus_engine.proofs.ShowTurns.{show_turns}
 use Rattle.fw_bus_engine.proofs.transact.show.Goals as goal
 

@@ -5,7 +5,7 @@ use Rattle.fw_cmp.specs.Losses.{Awaits, MayTurn}
 use Rattle.fw_bus_state.specs.Stands.{is_living_in}
 use Rattle.fw_bus_state.specs.Tables.{states_of}
 use Rattle.fw_bus_rules.proofs.ConnectionRules.{is_named}
-use Rattle.fw_bus_rules.proofs.FirstBroken.{loss_at_limit, loss_of_nothing, loss_ordered}
+use Rattle.fw_bus_rules.proofs.TransactionRules.{loss_at_limit, loss_of_nothing, loss_ordered}
 use Rattle.fw_bus_state.proofs.Heard.{stands_here}
 use Rattle.fw_bus_state.proofs.Heard.{may_rest, stands_request}
 use Rattle.fw_bus_state.proofs.Living.{living_same}

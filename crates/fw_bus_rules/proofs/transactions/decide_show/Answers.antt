@@ -9,7 +9,7 @@ use Rattle.fw_script_command.specs.declared.command.Command.TheVariants as Comma
 use Rattle.fw_bus_state.specs.Stands.{is_linked_in, read_in}
 use Rattle.fw_bus_rules.proofs.transactions.decide_show.Goals as goal
 use Rattle.fw_bus_rules.proofs.transactions.decide_show.Goals.{in-None+in_ok-device-in-None, in-Some+in_ok-device-in-Some}
-use Rattle.fw_bus_rules.proofs.FirstBroken.{show_no_manager, show_no_register, show_ordered}
+use Rattle.fw_bus_rules.proofs.TransactionRules.{show_no_manager, show_no_register, show_ordered}
 use Rattle.fw_bus_state.proofs.Living.{linked_same}
 use Rattle.fw_bus_rules.proofs.Shown.{is_not_read, is_read, no_manager, none_of, show_unlinked, shown_by_name, shown_by_none, some_of}
 

@@ -4,7 +4,7 @@ use Rattle.fw_bus_state.specs.Orders.{is_guarded_by}
 use Rattle.fw_bus_state.specs.Stands.{is_linked_in, is_living_in}
 use Rattle.fw_bus_rules.proofs.transactions.decide_transaction.Goals as goal
 use Rattle.fw_bus_rules.proofs.ConnectionRules.{is_named}
-use Rattle.fw_bus_rules.proofs.FirstBroken.{transaction_dead, transaction_guarded, transaction_off, transaction_ordered}
+use Rattle.fw_bus_rules.proofs.TransactionRules.{transaction_dead, transaction_guarded, transaction_off, transaction_ordered}
 use Rattle.fw_bus_state.proofs.Living.{linked_same, living_same}
 
 pub returns-then-not-is_living-clause-decided : goal.returns-then-not-is_living-clause-decided

@@ -1,4 +1,5 @@
-use Rattle.fw_cmp.proofs.GoingOn.{first_goes_on, connection_goes_on, break_goes_on, next_goes_on, hear_goes_on, state_reset_goes_on, second_goes_on}
+use Rattle.fw_cmp.proofs.ResetGoesOn.{first_goes_on, state_reset_goes_on, second_goes_on}
+use Rattle.fw_cmp.proofs.GoingOn.{connection_goes_on, break_goes_on, next_goes_on, hear_goes_on}
 use Rattle.fw_cmp.proofs.laws.controllers_go_on.Goals as goal
 
 pub returns-clause-first : goal.returns-clause-first

@@ -1,7 +1,7 @@
 use Rattle.fw_holders.proofs.Common.{arith, sym, ◌≡◌, ◌∙◌}
 use Rattle.fw_terms.proofs.Finds.{find_none, find_more, find_here}
 use Rattle.fw_model_account.specs.Account.{is_pending}
-use Rattle.fw_ledger.specs.Stands.{allocation_of, charge_at}
+use Rattle.fw_account_tables.specs.Stands.{allocation_of, charge_at}
 use Rattle.fw_holders.proofs.death.first_pending.Goals as goal
 
 pub loop-ch-init : goal.loop-ch-init

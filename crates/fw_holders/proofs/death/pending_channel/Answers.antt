@@ -1,8 +1,8 @@
 use Rattle.fw_holders.proofs.Common.{◌∙◌, ap}
 use Rattle.fw_terms.specs.Tables.{find_to}
 use Rattle.fw_model_account.specs.Account.{is_pending}
-use Rattle.fw_ledger.specs.Stands.{allocation_of, charge_at}
-use Rattle.fw_ledger.proofs.Plugs.{pending_is_found}
+use Rattle.fw_account_tables.specs.Stands.{allocation_of, charge_at}
+use Rattle.fw_account_tables.proofs.Plugs.{pending_is_found}
 use Rattle.fw_holders.proofs.death.pending_channel.Goals as goal
 
 pub returns : goal.returns

@@ -1,6 +1,14 @@
-use Rattle.fw_holders.proofs.Common.{◌≡◌, ◌++◌, Account, StandsFor}
+use Rattle.fw_holders.proofs.Common.{◌≡◌, ◌++◌, ◌≤◌, Account, StandsFor}
+use Rattle.std.proofs.Common.{◌-◌}
 use Rattle.fw_holders.specs.Held.{held_below}
 use Rattle.fw_holders.proofs.held.put_held.Given as goal
 
 abbrev pub invariant-loop-channel : goal.invariant-loop-channel
-invariant-loop-channel l = (account : Account) → StandsFor l.tables account → l.text.items ≡ l.fn.text.items ++ held_below l.channel account
+invariant-loop-channel l = record {
+  within : l.channel ≤ 64;
+  same : l.texts ≡ l.fn.texts;
+  text : (account : Account) → StandsFor l.tables account → l.text.items ≡ l.fn.text.items ++ held_below l.channel account;
+}
+
+abbrev pub decreases-loop-channel : goal.decreases-loop-channel
+decreases-loop-channel l = 64 - l.channel

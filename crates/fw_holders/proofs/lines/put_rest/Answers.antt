@@ -5,9 +5,9 @@ use Rattle.fw_holders.specs.Held.{held_text}
 use Rattle.fw_holders.proofs.TextLaws.{both_put, then_put}
 use Rattle.fw_holders.proofs.lines.put_rest.Goals as goal
 
-pub returns : goal.returns
+pub returns-clause-text : goal.returns-clause-text
 unfolding rest_of_line
-returns c = λ before what l e size h.
+returns-clause-text c = λ before what l e size h.
     let a : List ℕ = left 40 what ++ codes " " in
     let units : List ℕ = right 4 (decimal (remainder l)) in
     let t1 : c.put_word.new.text.items ≡ before ++ a = both_put before c.fill.new.text.items c.put_word.new.text.items (left 40 what) (codes " ")
@@ -18,5 +18,5 @@ returns c = λ before what l e size h.
     let t3 : c.put_word-2.new.text.items ≡ before ++ (a ++ units ++ codes " left") =
     both_put before c.put_right.new.text.items c.put_word-2.new.text.items (a ++ units) (codes " left") t2 c.in_ok-put_word-2.ensures in
     let t4 : c.put_held.new.text.items ≡ before ++ (a ++ units ++ codes " left" ++ held_text l) =
-    both_put before c.put_word-2.new.text.items c.put_held.new.text.items (a ++ units ++ codes " left") (held_text l) t3 (c.in_ok-put_held.ensures l h) in
+    both_put before c.put_word-2.new.text.items c.put_held.new.text.items (a ++ units ++ codes " left") (held_text l) t3 (c.in_ok-put_held.ensures.text l h) in
     then_put c.put_word-3.result before c.put_held.new.text.items c.put_word-3.new.text.items (a ++ units ++ codes " left" ++ held_text l) (codes "\n") t4 c.put_word-3.ensures

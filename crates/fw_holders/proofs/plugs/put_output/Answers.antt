@@ -1,9 +1,9 @@
 use Rattle.fw_holders.proofs.Common.{◌≡◌, ◌++◌, OnOk, List, ℕ, true, false, nat_lt, slice_index, sym, ap, ◌∙◌, subst, append-nil, field, NodeRow, has_connection, counter, is_output, SeatsFor, Seats}
 use Rattle.fw_holders.proofs.Common.{nodes_of}
 use Rattle.fw_plug.specs.Words.{is_connected}
-use Rattle.fw_ledger.specs.Stands.{word_at, seats_at}
-use Rattle.fw_ledger.proofs.PlugSwaps.{connected_is}
-use Rattle.fw_ledger.proofs.OutputSwaps.{output_word_shows}
+use Rattle.fw_account_tables.specs.Stands.{word_at, seats_at}
+use Rattle.fw_account_tables.proofs.PlugSwaps.{connected_is}
+use Rattle.fw_account_tables.proofs.OutputSwaps.{output_word_shows}
 use Rattle.fw_holders_text.specs.declared.names.Side.TheVariants.{Output}
 use Rattle.fw_holders.specs.Table.{plug_line}
 use Rattle.fw_holders.proofs.HoldingLaws.{nodes_shown}

@@ -15,8 +15,8 @@ loop-channel-preserved c = λ l h.
     let ch : ℕ = c.loop-channel.channel in
     let told : List ℕ = channel_lines ch l in
     c.in_ok-put_channel.ensures
-    ∙ ap (λ nodes. c.loop-channel.text.items ++ channel_line nodes ch c.held_on.result) (c.as_slice-nodes.ensures.value ∙ nodes_shown c.args.tables.now l h)
-    ∙ ap (λ x. c.loop-channel.text.items ++ channel_line (nodes_of l.latest) ch x) (c.held_on.ensures l h)
+    ∙ ap (λ nodes. c.loop-channel.text.items ++ channel_line nodes ch c.taken_on.result) (c.as_slice-nodes.ensures.value ∙ nodes_shown c.args.tables.now l h)
+    ∙ ap (λ x. c.loop-channel.text.items ++ channel_line (nodes_of l.latest) ch x) (c.taken_on.ensures l h)
     ∙ ap (λ (x : List ℕ). x ++ channel_line (nodes_of l.latest) ch (holding l ch)) (c.loop-channel.invariant l h)
     ∙ append_assoc before told _
     ∙ ap (λ (x : List ℕ). before ++ x) (sym (next_line ch l))

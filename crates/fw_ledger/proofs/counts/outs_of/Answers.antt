@@ -1,5 +1,5 @@
 use Rattle.fw_ledger.proofs.Common.{length, sym, ◌∙◌, ap, length-set, NodeRow}
-use Rattle.fw_ledger.proofs.Starts.{no_count, no_plug}
+use Rattle.fw_account_tables.proofs.Starts.{no_count, no_plug}
 use Rattle.fw_ledger.proofs.PlugCounts.{count_more}
 use Rattle.fw_ledger.proofs.counts.outs_of.Goals as goal
 

@@ -1,7 +1,7 @@
 use Rattle.fw_ledger.proofs.Common.{◌≡◌, ◌<◌, ◌≤◌, ℕ, charge_at}
 use Rattle.std.proofs.Common.{if◌then◌else◌}
 use Rattle.fw_ledger.specs.Resets.{talker}
-use Rattle.fw_ledger.specs.Stands.{reclaimable_at}
+use Rattle.fw_account_tables.specs.Stands.{reclaimable_at}
 use Rattle.fw_ledger.proofs.counts.renew_flows.Given as goal
 
 abbrev pub invariant-loop-ch : goal.invariant-loop-ch

@@ -1,5 +1,5 @@
 use Rattle.fw_ledger.proofs.Common.{◌<◌, length, arith, refl, ◌∙◌, length-set}
-use Rattle.fw_ledger.proofs.Starts.{no_count}
+use Rattle.fw_account_tables.proofs.Starts.{no_count}
 use Rattle.fw_ledger.proofs.Renewals.{rate_set, small_set}
 use Rattle.fw_ledger.proofs.renew.rates_of.Goals as goal
 

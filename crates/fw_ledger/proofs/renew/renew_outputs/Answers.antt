@@ -1,6 +1,6 @@
 use Rattle.fw_ledger.proofs.Common.{◌≡◌, ◌<◌, ◌-◌, ◌*◌, ◌/◌, ◌%◌, ◌∙◌, ℕ, [], Bool, true, false, nat_lt, get_or, slice_index, sym, ap, arith, nat_tests, is_connected, renewed_seats, no_seats, Seats}
 use Rattle.std.proofs.lemmas.List.{get_or_default}
-use Rattle.fw_ledger.specs.declared.tables.Broadcaster.TheVariants.{Nobody}
+use Rattle.fw_account_tables.specs.declared.tables.Broadcaster.TheVariants.{Nobody}
 use Rattle.fw_ledger.proofs.Renewals.{none_renewed, one_renewed, place_of, word_set, seats_set, on_set}
 use Rattle.fw_ledger.proofs.renew.renew_outputs.Goals as goal
 

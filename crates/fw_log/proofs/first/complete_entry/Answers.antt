@@ -1,6 +1,6 @@
 use Rattle.fw_log.proofs.Common.{◌≡◌, ℕ, ◌+◌, drop, arith, ap, subst, sym, ◌∙◌, head_size, position, WrongBody, skip, fault_at, Fields, LogFault}
 use Rattle.fw_log.specs.declared.LogWhy.TheVariants.{BadBody}
-use Rattle.fw_log.proofs.EntryLaws.{entry_is, kind_of_complete, size_of_complete, long_of_complete, complete_ok, complete_own, complete_err, refused_body, refused_epoch}
+use Rattle.fw_log.proofs.SpellingLaws.{entry_is, kind_of_complete, size_of_complete, long_of_complete, complete_ok, complete_own, complete_err, refused_body, refused_epoch}
 use Rattle.fw_log.proofs.first.complete_entry.Goals as goal
 use Rattle.fw_log.proofs.first.complete_entry.Goals.{After-rest-entry, After-entry_of}
 

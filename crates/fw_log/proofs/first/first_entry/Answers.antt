@@ -1,5 +1,6 @@
 use Rattle.fw_log.proofs.Common.{ℕ, List, take, arith, ◌∙◌, Position, position}
-use Rattle.fw_log.proofs.FindLaws.{first_complete, first_wrong, head_shown_first, ends_at, body_after}
+use Rattle.fw_log.proofs.FindLaws.{first_complete, first_wrong, ends_at, body_after}
+use Rattle.fw_log.proofs.ShownLaws.{head_shown_first}
 use Rattle.fw_log.proofs.first.first_entry.Goals as goal
 
 pub complete_entry-requires-clause-head : goal.complete_entry-requires-clause-head

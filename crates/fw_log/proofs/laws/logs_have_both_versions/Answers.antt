@@ -1,6 +1,6 @@
 use Rattle.fw_log.proofs.Common.{refl, sym, ◌∙◌, ap, List, ◌++◌, header_bytes, Timed}
 use Rattle.fw_log_entry.specs.Log.{entries_bytes}
-use Rattle.fw_log.proofs.HistoryLaws.{one_log}
+use Rattle.fw_log.proofs.FollowingLaws.{one_log}
 use Rattle.fw_log.proofs.laws.logs_have_both_versions.Goals as goal
 
 pub returns-clause-one : goal.returns-clause-one

@@ -1,5 +1,5 @@
 use Rattle.fw_log.proofs.Common.{arith, sym, ◌∙◌}
-use Rattle.fw_log.proofs.PassLaws.{plain_reset, plain_async, plain_event, plain_outcome, plain_shown}
+use Rattle.fw_log.proofs.PlainHeadLaws.{plain_reset, plain_async, plain_event, plain_outcome, plain_shown}
 use Rattle.fw_log.proofs.plain.is_plain_body.Goals as goal
 
 pub returns-in-1 : goal.returns-in-1

@@ -1,5 +1,5 @@
 use Rattle.fw_log.proofs.Common.{arith, sym, ◌∙◌}
-use Rattle.fw_log.proofs.PassLaws.{body_reset, body_packet, body_iso}
+use Rattle.fw_log.proofs.PlainHeadLaws.{body_reset, body_packet, body_iso}
 use Rattle.fw_log.proofs.plain.plain_body.Goals as goal
 
 pub returns-else-not-is_plain_reset : goal.returns-else-not-is_plain_reset

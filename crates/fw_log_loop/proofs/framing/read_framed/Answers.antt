@@ -7,7 +7,7 @@ use Rattle.fw_log_loop.specs.Endings.{stop_of, Reads}
 use Rattle.fw_log_loop.specs.Framings.{Adds, Concludes}
 use Rattle.fw_log_loop.specs.declared.ending.LogEnding.TheVariants.{Stopped}
 use Rattle.fw_log_loop.proofs.Completions.{is_complete, complete_by}
-use Rattle.fw_log_loop.proofs.Decodings.{nothing_read}
+use Rattle.fw_log_loop.proofs.Interruptions.{nothing_read}
 use Rattle.fw_log_loop.proofs.Gatherings.{none_else}
 use Rattle.fw_log_loop.proofs.Enclosings.{read_none, read_open, read_whole, read_part, end_reads, end_writes, whole_writes}
 use Rattle.fw_log_loop.proofs.framing.read_framed.Goals as goal

@@ -1,6 +1,6 @@
 use Rattle.std.proofs.Common.{refl}
 use Rattle.fw_log_loop.proofs.Completions.{is_complete, complete_by}
-use Rattle.fw_log_loop.proofs.Decodings.{nothing_read, read_bare}
+use Rattle.fw_log_loop.proofs.Interruptions.{nothing_read, read_bare}
 use Rattle.fw_log_loop.proofs.log.read_log.Goals as goal
 
 pub returns-in_default : goal.returns-in_default

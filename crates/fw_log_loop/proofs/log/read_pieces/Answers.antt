@@ -5,7 +5,8 @@ use Rattle.fw_outside.proofs.Parts.{end_from_zero}
 use Rattle.fw_log_loop.specs.Readings.{Form}
 use Rattle.fw_log_loop.specs.Pieces.{DecodedTo, StopsAt, PrintsMore}
 use Rattle.fw_log_loop.proofs.Printings.{stops_at_read, gets_end}
-use Rattle.fw_log_loop.proofs.Decodings.{decoded_first, decoded_more, ended, interrupted, stopped_in, passed, cut_at, few_taken, few_following, total_of, end_read}
+use Rattle.fw_log_loop.proofs.Decodings.{decoded_first, decoded_more, ended, total_of, end_read}
+use Rattle.fw_log_loop.proofs.Interruptions.{interrupted, stopped_in, passed, cut_at, few_taken, few_following}
 use Rattle.fw_log_loop.proofs.log.read_pieces.Goals as goal
 
 pub loop-count-init : goal.loop-count-init

@@ -5,7 +5,7 @@ use Rattle.fw_log.specs.History.{HasRead}
 use Rattle.fw_log_loop.specs.Readings.{Form}
 use Rattle.fw_log_loop.specs.Pieces.{PrintsPiece, PrintsBytes}
 use Rattle.fw_log_loop.proofs.Decodings.{total_of}
-use Rattle.fw_log_loop.proofs.Printings.{bytes_after, bytes_before, bytes_stopped, bytes_opened, bytes_unopened}
+use Rattle.fw_log_loop.proofs.Readings.{bytes_after, bytes_before, bytes_stopped, bytes_opened, bytes_unopened}
 use Rattle.fw_log_loop.proofs.piece.print_bytes.Goals as goal
 
 pub returns-then-taken-ge-HEADER-clause-text : goal.returns-then-taken-ge-HEADER-clause-text

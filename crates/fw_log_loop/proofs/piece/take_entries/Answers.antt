@@ -5,7 +5,8 @@ use Rattle.fw_log.specs.Passing.{CountsUp}
 use Rattle.fw_log.specs.Reader.{State, Feeds, total}
 use Rattle.fw_log_loop.specs.Readings.{Form, Passes}
 use Rattle.fw_log_loop.specs.Pieces.{GatheredTo}
-use Rattle.fw_log_loop.proofs.Gatherings.{gathered_first, gathered_passed, gathered_some, gathered_fault, gathered_last, gathered_rest, gathered_all, few_read}
+use Rattle.fw_log_loop.proofs.Gatherings.{gathered_first, gathered_passed, gathered_some, gathered_rest, gathered_all, few_read}
+use Rattle.fw_log_loop.proofs.RefusedGatherings.{gathered_fault, gathered_last}
 use Rattle.fw_log_loop.proofs.Gatherings.{rest_from, none_else, takes_none, takes_some, when_none, when_some, by_both}
 use Rattle.fw_log_loop.proofs.Gatherings.{stays_fresh, given_body, none_given}
 use Rattle.fw_log_loop.proofs.piece.take_entries.Goals as goal

@@ -1,5 +1,5 @@
 use Rattle.std.proofs.Common.{refl}
-use Rattle.fw_log_loop.proofs.Decodings.{nothing_read}
+use Rattle.fw_log_loop.proofs.Interruptions.{nothing_read}
 use Rattle.fw_log_words.proofs.explanation.explain.Goals as goal
 
 pub returns-in-Err : goal.returns-in-Err

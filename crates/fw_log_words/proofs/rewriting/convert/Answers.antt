@@ -1,6 +1,6 @@
 use Rattle.std.proofs.Common.{refl, subst}
 use Rattle.fw_log_loop.specs.Endings.{ReadsLog}
-use Rattle.fw_log_loop.proofs.Decodings.{nothing_read}
+use Rattle.fw_log_loop.proofs.Interruptions.{nothing_read}
 use Rattle.fw_log_reports.specs.Silences.{never_refused}
 use Rattle.fw_log_reports.specs.Texts.{nothing}
 use Rattle.fw_log_words.specs.Texts.{Rewritten, log_form}

@@ -1,7 +1,9 @@
 use Rattle.fw_map.proofs.Common.{◌≤◌, List, slice_index, ◌≡◌, ◌<◌, ◌+◌, ◌-◌, ℕ, refl, sym, ap, subst, ◌∙◌, arith, PhyPacket, Tree, field_of, fields, Agrees, Grown}
 use Rattle.fw_map.specs.Growing.{Counts}
-use Rattle.fw_map.proofs.JoinLaws.{joined_of, rest_of, first_taken, none_grown, none_counts, none_agrees, missing, missing_none, some_closed}
-use Rattle.fw_map.proofs.JoinLaws.{some_taken, some_counts, some_grown, some_agrees, all_grown, all_agrees, enough, all_counts, IsJoined}
+use Rattle.fw_map.proofs.JoinLaws.{joined_of, rest_of, first_taken, none_grown, none_counts, none_agrees}
+use Rattle.fw_map.proofs.ChildLaws.{missing, missing_none, some_closed}
+use Rattle.fw_map.proofs.ChildLaws.{some_taken, some_counts, some_grown, some_agrees, all_grown, all_agrees, enough, all_counts}
+use Rattle.fw_map.proofs.JoinLaws.{IsJoined}
 use Rattle.fw_map.proofs.build.take_children.Goals as goal
 use Rattle.fw_map.proofs.build.take_children.Goals.{In-None, After-loop-port}
 

@@ -1,4 +1,5 @@
-use Rattle.fw_map.proofs.CablingLaws.{found, tree_is, has_packets}
+use Rattle.fw_map.proofs.FoundTreeLaws.{found, tree_is}
+use Rattle.fw_map.proofs.CablingLaws.{has_packets}
 use Rattle.fw_tree.proofs.ReachLaws.{sound_made}
 use Rattle.fw_map.proofs.laws.self_ids_tell_the_tree.Goals as goal
 

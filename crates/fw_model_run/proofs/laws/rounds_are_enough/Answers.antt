@@ -1,5 +1,5 @@
 -- Each clause is a lemma.
-use Rattle.fw_model_run.proofs.Settling.{enough}
+use Rattle.fw_model_run.proofs.EnoughRounds.{enough}
 use Rattle.fw_model_run.proofs.Suffice.{rounds_suffice}
 use Rattle.fw_model_run.proofs.laws.rounds_are_enough.Goals as goal
 

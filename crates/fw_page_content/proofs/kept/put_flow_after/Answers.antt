@@ -1,6 +1,6 @@
 use Rattle.fw_page_content.proofs.Common.{◌++◌, ap, sym, ◌∙◌, on_ok_weaker, flow_after}
 use Rattle.fw_model_account.specs.Account.{Flow}
-use Rattle.fw_ledger.specs.Stands.{flow_of}
+use Rattle.fw_account_tables.specs.Stands.{flow_of}
 use Rattle.fw_page_content.specs.Kept.{flow_words}
 use Rattle.fw_page_content.proofs.ListLaws.{flow_put}
 use Rattle.fw_page_content.proofs.kept.put_flow_after.Goals as goal

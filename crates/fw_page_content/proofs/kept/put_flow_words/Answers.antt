@@ -1,6 +1,6 @@
 use Rattle.fw_page_content.proofs.Common.{◌++◌, codes, decimal, ap, on_ok_weaker}
 use Rattle.fw_page_marks.specs.Small.{plural}
-use Rattle.fw_page_phrases.proofs.TextLaws.{six}
+use Rattle.fw_page_registers.proofs.TextLaws.{six}
 use Rattle.fw_page_content.specs.Kept.{flow_words}
 use Rattle.fw_page_content.proofs.TextLaws.{put_as}
 use Rattle.fw_page_content.proofs.kept.put_flow_words.Goals as goal

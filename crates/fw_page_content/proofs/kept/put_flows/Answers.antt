@@ -1,5 +1,5 @@
 use Rattle.fw_page_content.proofs.Common.{◌≡◌, ap, sym, ◌∙◌, arith, flow_after}
-use Rattle.fw_ledger.specs.Stands.{flow_of}
+use Rattle.fw_account_tables.specs.Stands.{flow_of}
 use Rattle.fw_page_content.specs.Kept.{flows_below}
 use Rattle.fw_page_content.proofs.LoopLaws.{no_flows, more_flows}
 use Rattle.fw_page_content.proofs.kept.put_flows.Goals as goal

@@ -1,7 +1,7 @@
 use Rattle.fw_page_content.proofs.Common.{◌≡◌, ap, ◌∙◌, arith}
 use Rattle.std.specs.Prelude.{unwrap_or}
 use Rattle.fw_terms.specs.Tables.{sum_to}
-use Rattle.fw_ledger.specs.Stands.{allocation_of}
+use Rattle.fw_account_tables.specs.Stands.{allocation_of}
 use Rattle.fw_page_content.proofs.LeftLaws.{units_at, no_units, more_units}
 use Rattle.fw_page_content.proofs.leaving.units_left.Goals as goal
 

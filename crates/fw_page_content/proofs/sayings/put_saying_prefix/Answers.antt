@@ -1,7 +1,7 @@
 use Rattle.fw_page_content.proofs.Common.{◌≡◌, ◌++◌, codes, ap, ◌∙◌, on_ok_weaker, named}
 use Rattle.fw_log_explain.specs.Lines.{saying_text, tape_text}
 use Rattle.fw_log_names.specs.Names.{event_name, event_saying}
-use Rattle.fw_page_phrases.proofs.TextLaws.{six}
+use Rattle.fw_page_registers.proofs.TextLaws.{six}
 use Rattle.fw_page_content.specs.Sayings.{named_device, event_device}
 use Rattle.fw_page_content.proofs.TextLaws.{put_as}
 use Rattle.fw_page_content.proofs.sayings.put_saying_prefix.Goals as goal

@@ -1,6 +1,6 @@
 use Rattle.fw_page_content.proofs.Common.{◌≡◌, ◌+◌, codes, ap, ◌∙◌, on_ok_weaker}
 use Rattle.fw_csr.specs.declared.offset.TheConstants.{REGISTER_SPACE}
-use Rattle.fw_page_phrases.specs.Asks.{code_word}
+use Rattle.fw_page_registers.specs.Words.{code_word}
 use Rattle.fw_log_registers.specs.Places.{place_of}
 use Rattle.fw_log_registers.specs.Words.{place_text}
 use Rattle.fw_log_registers.specs.declared.place.RegisterPlace.{RegisterPlace}

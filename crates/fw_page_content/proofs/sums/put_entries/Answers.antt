@@ -2,7 +2,7 @@ use Rattle.fw_page_content.proofs.Common.{◌++◌, ◌+◌, ◌-◌, codes, dec
 use Rattle.fw_page_marks.specs.Small.{plural, seconds}
 use Rattle.fw_page_content.specs.Sums.{entries_word, entries_text}
 use Rattle.fw_page_content.proofs.TextLaws.{put_as}
-use Rattle.fw_page_phrases.proofs.TextLaws.{seven}
+use Rattle.fw_page_registers.proofs.TextLaws.{seven}
 use Rattle.fw_page_content.proofs.sums.put_entries.Goals as goal
 
 pub returns : goal.returns

@@ -1,6 +1,6 @@
 use Rattle.fw_page_content.proofs.Common.{◌++◌, codes, decimal, ap, sym, ◌∙◌, on_ok_weaker, with_comma, comma, owner_words}
 use Rattle.fw_page_strip.specs.Owners.{class_name}
-use Rattle.fw_page_phrases.proofs.TextLaws.{six}
+use Rattle.fw_page_registers.proofs.TextLaws.{six}
 use Rattle.fw_page_content.proofs.TextLaws.{put_as}
 use Rattle.fw_page_content.proofs.SumLaws.{nobody_said, owner_said}
 use Rattle.fw_page_content.proofs.sums.put_owner.Goals as goal

@@ -11,6 +11,6 @@ returns c =
     let s = c.args.standing.now in
     on_ok_weaker c.put_got.result
     (λ e. five _ _ _ _ _ _ (link_text s.number) (subject s.request) (change s.request c.args.p.now) (codes " ")
-    (got (Some s.request) c.args.p.now) c.in_ok-put_link.ensures c.in_ok-put_subject.ensures c.in_ok-put_change.ensures
+    (got (Some s.request) c.args.p.now) c.in_ok-put_link.ensures c.in_ok-put_kept_subject.ensures c.in_ok-put_change.ensures
     c.in_ok-put_word.ensures e)
     c.put_got.ensures

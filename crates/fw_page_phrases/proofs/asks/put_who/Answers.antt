@@ -1,7 +1,7 @@
 use Rattle.std.proofs.Common.{codes}
 use Rattle.std.proofs.lemmas.Result.{on_ok_weaker}
 use Rattle.fw_page_phrases.specs.Asks.{end_text, label_text, who}
-use Rattle.fw_page_phrases.proofs.TextLaws.{six}
+use Rattle.fw_page_registers.proofs.TextLaws.{six}
 use Rattle.fw_page_phrases.proofs.asks.put_who.Goals as goal
 
 pub returns : goal.returns

@@ -1,7 +1,7 @@
 use Rattle.std.proofs.Common.{codes, decimal, ◌++◌, ap, ◌∙◌, List, ℕ}
 use Rattle.std.proofs.lemmas.Result.{on_ok_weaker}
 use Rattle.fw_page_phrases.specs.Notes.{fault_name, fault_values, fault_words, stop_text}
-use Rattle.fw_page_phrases.proofs.TextLaws.{seven}
+use Rattle.fw_page_registers.proofs.TextLaws.{seven}
 use Rattle.fw_page_phrases.proofs.note.put_stop.Goals as goal
 
 pub returns : goal.returns

@@ -1,6 +1,6 @@
 use Rattle.std.proofs.Common.{◌≡◌, ◌<◌, ℕ, false}
 use Rattle.fw_model_account.specs.Account.{Account, has_connection}
-use Rattle.fw_ledger.specs.Stands.{StandsFor}
+use Rattle.fw_account_tables.specs.Stands.{StandsFor}
 use Rattle.fw_page_scene.specs.Lines.{plug}
 use Rattle.fw_page_scene.proofs.plugs.talks.Given as goal
 

@@ -1,6 +1,6 @@
 use Rattle.std.proofs.Common.{◌≡◌, ◌<◌, ℕ, false}
 use Rattle.fw_model_account.specs.Account.{Account}
-use Rattle.fw_ledger.specs.Stands.{StandsFor}
+use Rattle.fw_account_tables.specs.Stands.{StandsFor}
 use Rattle.fw_page_strip.specs.Owners.{has_units_of}
 use Rattle.fw_page_strip.proofs.amounts.has_units.Given as goal
 

@@ -1,5 +1,5 @@
 use Rattle.std.proofs.Common.{◌∙◌, ap, sym, if◌then◌else◌}
-use Rattle.fw_ledger.specs.Stands.{flow_of}
+use Rattle.fw_account_tables.specs.Stands.{flow_of}
 use Rattle.fw_page_strip.specs.Owners.{kept_for}
 use Rattle.fw_page_strip.proofs.amounts.kept.Goals as goal
 

@@ -1,6 +1,6 @@
 use Rattle.std.proofs.Common.{◌≡◌, ◌<◌, ℕ, length, slice_index_or}
 use Rattle.fw_model_account.specs.Account.{Account}
-use Rattle.fw_ledger.specs.Stands.{StandsFor}
+use Rattle.fw_account_tables.specs.Stands.{StandsFor}
 use Rattle.fw_page_strip.specs.declared.owner.Owner.TheVariants.{Nobody}
 use Rattle.fw_page_strip.specs.Owners.{owner}
 use Rattle.fw_page_strip.proofs.drawn.owners_of.Given as goal

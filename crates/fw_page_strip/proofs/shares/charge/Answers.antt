@@ -1,6 +1,6 @@
 use Rattle.std.proofs.Common.{◌∙◌, ap, arith}
-use Rattle.fw_ledger.specs.Stands.{allocation_of, charge_at}
-use Rattle.fw_ledger.specs.declared.tables.Tables.{Tables}
+use Rattle.fw_account_tables.specs.Stands.{allocation_of, charge_at}
+use Rattle.fw_account_tables.specs.declared.tables.Tables.{Tables}
 use Rattle.fw_page_strip.proofs.shares.charge.Goals as goal
 
 pub charge_at-requires : goal.charge_at-requires

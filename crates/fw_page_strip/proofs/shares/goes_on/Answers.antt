@@ -1,6 +1,6 @@
 use Rattle.std.proofs.Common.{◌∙◌, ap, sym}
-use Rattle.fw_ledger.specs.Stands.{continues_at}
-use Rattle.fw_ledger.specs.declared.tables.Tables.{Tables}
+use Rattle.fw_account_tables.specs.Stands.{continues_at}
+use Rattle.fw_account_tables.specs.declared.tables.Tables.{Tables}
 use Rattle.fw_page_strip.proofs.ShareLaws.{ends_so, no_output_so, goes_so}
 use Rattle.fw_page_strip.proofs.shares.goes_on.Goals as goal
 

@@ -1,6 +1,6 @@
 use Rattle.std.proofs.Common.{◌∙◌, ap, arith}
-use Rattle.fw_ledger.specs.Stands.{flow_of}
-use Rattle.fw_ledger.specs.declared.tables.Tables.{Tables}
+use Rattle.fw_account_tables.specs.Stands.{flow_of}
+use Rattle.fw_account_tables.specs.declared.tables.Tables.{Tables}
 use Rattle.fw_page_strip.specs.Owners.{flow_by}
 use Rattle.fw_page_strip.proofs.ShareLaws.{flow_is}
 use Rattle.fw_page_strip.proofs.shares.reclaimable.Goals as goal

@@ -1,7 +1,7 @@
 use Rattle.fw_trace.proofs.Common.{subst, PutsEntry}
 use Rattle.fw_cip.specs.declared.packet.IsoPacket.{IsoPacket}
 use Rattle.fw_log_entry.specs.declared.entry.Entry.TheVariants.{Iso}
-use Rattle.fw_trace.proofs.TellingLaws.{puts_entry}
+use Rattle.fw_trace.proofs.PieceLaws.{puts_entry}
 use Rattle.fw_trace.proofs.bodies.put_iso.Goals as goal
 
 pub returns : goal.returns

@@ -1,5 +1,5 @@
 use Rattle.fw_log_entry.specs.declared.entry.Entry.TheVariants.{Async}
-use Rattle.fw_trace.proofs.TellingLaws.{puts_entry}
+use Rattle.fw_trace.proofs.PieceLaws.{puts_entry}
 use Rattle.fw_trace.proofs.bodies.put_packet.Goals as goal
 
 pub returns : goal.returns

@@ -1,7 +1,7 @@
 use Rattle.fw_trace.proofs.Common.{◌≡◌, ◌++◌, ℕ, List, refl, sym, ap, ◌∙◌, length, take, arith}
 use Rattle.std.proofs.lemmas.List.{nil_from_length, take-append-drop, length-drop}
 use Rattle.std.proofs.lemmas.Bool.{eqb-true}
-use Rattle.fw_trace.proofs.TellingLaws.{some_first, some_more, some_all}
+use Rattle.fw_trace.proofs.PieceLaws.{some_first, some_more, some_all}
 use Rattle.fw_trace.proofs.entries.take_entries.Goals as goal
 
 pub loop-rest-init : goal.loop-rest-init

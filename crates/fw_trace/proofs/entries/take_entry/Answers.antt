@@ -1,7 +1,7 @@
 use Rattle.fw_trace.proofs.Common.{◌≡◌, subst, sym, HasRead, Traced}
 use Rattle.fw_log.specs.Reader.{State}
 use Rattle.fw_trace.specs.Telling.{TakesOne}
-use Rattle.fw_trace.proofs.TellingLaws.{known_one, unknown_same}
+use Rattle.fw_trace.proofs.PieceLaws.{known_one, unknown_same}
 use Rattle.fw_trace.proofs.entries.take_entry.Goals as goal
 
 pub returns-in-Some-clause-takes : goal.returns-in-Some-clause-takes

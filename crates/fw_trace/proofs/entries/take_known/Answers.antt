@@ -1,5 +1,5 @@
 use Rattle.fw_trace.proofs.Common.{take}
-use Rattle.fw_trace.proofs.TellingLaws.{known_taken}
+use Rattle.fw_trace.proofs.PieceLaws.{known_taken}
 use Rattle.fw_trace.proofs.entries.take_known.Goals as goal
 
 pub put_body-requires : goal.put_body-requires

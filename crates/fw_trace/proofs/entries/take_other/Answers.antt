@@ -1,6 +1,6 @@
 use Rattle.fw_trace.proofs.Common.{◌∙◌, sym, take}
 use Rattle.fw_log_latest.proofs.LatestLaws.{fed_reset}
-use Rattle.fw_trace.proofs.TellingLaws.{none_taken, one_taken, read_none, read_one, all_used}
+use Rattle.fw_trace.proofs.PieceLaws.{none_taken, one_taken, read_none, read_one, all_used}
 use Rattle.fw_trace.proofs.entries.take_other.Goals as goal
 
 pub put_entry-requires : goal.put_entry-requires

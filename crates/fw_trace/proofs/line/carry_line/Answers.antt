@@ -1,6 +1,7 @@
 use Rattle.fw_trace.proofs.Common.{ap, ◌∙◌, ◌+◌, ◌++◌, ℕ, List, Some, take}
 use Rattle.fw_trace_lines.specs.Lines.{line_text}
-use Rattle.fw_trace.proofs.NextLaws.{begun_line, lack_traced}
+use Rattle.fw_trace.proofs.NextLaws.{begun_line}
+use Rattle.fw_trace.proofs.LookLaws.{lack_traced}
 use Rattle.fw_trace.proofs.line.carry_line.Goals as goal
 
 pub returns-in_default-clause-goes : goal.returns-in_default-clause-goes

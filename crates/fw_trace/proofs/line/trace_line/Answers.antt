@@ -3,7 +3,8 @@ use Rattle.fw_script_words.proofs.Calls.{may_read}
 use Rattle.fw_script_words.proofs.Passings.{pass_shorter}
 use Rattle.fw_trace_lines.specs.Lines.{line_text}
 use Rattle.fw_trace.specs.Tracing.{HoldsNoCommand}
-use Rattle.fw_trace.proofs.NextLaws.{line_open, line_stops, line_told, refused_next}
+use Rattle.fw_trace.proofs.NextLaws.{line_open, refused_next}
+use Rattle.fw_trace.proofs.LookLaws.{line_stops, line_told}
 use Rattle.fw_trace.proofs.StopLaws.{grown, grown_grows, stop_traced}
 use Rattle.fw_trace.proofs.line.trace_line.Goals as goal
 

@@ -1,7 +1,8 @@
 use Rattle.fw_trace.proofs.Common.{sym, ◌∙◌}
 use Rattle.fw_script_words.proofs.Calls.{may_read}
 use Rattle.fw_script_words.proofs.Passings.{look_same}
-use Rattle.fw_trace.proofs.NextLaws.{fault_traced, measured, none_next, tracing_looked}
+use Rattle.fw_trace.proofs.NextLaws.{none_next}
+use Rattle.fw_trace.proofs.LookLaws.{fault_traced, measured, tracing_looked}
 use Rattle.fw_trace.proofs.line.trace_next.Goals as goal
 
 pub find_line-requires : goal.find_line-requires

@@ -1,7 +1,7 @@
 use Rattle.std.proofs.Common.{codes}
-use Rattle.fw_trace_lines.specs.Names.{device_text}
+use Rattle.fw_trace_names.specs.Names.{device_text}
 use Rattle.fw_trace_lines.specs.Told.{missing_text}
-use Rattle.fw_trace_lines.proofs.LoopLaws.{then_put}
+use Rattle.fw_trace_names.proofs.LoopLaws.{then_put}
 use Rattle.fw_trace_lines.proofs.events.put_missing.Goals as goal
 
 pub returns : goal.returns

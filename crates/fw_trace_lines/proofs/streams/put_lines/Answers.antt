@@ -1,8 +1,9 @@
 use Rattle.std.proofs.Common.{◌≡◌, ◌++◌, ◌+◌, ℕ, sym, ap, subst, ◌∙◌, append-nil}
-use Rattle.fw_trace_lines.specs.Caused.{caused_text}
+use Rattle.fw_trace_names.specs.CausedLines.{caused_text}
 use Rattle.fw_trace_lines.specs.Commands.{first_streams, stream_lines}
 use Rattle.fw_trace_lines.specs.Streams.{stream_at}
-use Rattle.fw_trace_lines.proofs.LoopLaws.{next_stream, no_streams_text, stepped}
+use Rattle.fw_trace_lines.proofs.LoopLaws.{next_stream, no_streams_text}
+use Rattle.fw_trace_names.proofs.LoopLaws.{stepped}
 use Rattle.fw_trace_lines.proofs.streams.put_lines.Goals as goal
 
 pub loop-channel-init : goal.loop-channel-init

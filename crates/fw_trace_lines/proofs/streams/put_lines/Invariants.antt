@@ -1,5 +1,5 @@
 use Rattle.std.proofs.Common.{◌≡◌, ◌++◌}
-use Rattle.fw_trace_lines.specs.Caused.{caused_text}
+use Rattle.fw_trace_names.specs.CausedLines.{caused_text}
 use Rattle.fw_trace_lines.specs.Commands.{first_streams}
 use Rattle.fw_trace_lines.proofs.streams.put_lines.Given as goal
 

@@ -3,7 +3,7 @@ use Rattle.fw_tree.specs.Parents.{Notes}
 use Rattle.fw_tree.proofs.DueLaws.{open_marked}
 use Rattle.fw_tree.proofs.RoundLaws.{in_range}
 use Rattle.fw_tree.proofs.SeenLaws.{seen_same}
-use Rattle.fw_tree.proofs.ParentLaws.{left_first, none_left}
+use Rattle.fw_tree.proofs.TieLaws.{left_first, none_left}
 use Rattle.fw_tree.proofs.rounds.leave_one.Goals as goal
 use Rattle.fw_tree.proofs.rounds.leave_one.Goals.{then-has_left, else-has_left}
 

@@ -1,7 +1,7 @@
 use Rattle.fw_tree.proofs.Common.{◌≡◌, Option, None, Some, true, slice_index_or, sym, ◌∙◌, is_seen, is_open, LeavesBy}
 use Rattle.std.specs.Prelude.{count_by, IfSome}
 use Rattle.fw_tree.specs.declared.rounds.Cable.{Cable}
-use Rattle.fw_tree.proofs.ParentLaws.{leaves_by, stays_there}
+use Rattle.fw_tree.proofs.TieLaws.{leaves_by, stays_there}
 use Rattle.fw_tree.proofs.rounds.way_out.Goals as goal
 
 pub returns-then-stays-d-clause-none : goal.returns-then-stays-d-clause-none

@@ -1,5 +1,5 @@
 use Rattle.fw_async.proofs.Common.{◌≢◌, ℕ, ◌++◌, [], ◌∷◌, List, take, arith, sym, ◌∙◌, ap, subst, spelling, IsKept, bytes_from}
-use Rattle.fw_async.proofs.SpelledLaws.{spelled_need}
+use Rattle.fw_async.proofs.SpelledSizeLaws.{spelled_need}
 use Rattle.fw_async_fields.proofs.NeedLaws.{need_least}
 use Rattle.fw_async.proofs.WireLaws.{is_absent, room, put_kept, put_pairs}
 use Rattle.fw_async.proofs.wire.Wire.put.Goals as goal

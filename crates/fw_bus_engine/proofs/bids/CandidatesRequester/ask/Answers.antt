@@ -2,9 +2,9 @@ use Rattle.fw_bus_engine.proofs.Common.{◌≡◌, ℕ, Option, Some, None, ap, 
 use Rattle.std.specs.Prelude.{IsFalse}
 use Rattle.fw_manager.specs.Bids.{is_standing_in}
 use Rattle.fw_bus_engine.specs.Contending.{BidRests}
-use Rattle.fw_bus_engine.proofs.Bidding.{asks_turns, own_free, said_of, put_by}
+use Rattle.fw_bus_engine.proofs.BidAsks.{asks_turns, own_free, said_of, put_by}
 use Rattle.fw_bus_engine.proofs.BidNodes.{bidder_few, bidder_within, manager_there, nexts_now, own_there, sent_fits, sent_is}
-use Rattle.fw_bus_engine.proofs.Doings.{no_faults}
+use Rattle.fw_bus_engine.proofs.OneAction.{no_faults}
 use Rattle.fw_bus_engine.proofs.bids.CandidatesRequester.ask.Goals as goal
 
 -- the manager that was found is that of the candidate

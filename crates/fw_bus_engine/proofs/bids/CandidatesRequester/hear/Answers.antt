@@ -1,6 +1,7 @@
 use Rattle.fw_bus_engine.proofs.Common.{◌≡◌, Some, sym, subst, ◌∙◌, IsTrue, same_Some, Async, CandidateState, is_asked}
 use Rattle.fw_bus_engine.specs.Requesting.{TurnsCandidate}
-use Rattle.fw_bus_engine.proofs.Bidding.{hears_turns, seat}
+use Rattle.fw_bus_engine.proofs.BidHears.{hears_turns}
+use Rattle.fw_bus_engine.proofs.Bidding.{seat}
 use Rattle.fw_bus_engine.proofs.BidNodes.{bid_outstanding, bid_packet, bid_served, bidder_within, own_there, standing_asked}
 use Rattle.fw_bus_engine.proofs.bids.CandidatesRequester.hear.Goals as goal
 

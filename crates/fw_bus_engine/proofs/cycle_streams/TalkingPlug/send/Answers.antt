@@ -1,5 +1,5 @@
 use Rattle.fw_bus_engine.proofs.Common.{Some, None, refl, arith}
-use Rattle.fw_bus_engine.proofs.CycleTurns.{gives_none, gives_some, packet_same}
+use Rattle.fw_bus_engine.proofs.PacketTurns.{gives_none, gives_some, packet_same}
 use Rattle.fw_bus_engine.proofs.cycle_streams.TalkingPlug.send.Goals as goal
 
 pub put-requires-clause-fits : goal.put-requires-clause-fits

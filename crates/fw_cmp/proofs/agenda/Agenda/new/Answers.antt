@@ -1,5 +1,5 @@
 use Rattle.fw_cmp.proofs.Common.{false≢true}
-use Rattle.fw_cmp.proofs.GoingOn.{first_goes_on}
+use Rattle.fw_cmp.proofs.ResetGoesOn.{first_goes_on}
 use Rattle.fw_cmp.proofs.Fitting.{first_fits}
 use Rattle.fw_cmp.proofs.agenda.Agenda.new.Goals as goal
 

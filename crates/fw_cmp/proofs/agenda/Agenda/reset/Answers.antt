@@ -1,8 +1,9 @@
 use Rattle.fw_cmp.proofs.Common.{false≢true, ◌≡◌, List, [], refl, sym, ◌∙◌, ap, subst, Slot, Current, WaitingJob, CanGoOn, ControllerState, CurrentFits, current_reset, after_reset}
-use Rattle.fw_cmp.proofs.GoingOn.{reset_goes_on}
+use Rattle.fw_cmp.proofs.ResetGoesOn.{reset_goes_on}
 use Rattle.fw_cmp.proofs.Fitting.{current_slots}
 use Rattle.fw_cmp.proofs.Ready.{with_slots}
-use Rattle.fw_cmp.proofs.Overtaken.{reset_fits, is_slots_reset, current_reset_waiting}
+use Rattle.fw_cmp.proofs.SlotsReset.{reset_fits, is_slots_reset}
+use Rattle.fw_cmp.proofs.Overtaken.{current_reset_waiting}
 use Rattle.fw_cmp.proofs.agenda.Agenda.reset.Goals as goal
 
 abbrev before : goal.After-reset → ControllerState

@@ -1,9 +1,10 @@
 use Rattle.fw_cmp.proofs.Common.{false≢true, ◌≡◌, List, [], refl, sym, ◌∙◌, ap, subst, Slot, Current, WaitingJob, CanGoOn, ControllerState, CurrentFits, lost_reset}
-use Rattle.fw_cmp.proofs.GoingOn.{lost_reset_goes_on}
+use Rattle.fw_cmp.proofs.ResetGoesOn.{lost_reset_goes_on}
 use Rattle.fw_cmp.specs.Resets.{after_lost_reset}
 use Rattle.fw_cmp.proofs.Fitting.{current_slots}
 use Rattle.fw_cmp.proofs.Ready.{with_slots}
-use Rattle.fw_cmp.proofs.Overtaken.{lost_reset_fits, is_slots_reset, lost_reset_waiting}
+use Rattle.fw_cmp.proofs.SlotsReset.{lost_reset_fits, is_slots_reset}
+use Rattle.fw_cmp.proofs.Overtaken.{lost_reset_waiting}
 use Rattle.fw_cmp.proofs.agenda.Agenda.reset_unheard.Goals as goal
 
 abbrev before : goal.After-reset → ControllerState

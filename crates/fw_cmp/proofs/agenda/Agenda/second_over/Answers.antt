@@ -1,6 +1,6 @@
 use Rattle.fw_cmp.proofs.Common.{false≢true, sym, subst, CanGoOn, ControllerState}
-use Rattle.fw_cmp.proofs.GoingOn.{second_goes_on}
-use Rattle.fw_cmp.proofs.Overtaken.{second_fits}
+use Rattle.fw_cmp.proofs.ResetGoesOn.{second_goes_on}
+use Rattle.fw_cmp.proofs.SlotsReset.{second_fits}
 use Rattle.fw_cmp.proofs.agenda.Agenda.second_over.Goals as goal
 
 pub invariant_of-self : goal.invariant_of-self

@@ -35,7 +35,7 @@ returns-in-Err c = λ l h.
     let shown = subst (λ (t : Tables). StandsFor t l) (sym c.tables.ensures.same) stood in
     let begun : c.put_cycle.new.text.items ≡ c.self.inside.text.items ++ (right 8 (decimal c.args.t.now.cycle) ++ codes " ") = c.in_ok-put_cycle.ensures in
     let put : c.put_event.new.text.items ≡ c.put_cycle.new.text.items ++ what.0 = c.in_ok-put_event.ensures l what.0 shown what.1 in (
-      c.in-Err.ensures l stood,
+      c.in-Err.ensures.judged l stood,
       c.truncate.ensures.items
           ∙ cut_back c.len-begins.result c.self.inside.text.items c.put_cycle.new.text.items c.put_event.new.text.items (right 8 (decimal c.args.t.now.cycle) ++ codes " ") what.0 size begun put
           ∙ ap (λ (r : HolderState). r.text) c.self.view_is,
@@ -50,10 +50,10 @@ returns c = λ l h.
     let shown = subst (λ (t : Tables). StandsFor t l) (sym c.tables.ensures.same) stood in
     let begun : c.put_cycle.new.text.items ≡ c.self.inside.text.items ++ (right 8 (decimal c.args.t.now.cycle) ++ codes " ") = c.in_ok-put_cycle.ensures in
     let put : c.put_event.new.text.items ≡ c.put_cycle.new.text.items ++ what.0 = c.in_ok-put_event.ensures l what.0 shown what.1 in
-    let taken = c.in_default.ensures l stood in
+    let taken = c.in_default.ensures.judged l stood in
     let k : Account = taken.1.0 in
     let after = subst (λ (t : Tables). StandsFor t k) (sym c.tables-2.ensures.same) taken.1.2 in
-    let rest : c.put_rest.new.text.items ≡ c.put_cycle.new.text.items ++ rest_of_line what.0 k = c.in_ok-put_rest.ensures c.put_cycle.new.text.items what.0 k put size after in
+    let rest : c.put_rest.new.text.items ≡ c.put_cycle.new.text.items ++ rest_of_line what.0 k = c.in_ok-put_rest.ensures.text c.put_cycle.new.text.items what.0 k put size after in
     let told_is : told l c.args.t.now.what ≡ Some what.0 = ap (λ (e : Entry). told l e) c.requires.event ∙ what.1 in
     record {
       clear = taken.0;

@@ -1,4 +1,4 @@
-use Rattle.fw_ledger.proofs.Swapping.{follows_stand}
+use Rattle.fw_ledger.proofs.Taking.{follows_stand}
 use Rattle.fw_ledger.proofs.ledger.Ledger.swap.Goals as goal
 
 pub invariant_of-self : goal.invariant_of-self

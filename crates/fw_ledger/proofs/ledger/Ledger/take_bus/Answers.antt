@@ -7,7 +7,7 @@ pub invariant_of-self : goal.invariant_of-self
 invariant_of-self c =
     let h = c.self.invariant in
     let r = c.requires.fits in
-    bus_stands c.take_bus.result c.self.inside.tables c.take_bus.new.self h.0 (after_reset r.0 h.0) h.1 (λ yes. c.take_bus.ensures.taken yes h.0 r.0 h.1 r.1 r.2 r.3) c.take_bus.ensures.kept
+    bus_stands c.take_bus.result c.self.inside.tables c.take_bus.new.tables h.0 (after_reset r.0 h.0) h.1 (λ yes. c.take_bus.ensures.taken yes h.0 r.0 h.1 r.1 r.2 r.3) c.take_bus.ensures.kept
 
 pub returns-clause-taken : goal.returns-clause-taken
 returns-clause-taken c = λ yes l r h fits manager nodes.

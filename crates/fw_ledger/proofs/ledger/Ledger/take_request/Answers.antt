@@ -1,4 +1,4 @@
-use Rattle.fw_ledger.proofs.Swapping.{takes_stand}
+use Rattle.fw_ledger.proofs.Taking.{takes_stand}
 use Rattle.fw_ledger.proofs.ledger.Ledger.take_request.Goals as goal
 
 pub invariant_of-self : goal.invariant_of-self

@@ -1,5 +1,5 @@
 use Rattle.fw_log.proofs.Common.{Ok, Err}
-use Rattle.fw_log.proofs.HistoryLaws.{finishes}
+use Rattle.fw_log.proofs.FinishLaws.{finishes}
 use Rattle.fw_log.proofs.read.LogReader.finish.Goals as goal
 
 pub returns-in-Some-clause-log : goal.returns-in-Some-clause-log

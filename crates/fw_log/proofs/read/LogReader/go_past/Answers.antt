@@ -1,6 +1,6 @@
 use Rattle.fw_log.proofs.Common.{◌≡◌, ◌-◌, ℕ, List, length, None, arith, ap, sym, subst, ◌∙◌, IsPending, State, Feeds, HoldsPending, Position, position}
 use Rattle.fw_log.specs.Next.{IsNext}
-use Rattle.fw_log.specs.declared.first.PlainEntry.{PlainEntry}
+use Rattle.fw_log.specs.declared.first_look.PlainEntry.{PlainEntry}
 use Rattle.fw_log.specs.declared.plain.PlainBody.{PlainBody}
 use Rattle.fw_log.proofs.FindLaws.{holds_by}
 use Rattle.fw_log.proofs.HistoryLaws.{nothing_pending}

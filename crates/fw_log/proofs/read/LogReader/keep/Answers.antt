@@ -1,5 +1,6 @@
 use Rattle.fw_log.proofs.Common.{◌≡◌, ◌+◌, ◌-◌, ◌++◌, ℕ, [], length, take, None, Some, arith, refl, ap, sym, subst, ◌∙◌, epoch_after, position, version_at, State, EndsEntry}
-use Rattle.fw_log.proofs.FindLaws.{kept_fault, kept_entry, kept_part, found_as, found_err, pending_at, holds_by, same_state, same_stand}
+use Rattle.fw_log.proofs.KeptLaws.{kept_fault, kept_entry, kept_part}
+use Rattle.fw_log.proofs.FindLaws.{found_as, found_err, pending_at, holds_by, same_state, same_stand}
 use Rattle.fw_log.proofs.read.LogReader.keep.Goals as goal
 
 pub append-requires : goal.append-requires

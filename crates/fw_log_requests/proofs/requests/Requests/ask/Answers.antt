@@ -1,4 +1,4 @@
-use Rattle.std.proofs.Common.{◌≡◌, ◌∙◌, ◌++◌, ◌∷◌, [], ℕ, List, ap, sym, length, slice_index_or, false, arith}
+use Rattle.std.proofs.Common.{◌∙◌, ◌++◌, ◌∷◌, [], ℕ, List, ap, sym, length, slice_index_or, false, arith}
 use Rattle.fw_log_requests.specs.declared.asked.Asked.{Asked}
 use Rattle.fw_log_requests.specs.Requests.{latest, with_request, without_same}
 use Rattle.fw_log_requests.proofs.ApartLaws.{none_asked, few_others, asked_kept}

@@ -1,7 +1,7 @@
 use Rattle.fw_page.proofs.Common.{◌≡◌, [], ◌++◌, ap, refl, subst, sym, ◌∙◌, List, OutstandingRequest, NodeRow, painted_of}
 use Rattle.fw_page_scene.specs.Bars.{BarsFor, AreBars}
 use Rattle.fw_page_scene.specs.Lines.{nodes_text, bars}
-use Rattle.fw_page_scene.proofs.CutLaws.{drawn_for, text_drawn}
+use Rattle.fw_page_scene.proofs.DrawnLaws.{drawn_for, text_drawn}
 use Rattle.fw_page.proofs.RowLaws.{nodes_stay, nodes_shown}
 use Rattle.fw_page.proofs.progress.Progress.draw_lines.Goals as goal
 

@@ -1,5 +1,5 @@
 use Rattle.std.proofs.Common.{◌≡◌, length, arith}
-use Rattle.fw_page_scene.proofs.CutLaws.{first_drawn, drawn_next, all_drawn}
+use Rattle.fw_page_scene.proofs.DrawnLaws.{first_drawn, drawn_next, all_drawn}
 use Rattle.fw_page_scene.proofs.bars.Bars.draw.Goals as goal
 
 pub loop-at-init : goal.loop-at-init

@@ -1,5 +1,5 @@
 use Rattle.std.proofs.Common.{◌≤◌, length, arith}
-use Rattle.fw_page_scene.proofs.CutLaws.{not_drawn}
+use Rattle.fw_page_scene.proofs.DrawnLaws.{not_drawn}
 use Rattle.fw_page_scene.proofs.bars.Bars.end.Goals as goal
 
 pub returns-then-at-len : goal.returns-then-at-len

@@ -1,5 +1,5 @@
 use Rattle.std.proofs.Common.{refl}
-use Rattle.fw_page_scene.proofs.CutLaws.{none_for}
+use Rattle.fw_page_scene.proofs.DrawnLaws.{none_for}
 use Rattle.fw_page_scene.proofs.bars.Bars.forget.Goals as goal
 
 pub returns : goal.returns

@@ -1,5 +1,5 @@
 use Rattle.std.proofs.Common.{◌≡◌, ◌-◌, length, refl, arith}
-use Rattle.fw_page_scene.proofs.CutLaws.{one_drawn}
+use Rattle.fw_page_scene.proofs.DrawnLaws.{one_drawn}
 use Rattle.fw_page_scene.proofs.bars.Bars.put.Goals as goal
 
 pub returns : goal.returns

@@ -1,7 +1,7 @@
 use Rattle.std.proofs.Common.{◌≡◌, ◌++◌, ℕ, codes, decimal, subst, refl, append_assoc}
-use Rattle.fw_trace_lines.specs.Names.{node_text}
+use Rattle.fw_trace_names.specs.Names.{node_text}
 use Rattle.fw_trace_lines.specs.Streams.{stream_text, amounts_text}
-use Rattle.fw_trace_lines.proofs.LoopLaws.{stepped, then_put}
+use Rattle.fw_trace_names.proofs.LoopLaws.{stepped, then_put}
 use Rattle.fw_trace_lines.proofs.streams.Stream.put.Goals as goal
 
 pub returns : goal.returns

@@ -5,9 +5,10 @@ use Rattle.fw_async_glance.specs.Glances.{IsGlance}
 use Rattle.fw_async_glance.specs.declared.glance.Glance.{Glance}
 use Rattle.fw_log_entry.specs.declared.entry.Entry.TheVariants.{Async}
 use Rattle.fw_log_requests.specs.Requests.{asked_by}
-use Rattle.fw_trace_lines.specs.Told.{carried_text}
-use Rattle.fw_trace_lines.specs.Caused.{caused_text, entry_lines, telling_after}
-use Rattle.fw_trace_lines.specs.Replies.{reply_of}
+use Rattle.fw_trace_requests.specs.Answers.{carried_text}
+use Rattle.fw_trace_names.specs.CausedLines.{caused_text}
+use Rattle.fw_trace_lines.specs.Caused.{entry_lines, telling_after}
+use Rattle.fw_trace_requests.specs.Replies.{reply_of}
 use Rattle.fw_trace_lines.proofs.ReplyLaws.{reply_put, request_put, request_kept, response_kept}
 use Rattle.fw_trace_lines.proofs.tracer.Tracer.put_bytes.Goals as goal
 

@@ -4,7 +4,7 @@ use Rattle.fw_words.specs.Swaps.{swap_bytes}
 use Rattle.fw_async.specs.declared.packet.Packet.TheVariants.{Lock}
 use Rattle.fw_log_requests.specs.declared.asked.Answer.TheVariants.{Lock as LockResponse}
 use Rattle.fw_log_requests.specs.Requests.{asked, asked_by}
-use Rattle.fw_trace_lines.specs.Told.{carried_text}
+use Rattle.fw_trace_requests.specs.Answers.{carried_text}
 use Rattle.fw_trace_lines.proofs.ReplyLaws.{request_put, request_kept, swap_back}
 use Rattle.fw_trace_lines.proofs.tracer.Tracer.put_swap.Goals as goal
 

@@ -3,8 +3,8 @@ use Rattle.std.specs.Int.{to_be_bytes, w32}
 use Rattle.fw_async.specs.declared.packet.Packet.TheVariants.{LockReply}
 use Rattle.fw_log_requests.specs.declared.asked.Answer.TheVariants.{Lock as LockResponse}
 use Rattle.fw_log_requests.specs.Requests.{asked_by}
-use Rattle.fw_trace_lines.specs.declared.packets.Reply.{Reply}
-use Rattle.fw_trace_lines.specs.Replies.{reply_of}
+use Rattle.fw_trace_requests.specs.declared.packets.Reply.{Reply}
+use Rattle.fw_trace_requests.specs.Replies.{reply_of}
 use Rattle.fw_trace_lines.proofs.ReplyLaws.{reply_put, response_kept, word_back}
 use Rattle.fw_trace_lines.proofs.tracer.Tracer.put_swap_reply.Goals as goal
 

@@ -1,0 +1,14 @@
+pub mod Common
+pub mod Starts
+pub mod Plugs
+pub mod Related
+pub mod Controllers
+pub mod Swapping
+pub mod UnitSwaps
+pub mod ChannelSwaps
+pub mod PlugSwaps
+pub mod OutputSwaps
+pub mod OutputConnects
+pub mod OutputDisconnects
+pub mod InputSwaps
+pub mod RegisterNames

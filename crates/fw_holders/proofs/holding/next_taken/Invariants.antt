@@ -1,0 +1,6 @@
+use Rattle.fw_holders.proofs.Common.{◌≡◌, ◌<◌, ◌≤◌, ℕ, None, Account, StandsFor}
+use Rattle.fw_holders.specs.Held.{holding}
+use Rattle.fw_holders.proofs.holding.next_taken.Given as goal
+
+abbrev pub invariant-loop-channel : goal.invariant-loop-channel
+invariant-loop-channel l = (account : Account) (ch : ℕ) → StandsFor l.tables account → l.from ≤ ch → ch < l.channel → holding account ch ≡ None

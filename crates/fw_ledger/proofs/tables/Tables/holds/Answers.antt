@@ -1,9 +1,0 @@
-use Rattle.fw_ledger.proofs.Common.{◌∙◌, ap, is_some, find_to, is_pending, allocation_of, charge_at}
-use Rattle.fw_ledger.proofs.Requests.{holds_is}
-use Rattle.fw_ledger.proofs.tables.Tables.holds.Goals as goal
-
-pub returns : goal.returns
-returns c = λ l h.
-    c.is_some.ensures ∙ ap is_some c.pending_channel.ensures.first
-    ∙ ap (λ charges. is_some (find_to 64 (λ ch. is_pending c.args.c (allocation_of (charge_at charges ch))))) c.deref.ensures.value
-    ∙ holds_is c.args.self.now l c.args.c h

@@ -1,6 +1,0 @@
-use Rattle.fw_ledger.proofs.Common.{◌∙◌}
-use Rattle.fw_ledger.proofs.Requests.{outstanding_is}
-use Rattle.fw_ledger.proofs.tables.Tables.is_busy.Goals as goal
-
-pub returns : goal.returns
-returns c = λ l h. c.is_asked.ensures ∙ outstanding_is _ _ (c.outstanding.ensures l h)

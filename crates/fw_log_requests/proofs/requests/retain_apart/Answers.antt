@@ -1,0 +1,8 @@
+use Rattle.std.proofs.Common.{rules}
+use Rattle.arrayvec.proofs.ArrayVecLemmas.{filter-from_retain}
+use Rattle.fw_log_requests.specs.Requests.{without_same}
+use Rattle.fw_log_requests.proofs.requests.retain_apart.Goals as goal
+
+pub returns : goal.returns
+unfolding without_same
+returns c = filter-from_retain _ _ _ (λ x b f' y called. search rules) _ _ c.retain.ensures

@@ -1,0 +1,97 @@
+//! What the line of a packet begins with: its cycle, and who sends it to whom.
+
+ghost use Rattle.std.specs.Prelude.{◌≡◌, ◌≤◌, ◌+◌, ◌++◌, OnOk, codes, length, take};
+ghost use Rattle.fw_trace_names.specs.CausedLines.{at_cycle};
+ghost use Rattle.fw_trace_names.specs.Names.{id_text};
+
+use crate::naming::Names;
+use crate::parts::{put_cycle, put_row};
+use fw_log_names::{CycleRow, put_word};
+use std::alloc::AllocError;
+
+/// In how many bytes it is written: six spaces, a cycle of at most 21, an arrow of at most five, and the rows of two names.
+const ROOM: usize = 80;
+
+/// The spaces before the cycle.
+const MARGIN: usize = 6;
+
+// Writes a row over the bytes from `at` on, and answers where so many of its bytes end.
+#[inline(always)]
+fn write_begun<const N: usize>(out: &mut [u8], at: usize, row: &[u8; N], size: usize) -> usize
+    requires within { size ≤ N }
+    requires room { at + N ≤ length out.old }
+    ensures size { length out.new ≡ length out.old }
+    ensures end { result ≡ at + size }
+    ensures text { take result out.new ≡ take at out.old ++ take size row.now }
+{
+    out[at..at + N].copy_from_slice(row);
+    at + size
+}
+
+// Writes what a line begins with whose names are these rows, and answers where it ends.
+#[inline(always)]
+fn write_ends<const N: usize>(
+    out: &mut [u8; ROOM],
+    digits: (&[u8; 24], usize),
+    left: ([u8; 16], usize),
+    arrow: &[u8; N],
+    right: ([u8; 16], usize),
+) -> usize
+    requires arrow { N ≤ 5 }
+    requires digits { digits.1 ≤ 24 }
+    requires left { left.1 ≤ 16 }
+    requires right { right.1 ≤ 16 }
+    requires margin { take 6 out.old ≡ codes "      " }
+    ensures end { result ≤ 80 }
+    ensures text { take result out.new ≡ codes "      " ++ take digits.entry.1 digits.entry.0.now ++ take left.1 left.0 ++ arrow.now ++ take right.1 right.0 ++ codes " " }
+{
+    let at = write_begun(out, MARGIN, digits.0, digits.1);
+    let at = write_begun(out, at, &left.0, left.1);
+    let at = write_begun(out, at, arrow, N);
+    let at = write_begun(out, at, &right.0, right.1);
+    write_begun(out, at, b" ", 1)
+}
+
+// Appends it piece by piece.
+#[inline(never)]
+fn put_pieces(
+    text: &mut Vec<u8>,
+    digits: &mut CycleRow,
+    cycle: u64,
+    names: &Names,
+    left: u16,
+    arrow: &[u8],
+    right: u16,
+) -> Result<(), AllocError>
+    ensures { OnOk result (text.new.items ≡ text.old.items ++ (at_cycle cycle ++ id_text names.now left ++ arrow.now ++ id_text names.now right ++ codes " ")) }
+{
+    put_cycle(text, digits, cycle)?;
+    names.put_id(text, left)?;
+    text.extend_from_slice(arrow)?;
+    names.put_id(text, right)?;
+    put_word(text, " ")
+}
+
+/// Appends what a line begins with: its cycle, the nodes with these IDs with an arrow of at most five bytes between them, and a space.
+/// An error says that memory ran out, and comes for nothing else: a part of the text may be appended then.
+#[inline(always)]
+pub fn put_ends<const N: usize>(
+    text: &mut Vec<u8>,
+    digits: &mut CycleRow,
+    cycle: u64,
+    names: &Names,
+    left: u16,
+    arrow: &[u8; N],
+    right: u16,
+) -> Result<(), AllocError>
+    requires { N ≤ 5 }
+    ensures { OnOk result (text.new.items ≡ text.old.items ++ (at_cycle cycle ++ id_text names.now left ++ arrow.now ++ id_text names.now right ++ codes " ")) }
+{
+    let (Some(first), Some(second)) = (names.row_of(left), names.row_of(right)) else {
+        return put_pieces(text, digits, cycle, names, left, arrow, right);
+    };
+    digits.set(cycle);
+    let mut line = [b' '; ROOM];
+    let size = write_ends(&mut line, digits.row(), first, arrow, second);
+    put_row(text, &line, size)
+}

@@ -1,0 +1,5 @@
+pub mod Requests
+pub mod Answers
+pub mod Phrases
+pub mod Replies
+pub mod Held

@@ -1,0 +1,21 @@
+//! Requests and what answers them, as a trace tells them: the latest request of each node under each label, the request that is held back
+//! since its answer may come next, and their lines.
+#![tactic(auto)]
+
+mod answers;
+mod frames;
+mod held;
+mod made;
+mod memo;
+mod packets;
+mod phrase;
+mod replies;
+mod requests;
+mod words;
+
+pub use held::{Bare, HeldBack};
+pub use made::MadeLine;
+pub use memo::Memo;
+pub use packets::Reply;
+pub use replies::put_response;
+pub use requests::{Requests, asked, asked_by};

@@ -1,8 +1,0 @@
-use Rattle.std.proofs.Common.{rules}
-use Rattle.arrayvec.proofs.ArrayVecLemmas.{filter-from_retain}
-use Rattle.fw_watch_requests.specs.Standing.{without_same}
-use Rattle.fw_watch_requests.proofs.queue.retain_others.Goals as goal
-
-pub returns : goal.returns
-unfolding without_same
-returns c = filter-from_retain _ _ _ (λ x b f' y called. search rules) _ _ c.retain.ensures.filtered
