@@ -1,6 +1,8 @@
 -- Swaps of CHANNELS_AVAILABLE.
-use Rattle.fw_account_tables.proofs.Common.{PlugAt, ◌≡◌, ◌≢◌, ◌<◌, ◌+◌, ◌-◌, ◌*◌, ◌^◌, inl, inr, ◌==◌, ◌&&◌, not, nat_lt, ℕ, true, false, Option, Some, None, length, slice_set, Vec, Global, cond, refl, sym}
-use Rattle.fw_account_tables.proofs.Common.{◌∙◌, ap, arith, length-set, nat_tests, false≢true, update, flag, Account, Allocation, is_free, is_open, Move, ChannelsAvailable, word_of, IsMove, allowed, IsSound}
+use Rattle.fw_account_tables.proofs.Common.{PlugAt, ◌≡◌, ◌≢◌, ◌<◌, ◌+◌, ◌-◌, ◌*◌, ◌^◌, inl, inr, ◌==◌, ◌&&◌, not, nat_lt}
+use Rattle.fw_account_tables.proofs.Common.{ℕ, true, false, Option, Some, None, length, slice_set, Vec, Global, cond, refl, sym}
+use Rattle.fw_account_tables.proofs.Common.{◌∙◌, ap, arith, length-set, nat_tests, false≢true, update, flag, Account}
+use Rattle.fw_account_tables.proofs.Common.{Allocation, is_free, is_open, Move, ChannelsAvailable, word_of, IsMove, allowed, IsSound}
 use Rattle.fw_account_tables.proofs.Common.{StandsFor, Follows, allocation_of, moved_by, Charge, Free, Tables, moves_keep, same_open}
 use Rattle.fw_terms.proofs.Tables.{sum_to_same}
 use Rattle.fw_model_account.specs.Account.{Holder, Pending, Connected, Orphaned, allocated, is_withheld, is_pending_of}

@@ -1,7 +1,9 @@
 -- Swaps of input plug registers.
-use Rattle.fw_account_tables.proofs.Common.{PlugAt, ConnectionKind, ◌≡◌, ◌≢◌, ◌<◌, ◌+◌, ◌==◌, ◌||◌, not, nat_lt, ℕ, Bool, true, false, Some, slice_index, slice_set, cond, refl, sym, ◌∙◌, ap, subst, arith}
+use Rattle.fw_account_tables.proofs.Common.{PlugAt, ConnectionKind, ◌≡◌, ◌≢◌, ◌<◌, ◌+◌, ◌==◌, ◌||◌, not, nat_lt, ℕ, Bool}
+use Rattle.fw_account_tables.proofs.Common.{true, false, Some, slice_index, slice_set, cond, refl, sym, ◌∙◌, ap, subst, arith}
 use Rattle.fw_account_tables.proofs.Common.{length-set, nat_tests, with_item, field, in_word, is_connected, Account, Connections, counter, has_connection, is_there, word_of, is_input, IsMove, decoded}
-use Rattle.fw_account_tables.proofs.Common.{allowed, move_at, IsSound, StandsFor, Follows, SeatsFor, place, word_at, seats_at, no_seats, shows_room, connection_value, moved_by, Seats, Tables, moves_keep}
+use Rattle.fw_account_tables.proofs.Common.{allowed, move_at, IsSound, StandsFor, Follows, SeatsFor, place, word_at}
+use Rattle.fw_account_tables.proofs.Common.{seats_at, no_seats, shows_room, connection_value, moved_by, Seats, Tables, moves_keep}
 use Rattle.fw_terms.specs.Tables.{update_plug}
 use Rattle.fw_terms.proofs.Tables.{update_plug_same}
 use Rattle.fw_plug.specs.Words.{InFields, in_fields}

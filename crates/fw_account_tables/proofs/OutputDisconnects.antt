@@ -1,6 +1,7 @@
 -- Swaps of output plug registers that break a connection.
 use Rattle.fw_account_tables.proofs.Common.{PlugAt, ConnectionKind, ◌≡◌, ◌<◌, ◌≤◌, ◌+◌, ◌&&◌, not, ℕ, Bool, true, false, Some, refl}
-use Rattle.fw_account_tables.proofs.Common.{sym, ◌∙◌, ap, subst, arith, length-set, true≢false, with_item, out_word, out_fields, is_connected, units, Account, Allocation, Connections, counter, has_connection}
+use Rattle.fw_account_tables.proofs.Common.{sym, ◌∙◌, ap, subst, arith, length-set, true≢false, with_item, out_word}
+use Rattle.fw_account_tables.proofs.Common.{out_fields, is_connected, units, Account, Allocation, Connections, counter, has_connection}
 use Rattle.fw_account_tables.proofs.Common.{is_free, is_there, word_of, is_output, IsMove, allowed, IsSound, StandsFor, Follows, SeatsFor}
 use Rattle.fw_account_tables.proofs.Common.{place, word_at, connection_value, moved_by, Seats, Tables, moves_keep}
 use Rattle.fw_terms.specs.Tables.{update_plug}

@@ -1,6 +1,7 @@
 -- What the word of a plug says of its connections, and how one connection more or less changes it.
 use Rattle.fw_account_tables.proofs.Common.{PlugAt, ConnectionKind, ◌≡◌, ◌≢◌, ◌<◌, ◌≤◌, ◌+◌, ◌-◌, ◌*◌, ◌⊎◌, inl, inr, ◌==◌, ◌||◌, not, nat_lt, ℕ, Bool, false, slice_index, cond, refl, ◌∙◌, ap, arith}
-use Rattle.fw_account_tables.proofs.Common.{nat_tests, field, flag, out_word, in_word, out_fields, is_connected, units, Connections, counter, has_connection, is_there, SeatsFor, shows_room, connection_value}
+use Rattle.fw_account_tables.proofs.Common.{nat_tests, field, flag, out_word, in_word, out_fields, is_connected, units}
+use Rattle.fw_account_tables.proofs.Common.{Connections, counter, has_connection, is_there, SeatsFor, shows_room, connection_value}
 use Rattle.fw_account_tables.proofs.Common.{Seats}
 use Rattle.fw_terms.specs.declared.plug.ConnectionKind.TheVariants.{PointToPoint, Broadcast}
 use Rattle.fw_terms.specs.Tables.{update_plug}

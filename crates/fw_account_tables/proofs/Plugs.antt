@@ -1,6 +1,8 @@
 -- Where the tables have the plugs, the nodes and the channels of the account.
-use Rattle.fw_account_tables.proofs.Common.{PlugAt, ResetEntry, NodeRow, ◌≡◌, ◌<◌, ◌-◌, ◌/◌, ◌%◌, ℕ, zero, suc, Bool, true, false, nat_lt, Option, Some, None, List, [], slice_index, cond, refl, ◌∙◌, ap, arith}
-use Rattle.fw_account_tables.proofs.Common.{nat_tests, Account, is_pending, is_output, is_input, word_of, word_at, StandsFor, ShowsReset, place, allocation_of, charge_at, Tables, false≢true, output_in_range}
+use Rattle.fw_account_tables.proofs.Common.{PlugAt, ResetEntry, NodeRow, ◌≡◌, ◌<◌, ◌-◌, ◌/◌, ◌%◌, ℕ, zero, suc, Bool, true}
+use Rattle.fw_account_tables.proofs.Common.{false, nat_lt, Option, Some, None, List, [], slice_index, cond, refl, ◌∙◌, ap, arith}
+use Rattle.fw_account_tables.proofs.Common.{nat_tests, Account, is_pending, is_output, is_input, word_of, word_at, StandsFor}
+use Rattle.fw_account_tables.proofs.Common.{ShowsReset, place, allocation_of, charge_at, Tables, false≢true, output_in_range}
 use Rattle.fw_account_tables.proofs.Common.{find_to}
 use Rattle.std.proofs.Common.{nat_le, slice_get, if◌then◌else◌}
 use Rattle.std.proofs.lemmas.Nat.{div-mul-add, mod-mul-add}

@@ -1,5 +1,6 @@
 -- The register of the account at an address, and the plug that it is of.
-use Rattle.fw_account_tables.proofs.Common.{ResetEntry, NodeRow, ◌≡◌, ◌≤◌, ◌-◌, ◌&&◌, ℕ, Bool, true, false, Option, Some, None, List, [], cond, refl, sym, ◌∙◌, arith, rules, nat_tests, Account, StandsFor}
+use Rattle.fw_account_tables.proofs.Common.{ResetEntry, NodeRow, ◌≡◌, ◌≤◌, ◌-◌, ◌&&◌, ℕ, Bool, true, false, Option, Some}
+use Rattle.fw_account_tables.proofs.Common.{None, List, [], cond, refl, sym, ◌∙◌, arith, rules, nat_tests, Account, StandsFor}
 use Rattle.fw_account_tables.proofs.Common.{ShowsReset, Tables}
 use Rattle.std.proofs.Common.{nat_le, option_map, slice_get, IfSome}
 use Rattle.std.specs.Option.{option_or}

@@ -1,5 +1,6 @@
 -- The tables of no entries stand for the account of none.
-use Rattle.fw_account_tables.proofs.Common.{◌≡◌, ◌-◌, ℕ, zero, suc, false, nat_lt, None, List, [], length, get_or, slice_index, refl, sym, ◌∙◌, ap, arith, false≢true, nat_tests, StandsFor, no_seats, Tables}
+use Rattle.fw_account_tables.proofs.Common.{◌≡◌, ◌-◌, ℕ, zero, suc, false, nat_lt, None, List, [], length, get_or}
+use Rattle.fw_account_tables.proofs.Common.{slice_index, refl, sym, ◌∙◌, ap, arith, false≢true, nat_tests, StandsFor, no_seats, Tables}
 use Rattle.fw_account_tables.proofs.Common.{Free, NotAsked}
 use Rattle.std.proofs.Common.{replicate}
 use Rattle.std.proofs.lemmas.List.{length-replicate}

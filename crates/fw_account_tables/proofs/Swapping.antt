@@ -1,5 +1,6 @@
 -- A swap that is the move that was decoded makes it, and one that is none is refused.
-use Rattle.fw_account_tables.proofs.Common.{PlugAt, ◌≡◌, ◌≢◌, ◌<◌, ◌+◌, ◌-◌, ◌*◌, ◌^◌, ◌/◌, ◌%◌, ◌⊎◌, inl, inr, ◌==◌, ◌&&◌, ℕ, Bool, true, false, Option, Some, None, List, length, get_or, cond, refl, sym, ◌∙◌, ap}
+use Rattle.fw_account_tables.proofs.Common.{PlugAt, ◌≡◌, ◌≢◌, ◌<◌, ◌+◌, ◌-◌, ◌*◌, ◌^◌, ◌/◌, ◌%◌, ◌⊎◌, inl, inr, ◌==◌, ◌&&◌}
+use Rattle.fw_account_tables.proofs.Common.{ℕ, Bool, true, false, Option, Some, None, List, length, get_or, cond, refl, sym, ◌∙◌, ap}
 use Rattle.fw_account_tables.proofs.Common.{subst, arith, get_or-set_same, get_or-set_other, cases_eq, nat_tests, update, Account, Allocation, flag, is_free, is_open, Move, word_of, IsMove, allowed}
 use Rattle.fw_account_tables.proofs.Common.{decoded, move_at, IsSound, StandsFor, Follows, ResourcesFor, allocation_of, place, moved_by, Charge, Free, Tables, same_open}
 use Rattle.std.proofs.Common.{set}

@@ -1,6 +1,7 @@
 -- Swaps of BANDWIDTH_AVAILABLE.
 use Rattle.fw_account_tables.proofs.Common.{◌≡◌, ◌≢◌, ◌<◌, ◌≤◌, ◌-◌, ◌||◌, not, ℕ, Bool, true, false, nat_lt, Some, length, slice_set, Vec, Global, cond, refl, sym, ◌∙◌, ap, subst, arith, length-set}
-use Rattle.fw_account_tables.proofs.Common.{nat_tests, find_to, Account, is_pending, word_of, IsMove, decoded, allowed, move_at, IsSound, StandsFor, Follows, allocation_of, charge_at, moved_by, Charge, Free}
+use Rattle.fw_account_tables.proofs.Common.{nat_tests, find_to, Account, is_pending, word_of, IsMove, decoded, allowed, move_at}
+use Rattle.fw_account_tables.proofs.Common.{IsSound, StandsFor, Follows, allocation_of, charge_at, moved_by, Charge, Free}
 use Rattle.fw_account_tables.proofs.Common.{Connected, Tables, moves_keep}
 use Rattle.fw_terms.proofs.Tables.{find_to_is, IsFirst}
 use Rattle.fw_model_account.specs.Account.{Pending, allocated}

@@ -1,16 +1,20 @@
 //! Room for the bytes of one packet.
 
-ghost use Rattle.std.specs.Prelude.{◌≡◌, ◌≤◌, ◌<◌, ◌+◌, ◌^◌, [], ◌++◌, length, take, drop, flat_map};
+ghost use Rattle.std.specs.Prelude.{◌≡◌, ◌≤◌, ◌<◌, ◌+◌, ◌^◌, [], ◌∷◌, ◌++◌, length, take, flat_map};
 ghost use Rattle.std.specs.Int.{to_be_bytes, w32};
-ghost use Rattle.fw_async.specs.Async.{spelling, parts, Fits, HeadFits, request, response};
+ghost use Rattle.fw_async.specs.Async.{spelling, padded, size, Fits, HeadFits, request, response};
 ghost use Rattle.fw_async_fields.specs.Tcode.{code_of};
 
 use crate::header::{first_quadlet, rcode_quadlet, source_quadlet};
 use crate::packet::{Head, Packet};
-use crate::writer::{data_of, quadlet_3, write_over};
+use crate::writer::{size_of, write_over};
 use fw_async_fields::{Tcode, padding_of};
-use fw_words::{Quadlet, put_quadlet};
+use fw_words::{Quadlet, put_quadlet, with_field};
 use std::marker::Model;
+
+mod rows;
+
+use rows::{copy_over, copy_short, row_of};
 
 /// How many bytes stand before a packet.
 const PREFIX: usize = 16;
@@ -93,55 +97,84 @@ impl PacketRoom {
     }
 
     /// Puts a packet in place of what was there.
-    // Inlined: where the kind of the packet is known, so is what is put.
+    // Inlined, with one match: where the kind of the packet is known, so is what is put, and where it is not, it is asked for once.
     #[inline(always)]
     pub fn put(&mut self, p: &Packet)
         requires { Fits p.now }
         ensures { self.new ≡ spelling p.now }
     {
-        let data = data_of(p);
-        self.begin(p);
-        self.push_quadlet_3(p);
-        if !data.is_empty() {
-            self.extend(data);
-            self.extend(padding_of(data.len()));
-        }
-    }
-
-    // Quadlets 0 to 2, in place of what was there.
-    fn begin(&mut self, p: &Packet)
-        requires { Fits p.now }
-        ensures { self.new ≡ flat_map (to_be_bytes w32) (take 3 (parts p.now).quadlets) }
-    {
         use Packet::*;
         match p {
-            WriteQuadlet { head, offset, .. } => {
-                self.begin_request(Tcode::WriteQuadlet, head, *offset)
+            WriteQuadlet {
+                head,
+                offset,
+                value,
+            } => {
+                self.begin_request(Tcode::WriteQuadlet, head, *offset);
+                self.push(*value);
             }
-            WriteBlock { head, offset, .. } => self.begin_request(Tcode::WriteBlock, head, *offset),
+            WriteBlock {
+                head,
+                offset,
+                bytes,
+            } => {
+                self.begin_request(Tcode::WriteBlock, head, *offset);
+                self.push_data(bytes.as_slice(), 0);
+            }
             WriteReply { head, rcode } => self.begin_response(Tcode::WriteReply, head, *rcode),
             ReadQuadlet { head, offset } => self.begin_request(Tcode::ReadQuadlet, head, *offset),
-            ReadBlock { head, offset, .. } => self.begin_request(Tcode::ReadBlock, head, *offset),
-            ReadQuadletReply { head, rcode, .. } => {
-                self.begin_response(Tcode::ReadQuadletReply, head, *rcode)
+            ReadBlock {
+                head,
+                offset,
+                length,
+            } => {
+                self.begin_request(Tcode::ReadBlock, head, *offset);
+                self.push(with_field(u32::from(*length), 16, 0));
             }
-            ReadBlockReply { head, rcode, .. } => {
-                self.begin_response(Tcode::ReadBlockReply, head, *rcode)
+            ReadQuadletReply { head, rcode, value } => {
+                self.begin_response(Tcode::ReadQuadletReply, head, *rcode);
+                self.push(*value);
             }
-            CycleStart { head, offset, .. } => self.begin_request(Tcode::CycleStart, head, *offset),
-            Lock { head, offset, .. } => self.begin_request(Tcode::Lock, head, *offset),
-            LockReply { head, rcode, .. } => self.begin_response(Tcode::LockReply, head, *rcode),
+            ReadBlockReply { head, rcode, bytes } => {
+                self.begin_response(Tcode::ReadBlockReply, head, *rcode);
+                self.push_data(bytes.as_slice(), 0);
+            }
+            CycleStart { head, offset, time } => {
+                self.begin_request(Tcode::CycleStart, head, *offset);
+                self.push(*time);
+            }
+            Lock {
+                head,
+                offset,
+                function,
+                bytes,
+            } => {
+                self.begin_request(Tcode::Lock, head, *offset);
+                self.push_data(bytes.as_slice(), *function);
+            }
+            LockReply {
+                head,
+                rcode,
+                function,
+                bytes,
+            } => {
+                self.begin_response(Tcode::LockReply, head, *rcode);
+                self.push_data(bytes.as_slice(), *function);
+            }
         }
     }
 
-    // Quadlet 3, if the packet has one.
-    fn push_quadlet_3(&mut self, p: &Packet)
-        requires fits { Fits p.now }
+    // The quadlet with the size of data, and the data up to a whole quadlet.
+    fn push_data(&mut self, bytes: &[u8], low: u8)
+        requires few { length bytes.now ≤ 512 }
         requires begun { length self.old ≡ 12 }
-        ensures { self.new ≡ self.old ++ flat_map (to_be_bytes w32) (drop 3 (parts p.now).quadlets) }
+        ensures { self.new ≡ self.old ++ flat_map (to_be_bytes w32) (size (length bytes.now) low ∷ []) ++ padded bytes.now }
     {
-        if let Some(quadlet) = quadlet_3(p) {
-            self.push(quadlet);
+        self.push(size_of(bytes, low));
+        self.extend(bytes);
+        let padding = padding_of(bytes.len());
+        if !padding.is_empty() {
+            self.extend(padding);
         }
     }
 
@@ -191,36 +224,5 @@ impl PacketRoom {
         let end = PREFIX + self.length;
         write_over(&mut self.bytes, end, more);
         self.length += more.len();
-    }
-}
-
-// The first bytes, of which those of a short packet are the last.
-#[inline(always)]
-fn row_of(bytes: &[u8; ALL]) -> &[u8; 48]
-    ensures { result.now ≡ take 48 bytes.now }
-{
-    match bytes.first_chunk::<48>() {
-        Some(row) => row,
-        None => unreachable!(),
-    }
-}
-
-// Writes over the bytes at the beginning.
-fn copy_over(bytes: &[u8], row: &mut [u8; 528])
-    requires { length bytes.now ≤ 528 }
-    ensures { take (length bytes.now) row.new ≡ bytes.now }
-{
-    row[..bytes.len()].copy_from_slice(bytes);
-}
-
-// Writes so many bytes over the beginning. One array is moved over another, so that no test is made of whether they overlap.
-#[inline(always)]
-fn copy_short(short: &[u8], row: &mut [u8; 528])
-    requires { length short.now ≡ 32 }
-    ensures { take 32 row.new ≡ short.now }
-{
-    match (short.as_array::<SHORT>(), row.first_chunk_mut::<SHORT>()) {
-        (Some(whole), Some(prefix)) => *prefix = *whole,
-        _ => unreachable!(),
     }
 }

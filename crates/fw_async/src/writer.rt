@@ -35,7 +35,7 @@ fn begin_packet(p: &Packet, out: &mut Bytes16)
 }
 
 // data_length, and what stands beside it: an extended_tcode, or 0.
-fn size_of(bytes: &[u8], low: u8) -> u32
+pub(crate) fn size_of(bytes: &[u8], low: u8) -> u32
     requires { length bytes.now ≤ 512 }
     ensures { result ≡ size (length bytes.now) low }
 {
@@ -43,7 +43,7 @@ fn size_of(bytes: &[u8], low: u8) -> u32
 }
 
 // Quadlet 3, if the packet has one.
-pub(crate) fn quadlet_3(p: &Packet) -> Option<u32>
+fn quadlet_3(p: &Packet) -> Option<u32>
     requires { Fits p.now }
     ensures some { IfSome result (λ q. drop 3 (parts p.now).quadlets ≡ q ∷ []) }
     ensures none { IfNone result (drop 3 (parts p.now).quadlets ≡ []) }
@@ -94,7 +94,7 @@ pub(crate) fn prefix_of(p: &Packet) -> Bytes16
 }
 
 // The data after the quadlets.
-pub(crate) fn data_of<'a>(p: &'a Packet) -> &'a [u8]
+fn data_of<'a>(p: &'a Packet) -> &'a [u8]
     requires { Fits p.now }
     ensures same { result.now ≡ (parts p.now).bytes }
     ensures few { length result.now ≤ 512 }

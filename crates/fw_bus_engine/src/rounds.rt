@@ -99,15 +99,20 @@ fn rest(machine: &mut Machine, rounds: u32, each: u32)
 }
 
 /// Whether a controller has something to do, or waits for an answer. Mostly the last does that a round has to look at, and only if
-/// it does not all are asked.
+/// it does not all are asked. If a round has to look at none, none does.
+#[inline(always)]
 fn is_unsettled(machine: &Machine, living: &[bool; 63], end: u8) -> bool
     requires ready { IsReady machine.now }
     requires marks { (d : ℕ) → d < length machine.now.devices.names → slice_index_or living.now d false ≡ is_living_in machine.now d }
     requires most { end ≤ 63 }
     requires within { end ≤ length machine.now.devices.names }
+    requires ends { EndsAt machine.now end }
     ensures { (s : State) → IsGood s → StandsFor machine.now s → result ≡ is_unsettled s }
 {
-    if end > 0 && living[usize::from(end - 1)] {
+    if end == 0 {
+        return false;
+    }
+    if living[usize::from(end - 1)] {
         let last = machine.controllers.get(end - 1);
         if last.busy(machine.cycle, &machine.directory) {
             return true;

@@ -12,6 +12,7 @@ pub mod Living
 pub mod Heard
 pub mod Standing
 pub mod WireResets
+pub mod Ending
 pub mod Idles
 pub mod Renumbered
 pub mod Flags

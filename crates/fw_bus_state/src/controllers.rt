@@ -1,11 +1,11 @@
 //! The controllers of the declared devices.
 
-ghost use Rattle.std.specs.Prelude.{◌≡◌, ◌<◌, ◌≤◌, ◌+◌, ◌^◌, IfNone, IfOk, IfSome, IsTrue, IsFalse, ℕ, None, true, false, replicate, slice_set};
+ghost use Rattle.std.specs.Prelude.{◌≡◌, ◌⊎◌, ◌<◌, ◌≤◌, ◌+◌, ◌^◌, IfNone, IfOk, IfSome, IsTrue, IsFalse, ℕ, None, true, false, replicate, slice_set};
 ghost use Rattle.fw_terms.specs.Tables.{update};
 ghost use Rattle.fw_cmp.specs.Causes.{IsAtRest};
 ghost use Rattle.fw_cmp_jobs.specs.Fits.{SlotFits};
 ghost use Rattle.fw_cmp.specs.Holdings.{CanGoOn};
-ghost use Rattle.fw_cmp.specs.Losses.{first_listening, Awaits, MayTurn, turn_of, after_turn, after_answer, after_loss, with_state};
+ghost use Rattle.fw_cmp.specs.Losses.{ListeningFits, first_listening, Awaits, MayTurn, turn_of, after_turn, after_answer, after_loss, with_state};
 ghost use Rattle.fw_cmp_jobs.specs.Nodes.{HasNodeNumbers};
 ghost use Rattle.fw_cmp.specs.Starts.{break_fault, break_started, started};
 ghost use Rattle.fw_cmp.specs.Turns.{addressee_in};
@@ -117,8 +117,9 @@ impl Controllers {
         ensures list { self.new ≡ record self.old { list = slice_set self.old.list device (after_turn now directory.now (states_of self.old device)) } }
         ensures addressee { IfSome (addressee_in result) (λ to. to < 63) }
     {
-        let next = self.list[usize::from(device)].next(now, directory);
-        self.calm[usize::from(device)] = is_idle(&next);
+        let controller = &mut self.list[usize::from(device)];
+        let next = controller.next(now, directory);
+        self.calm[usize::from(device)] = is_at_rest(controller, &next, now, directory);
         self.fresh[usize::from(device)] = false;
         next
     }
@@ -143,10 +144,7 @@ impl Controllers {
         ensures none { IfNone result (self.new ≡ self.old) }
         ensures addressee { IfSome result (λ asked. asked.0 < 63) }
     {
-        let asked = self.list[usize::from(device)].ask(now, directory)?;
-        self.calm[usize::from(device)] = false;
-        self.fresh[usize::from(device)] = false;
-        Some(asked)
+        self.list[usize::from(device)].ask(now, directory)
     }
 
     /// The controller of a device hears the reply to the outstanding request (`Controller::hear`).
@@ -158,8 +156,6 @@ impl Controllers {
         ensures list { self.new ≡ record self.old { list = slice_set self.old.list device (after_answer (states_of self.old device) reply.now) } }
     {
         self.list[usize::from(device)].hear(reply);
-        self.calm[usize::from(device)] = false;
-        self.fresh[usize::from(device)] = false;
     }
 
     /// The response to the outstanding request is lost (`Controller::lose`).
@@ -233,13 +229,15 @@ fn all_marked() -> [bool; PLACES]
     [true; PLACES]
 }
 
-/// Whether the controller has nothing to do.
-fn is_idle(next: &Next) -> bool
-    ensures { IsTrue result → next.now ≡ Next.Idle }
+/// Whether the controller is known to have nothing to do after this turn: it had nothing to do, or its job ended and no other is
+/// there. In a reclaim second that is not known of one whose job ended.
+fn is_at_rest(controller: &Controller, next: &Next, now: u64, directory: &Directory) -> bool
+    requires { ListeningFits controller.now }
+    ensures { IsTrue result → (next.now ≡ Next.Idle) ⊎ IsAtRest controller.now.state }
 {
     match next {
         Next::Idle => true,
-        Next::Send { .. } | Next::End { .. } => false,
-        Next::Waiting { .. } | Next::Deaf { .. } | Next::Force => false,
+        Next::End { .. } => now >= directory.over_at && !controller.busy(now, directory),
+        Next::Send { .. } | Next::Waiting { .. } | Next::Deaf { .. } | Next::Force => false,
     }
 }

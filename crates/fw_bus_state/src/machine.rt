@@ -146,6 +146,8 @@ impl Machine {
     }
 
     /// Whether a living controller has something to do, or waits for an answer.
+    // Not inlined: it walks over all devices, and is rarely asked.
+    #[inline(never)]
     pub fn is_unsettled(&self) -> bool
         requires ready { IsReady self.now }
         ensures { (s : State) → IsGood s → StandsFor self.now s → result ≡ is_unsettled s }

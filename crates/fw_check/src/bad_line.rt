@@ -15,7 +15,7 @@ use crate::shown::{put_named_word, put_numbered, word_at};
 use crate::slip::{begins_with_byte, put_slip, slip_of};
 use crate::word_slip::{lowered, word_slip};
 use fw_log_names::put_word;
-use fw_script_command::{Keyword, Pieces, WordType, keyword_of};
+use fw_script_command::{Keyword, Pieces, Separator, WordType, keyword_of};
 use std::alloc::{AllocError, Global};
 
 // What a word too many may be.
@@ -94,7 +94,7 @@ fn misfit_of(keyword: Keyword, line: &[u8]) -> Option<Misfit>
     ensures value { result ≡ first_misfit 2 (types_of keyword) (after_first (pieces 32 line.now)) }
     ensures number { HasNumber result }
 {
-    let mut words = Pieces::new(line, b' ');
+    let mut words = Pieces::new(line, Separator::Space);
     let _ = words.next();
     first_misfit(keyword.types(), &mut words)
 }

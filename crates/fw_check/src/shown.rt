@@ -4,7 +4,7 @@ ghost use Rattle.std.specs.Prelude.{◌≡◌, ◌<◌, ◌+◌, ◌++◌, lengt
 ghost use Rattle.fw_check.specs.Shown.{headed, is_printable, named_word, quoted, shown, shown_byte, word_at};
 
 use fw_log_names::{put_number, put_word};
-use fw_script_command::Pieces;
+use fw_script_command::{Pieces, Separator};
 use std::alloc::AllocError;
 
 /// How many bytes of a line are shown.
@@ -91,7 +91,7 @@ pub(crate) fn word_at(line: &[u8], number: u8) -> &[u8]
     requires { 0 < number }
     ensures { result.now ≡ word_at line.now number }
 {
-    let mut words = Pieces::new(line, b' ');
+    let mut words = Pieces::new(line, Separator::Space);
     for _skipped in 1..number {
         let _ = words.next();
     }

@@ -6,7 +6,7 @@ ghost use Rattle.std.specs.Char.{is_ascii_digit};
 ghost use Rattle.fw_script_command.specs.Types.{fits};
 ghost use Rattle.fw_check.specs.WordSlips.{has_name, has_prefix, has_zero, is_hexadecimal, is_reserved, lower, lowered, word_slip, zeros};
 
-use fw_script_command::{Pieces, WordType, is_taken};
+use fw_script_command::{Pieces, Separator, WordType, is_taken};
 use std::alloc::{AllocError, Global};
 
 // The small letter for a capital.
@@ -42,7 +42,7 @@ fn is_hexadecimal(ty: WordType) -> bool
 fn is_reserved(word: &[u8]) -> bool
     ensures { result ≡ is_reserved word.now }
 {
-    match Pieces::new(word, b'.').next() {
+    match Pieces::new(word, Separator::FullStop).next() {
         Some(name) => is_taken(name),
         None => false,
     }

@@ -46,7 +46,7 @@ impl Current {
         ensures runs { CurrentRuns self.new }
     {
         if let Current::Asking(job, stage) = self {
-            *stage = job.hear(stage, r);
+            job.hear(stage, r);
         }
     }
 }

@@ -46,6 +46,12 @@ hear_reply j s r = if r.rcode == 0 then hear j s r.value else refuse j s r.rcode
 
 -- ---- groups of stages
 
+-- the stages that take units
+abbrev pub IsTakingUnits : Stage → Type 0
+IsTakingUnits (ReadBandwidth ch w) = ⊤
+IsTakingUnits (SwapBandwidth ch u arg w) = ⊤
+IsTakingUnits _ = ⊥
+
 -- the stages that join plugs
 abbrev pub IsJoining : Stage → Type 0
 IsJoining (ConnectOutput ch u arg) = ⊤

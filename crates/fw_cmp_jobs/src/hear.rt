@@ -1,7 +1,7 @@
 //! What follows the answer to a stage's request.
 
 ghost use Rattle.std.specs.Prelude.{◌≡◌};
-ghost use Rattle.fw_cmp_jobs.specs.Stages.{hear, refuse, hear_reply, IsJoining, IsLeaving, IsReleasing};
+ghost use Rattle.fw_cmp_jobs.specs.Stages.{hear, refuse, hear_reply, IsTakingUnits, IsJoining, IsLeaving, IsReleasing};
 ghost use Rattle.fw_cmp_jobs.specs.Fits.{JobFits, StageFits};
 
 use crate::output::overlaid_flow;
@@ -11,19 +11,19 @@ use crate::{Ending, HeldResources, Job, Stage};
 use fw_csr::Reply;
 
 impl Job {
-    /// The stage that follows an answer.
-    // Inlined, as `heard`: each second half step hears, and the stage is then not passed by memory.
+    /// The stage goes on to the one that follows an answer.
+    // Inlined, as `heard`: each second half step hears, and the stage is then written in its place.
     #[inline(always)]
-    pub fn hear(&self, stage: &Stage, r: &Reply) -> Stage
+    pub fn hear(&self, stage: &mut Stage, r: &Reply)
         requires job { JobFits self.now }
-        requires fits { StageFits self.now stage.now }
-        ensures value { result ≡ hear_reply self.now stage.now r.now }
-        ensures fits { StageFits self.now result }
+        requires fits { StageFits self.now stage.old }
+        ensures value { stage.new ≡ hear_reply self.now stage.old r.now }
+        ensures fits { StageFits self.now stage.new }
     {
         if r.is_complete() {
-            self.heard(stage, r.value)
+            self.heard(stage, r.value);
         } else {
-            self.refused(stage, r.rcode)
+            *stage = self.refused(stage, r.rcode);
         }
     }
 
@@ -39,33 +39,27 @@ impl Job {
         }
     }
 
-    /// The stage that follows a complete answer with this word. A swap has succeeded exactly if the word equals
-    /// its argument.
+    /// The stage goes on to the one that follows a complete answer with this word. A swap has succeeded exactly if the word
+    /// equals its argument.
+    // Each arm writes its stage itself, so that none is copied, and rarer stages are told apart in functions of their own.
     #[inline(always)]
-    fn heard(&self, stage: &Stage, word: u32) -> Stage
+    fn heard(&self, stage: &mut Stage, word: u32)
         requires job { JobFits self.now }
-        requires fits { StageFits self.now stage.now }
-        ensures value { result ≡ hear self.now stage.now word }
-        ensures fits { StageFits self.now result }
+        requires fits { StageFits self.now stage.old }
+        ensures value { stage.new ≡ hear self.now stage.old word }
+        ensures fits { StageFits self.now stage.new }
     {
         match *stage {
-            Stage::ReadOutput => self.decide_output(None, word),
-            Stage::ReadChannels(base, plug) => self.decide_channel(base, plug, word),
+            Stage::ReadOutput => *stage = self.decide_output(None, word),
+            Stage::ReadChannels(base, plug) => *stage = self.decide_channel(base, plug, word),
             Stage::SwapChannels(channel, arg, plug) => {
                 if word == arg {
-                    Stage::ReadBandwidth(channel, plug)
+                    *stage = Stage::ReadBandwidth(channel, plug);
                 } else {
-                    self.decide_channel(half_of(channel), plug, word)
+                    *stage = self.decide_channel(half_of(channel), plug, word);
                 }
             }
-            Stage::ReadBandwidth(channel, plug) => self.decide_units(channel, plug, word),
-            Stage::SwapBandwidth(channel, units, arg, plug) => {
-                if word == arg {
-                    Stage::ConnectOutput(channel, units, plug)
-                } else {
-                    self.decide_units(channel, plug, word)
-                }
-            }
+            Stage::ReadBandwidth(..) | Stage::SwapBandwidth(..) => self.heard_units(stage, word),
             Stage::ConnectOutput(..)
             | Stage::OverlayOutput(_)
             | Stage::ReadInput(_)
@@ -78,103 +72,125 @@ impl Job {
             | Stage::RaiseBandwidth(..)
             | Stage::ReadChannelsToRelease(..)
             | Stage::RestoreChannel(..) => self.heard_releasing(stage, word),
-            Stage::Begin | Stage::Made(_) | Stage::Ended(_) => *stage,
+            Stage::Begin | Stage::Made(_) | Stage::Ended(_) => {}
+        }
+    }
+
+    /// As `heard`, of a stage that takes units; any other stage stays as it is.
+    fn heard_units(&self, stage: &mut Stage, word: u32)
+        requires job { JobFits self.now }
+        requires fits { StageFits self.now stage.old }
+        ensures value { IsTakingUnits stage.old → stage.new ≡ hear self.now stage.old word }
+        ensures fits { StageFits self.now stage.new }
+    {
+        match *stage {
+            Stage::ReadBandwidth(channel, plug) => {
+                *stage = self.decide_units(channel, plug, word);
+            }
+            Stage::SwapBandwidth(channel, units, arg, plug) => {
+                if word == arg {
+                    *stage = Stage::ConnectOutput(channel, units, plug);
+                } else {
+                    *stage = self.decide_units(channel, plug, word);
+                }
+            }
+            _ => {}
         }
     }
 
     /// As `heard`, of a stage that joins plugs; any other stage stays as it is.
-    fn heard_joining(&self, stage: &Stage, word: u32) -> Stage
+    fn heard_joining(&self, stage: &mut Stage, word: u32)
         requires job { JobFits self.now }
-        requires fits { StageFits self.now stage.now }
-        ensures value { IsJoining stage.now → result ≡ hear self.now stage.now word }
-        ensures fits { StageFits self.now result }
+        requires fits { StageFits self.now stage.old }
+        ensures value { IsJoining stage.old → stage.new ≡ hear self.now stage.old word }
+        ensures fits { StageFits self.now stage.new }
     {
         match *stage {
             Stage::ConnectOutput(channel, units, arg) => {
                 if word == arg {
-                    self.output_joined(self.first_flow(channel, units))
+                    *stage = self.output_joined(self.first_flow(channel, units));
                 } else {
-                    self.decide_output(Some(HeldResources { channel, units }), word)
+                    *stage = self.decide_output(Some(HeldResources { channel, units }), word);
                 }
             }
             Stage::OverlayOutput(arg) => {
                 if word == arg {
-                    self.output_joined(overlaid_flow(arg))
+                    *stage = self.output_joined(overlaid_flow(arg));
                 } else {
-                    self.decide_output(None, word)
+                    *stage = self.decide_output(None, word);
                 }
             }
-            Stage::ReadInput(flow) => self.decide_input(flow, word),
+            Stage::ReadInput(flow) => *stage = self.decide_input(flow, word),
             Stage::ConnectInput(flow, arg) => {
                 if word == arg {
-                    Stage::Made(flow)
+                    *stage = Stage::Made(flow);
                 } else {
-                    self.decide_input(flow, word)
+                    *stage = self.decide_input(flow, word);
                 }
             }
-            _ => *stage,
+            _ => {}
         }
     }
 
     /// As `heard`, of a stage that leaves plugs; any other stage stays as it is.
-    fn heard_leaving(&self, stage: &Stage, word: u32) -> Stage
-        requires fits { StageFits self.now stage.now }
-        ensures value { IsLeaving stage.now → result ≡ hear self.now stage.now word }
-        ensures fits { StageFits self.now result }
+    fn heard_leaving(&self, stage: &mut Stage, word: u32)
+        requires fits { StageFits self.now stage.old }
+        ensures value { IsLeaving stage.old → stage.new ≡ hear self.now stage.old word }
+        ensures fits { StageFits self.now stage.new }
     {
         match *stage {
             Stage::ReadInputToLeave(channel, units) => {
-                self.decide_leave_input(channel, units, word)
+                *stage = self.decide_leave_input(channel, units, word);
             }
             Stage::LeaveInput(channel, units, arg) => {
                 if word == arg {
-                    self.input_left(channel, units)
+                    *stage = self.input_left(channel, units);
                 } else {
-                    self.decide_leave_input(channel, units, word)
+                    *stage = self.decide_leave_input(channel, units, word);
                 }
             }
             Stage::ReadOutputToLeave(ending, channel, units) => {
-                self.decide_leave_output(ending, channel, units, word)
+                *stage = self.decide_leave_output(ending, channel, units, word);
             }
             Stage::LeaveOutput(ending, channel, units, arg) => {
                 if word == arg {
-                    self.output_left(ending, channel, units, arg)
+                    *stage = self.output_left(ending, channel, units, arg);
                 } else {
-                    self.decide_leave_output(ending, channel, units, word)
+                    *stage = self.decide_leave_output(ending, channel, units, word);
                 }
             }
-            _ => *stage,
+            _ => {}
         }
     }
 
     /// As `heard`, of a stage that gives back units and the channel; any other stage stays as it is.
-    fn heard_releasing(&self, stage: &Stage, word: u32) -> Stage
-        requires fits { StageFits self.now stage.now }
-        ensures value { IsReleasing stage.now → result ≡ hear self.now stage.now word }
-        ensures fits { StageFits self.now result }
+    fn heard_releasing(&self, stage: &mut Stage, word: u32)
+        requires fits { StageFits self.now stage.old }
+        ensures value { IsReleasing stage.old → stage.new ≡ hear self.now stage.old word }
+        ensures fits { StageFits self.now stage.new }
     {
         match *stage {
             Stage::ReadBandwidthToRelease(next, channel, units) => {
-                decide_raise(next, channel, units, word)
+                *stage = decide_raise(next, channel, units, word);
             }
             Stage::RaiseBandwidth(next, channel, units, arg) => {
                 if word == arg {
-                    Stage::ReadChannelsToRelease(next, channel)
+                    *stage = Stage::ReadChannelsToRelease(next, channel);
                 } else {
-                    decide_raise(next, channel, units, word)
+                    *stage = decide_raise(next, channel, units, word);
                 }
             }
             Stage::ReadChannelsToRelease(next, channel) => {
-                Stage::RestoreChannel(next, channel, word)
+                *stage = Stage::RestoreChannel(next, channel, word);
             }
             Stage::RestoreChannel(next, channel, arg) => {
                 if word == arg {
-                    goes_on(next)
+                    *stage = goes_on(next);
                 } else {
-                    Stage::RestoreChannel(next, channel, word)
+                    *stage = Stage::RestoreChannel(next, channel, word);
                 }
             }
-            _ => *stage,
+            _ => {}
         }
     }
 }

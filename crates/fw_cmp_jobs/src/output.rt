@@ -101,6 +101,7 @@ impl Job {
     }
 
     /// What a word of the output plug means.
+    #[inline(always)]
     pub(crate) fn decide_output(&self, held: Option<HeldResources>, word: u32) -> Stage
         requires job { JobFits self.now }
         requires output { HasOutput self.now.connection }

@@ -7,7 +7,7 @@ ghost use Rattle.std.specs.Str.Parse.{digits_value};
 ghost use Rattle.fw_script_command.specs.Words.{is_decimal, number_in};
 ghost use Rattle.fw_explore_movers.specs.Words.{line_of_half_steps, may_follow, may_move, is_number, takes_steps};
 
-use fw_script_command::{Command, Pieces};
+use fw_script_command::{Command, Pieces, Separator};
 use std::alloc::{AllocError, Global};
 
 /// The most half steps that a word may say.
@@ -83,7 +83,7 @@ fn half_step(alloc: Global, prefix: &[u8], word: &[u8]) -> Result<Vec<u8>, Alloc
 pub(crate) fn half_step_line(alloc: Global, word: &[u8]) -> Result<Option<Vec<u8>>, AllocError>
     ensures { IfOk result (λ o. MatchOption o (line_of_half_steps word.now ≡ None) (λ v. line_of_half_steps word.now ≡ Some v.items)) }
 {
-    let mut pieces = Pieces::new(word, b' ');
+    let mut pieces = Pieces::new(word, Separator::Space);
     let Some(keyword) = pieces.next() else {
         return Ok(None);
     };

@@ -1,44 +1,56 @@
 //! All that is held, as text.
 
-ghost use Rattle.std.specs.Prelude.{◌≡◌, ◌<◌, ◌++◌, List, ℕ, OnOk, length};
+ghost use Rattle.std.specs.Prelude.{◌≡◌, ◌<◌, ◌≤◌, ◌+◌, ◌++◌, List, OnOk};
+ghost use Rattle.fw_log_entry.specs.declared.nodes.NodeRow.{NodeRow as ANode};
 ghost use Rattle.fw_model_account.specs.Account.{Account};
 ghost use Rattle.fw_account_tables.specs.Stands.{Stands, StandsFor};
-ghost use Rattle.fw_holders.specs.Held.{separator, with_holding, held_text};
+ghost use Rattle.fw_holders_text.specs.Lists.{channels_text, channel_at};
+ghost use Rattle.fw_holders_text.specs.Names.{nodes_of};
+ghost use Rattle.fw_holders.specs.Held.{with_holding, held_text};
 
-use crate::holding::{CHANNELS, next_taken, taken_on};
+use crate::holding::{end_of_taken, next_taken, taken_on};
 use fw_account_tables::Tables;
-use fw_holders_text::{HeldTexts, Holding};
-use fw_log_names::put_word;
+use fw_holders_text::{CHANNELS, HeldChannel, HeldTexts, Holding, no_channels};
 use std::alloc::AllocError;
 
-// Appends what stands before a channel, if the first stands at this byte.
-#[tactic(auto, unfolding(crate::specs::Held::separator))]
-fn put_separator(text: &mut Vec<u8>, from: usize) -> Result<(), AllocError>
-    ensures { (before held : List ℕ) → text.old.items ≡ before ++ held → length before ≡ from → OnOk result (text.new.items ≡ before ++ (held ++ separator held)) }
-{
-    put_word(text, if text.len() == from { ": " } else { ", " })
-}
-
-// Appends a channel, if it is held, if the first of those that are stands at this byte.
-fn put_next(
-    text: &mut Vec<u8>,
-    from: usize,
-    texts: &mut HeldTexts,
+// Takes a channel to the first `count` that are held, if it is held, and answers how many they are then.
+#[inline(always)]
+fn hold(
+    channels: &mut [HeldChannel; CHANNELS],
+    count: usize,
     channel: usize,
     held: Option<Holding>,
-) -> Result<(), AllocError>
+) -> usize
+    requires room { count < 64 }
     requires within { channel < 64 }
-    ensures same { texts.new ≡ texts.old }
-    ensures text { (before told : List ℕ) → text.old.items ≡ before ++ told → length before ≡ from
-        → OnOk result (text.new.items ≡ before ++ with_holding texts.old channel held told) }
+    ensures more { result ≤ count + 1 }
+    ensures text { (nodes : List ANode) → channels_text nodes (channel_at channels.new) result ≡ with_holding nodes channel held (channels_text nodes (channel_at channels.old) count) }
 {
-    match held {
-        Some(held) => {
-            put_separator(text, from)?;
-            texts.put(text, channel, held)
-        },
-        None => Ok(()),
+    let Some(held) = held else {
+        return count;
+    };
+    channels[count] = HeldChannel {
+        channel: channel as u8,
+        held,
+    };
+    count + 1
+}
+
+// The channels that are held, in order: how many they are.
+#[inline(always)]
+fn hold_all(channels: &mut [HeldChannel; CHANNELS], tables: &Tables) -> usize
+    requires stands { Stands tables.now }
+    ensures few { result ≤ 64 }
+    ensures text { (l : Account) → StandsFor tables.now l → channels_text (nodes_of l.latest) (channel_at channels.new) result ≡ held_text l }
+{
+    let mut count = 0;
+    let end = end_of_taken(tables);
+    let mut channel = next_taken(tables, 0, end);
+    while channel < CHANNELS {
+        count = hold(channels, count, channel, taken_on(tables, channel));
+        channel = next_taken(tables, channel + 1, end);
     }
+    count
 }
 
 /// Appends all channels that are held.
@@ -52,11 +64,7 @@ pub(crate) fn put_held(
     ensures same { texts.new ≡ texts.old }
     ensures text { (l : Account) → StandsFor tables.now l → OnOk result (text.new.items ≡ text.old.items ++ held_text l) }
 {
-    let from = text.len();
-    let mut channel = next_taken(tables, 0);
-    while channel < CHANNELS {
-        put_next(text, from, texts, channel, taken_on(tables, channel))?;
-        channel = next_taken(tables, channel + 1);
-    }
-    Ok(())
+    let mut channels = no_channels();
+    let count = hold_all(&mut channels, tables);
+    texts.put(text, &channels, count)
 }

@@ -20,7 +20,7 @@ ghost use Rattle.fw_holders.specs.Deeds.{event_told};
 ghost use Rattle.fw_holders.specs.Told.{Holds, Takes, holders, table_of};
 
 use crate::judged::Judged;
-use crate::lines::{is_told, put_answer, put_cycle, put_event, put_reset, put_rest};
+use crate::lines::{is_told, put_answer, put_event, put_reset, put_rest};
 use crate::table::put_table;
 use fw_audit::{AuditFault, take_entry, take_packet};
 use fw_holders_text::HeldTexts;
@@ -114,7 +114,7 @@ impl Holders {
         ensures { (l : Account) → StandsFor self.old.tables l → IfOk result (λ f. Takes l t.now self.old self.new f) }
     {
         let begins = self.text.len();
-        put_cycle(&mut self.text, t.cycle)?;
+        self.texts.put_cycle(&mut self.text, t.cycle)?;
         let from = self.text.len();
         put_event(&mut self.text, self.ledger.tables(), event)?;
         let taken = take_with_texts(&mut self.ledger, &mut self.texts, &t.what);

@@ -1,13 +1,15 @@
 //! What is held with a channel.
 
-ghost use Rattle.std.specs.Prelude.{◌≡◌, ◌<◌, ◌≤◌, ℕ, length, None, IsTrue};
-ghost use Rattle.fw_model_account.specs.Account.{Account};
+ghost use Rattle.std.specs.Prelude.{◌≡◌, ◌<◌, ◌≤◌, ◌-◌, ℕ, length, None, IsTrue};
+ghost use Rattle.std.specs.Int.{bit_at};
+ghost use Rattle.fw_model_account.specs.Account.{Account, is_open};
+ghost use Rattle.fw_plug.specs.Words.{flag};
 ghost use Rattle.fw_account_tables.specs.Stands.{Stands, StandsFor, place, continues_at, reclaimable_at, flow_of, charge_at, allocation_of};
 ghost use Rattle.fw_holders.specs.Held.{holding_of, holding, unallocated};
 
 use crate::place::{has_plug, place};
 use fw_account_tables::{Charge, Reclaimable, Tables};
-use fw_holders_text::{Holding, How};
+use fw_holders_text::{CHANNELS, Holding, How};
 use fw_terms::PlugAt;
 
 // The plug goes on talking, by the table of those that do.
@@ -75,8 +77,6 @@ fn allocated(charge: Charge) -> Option<Holding>
 }
 
 /// What is held with a channel, if it is held.
-// Not in line: else the test of a free channel becomes a branch of the match on what is charged.
-#[inline(never)]
 pub(crate) fn taken_on(tables: &Tables, channel: usize) -> Option<Holding>
     requires stands { Stands tables.now }
     requires within { channel < 64 }
@@ -87,9 +87,6 @@ pub(crate) fn taken_on(tables: &Tables, channel: usize) -> Option<Holding>
         None => unallocated(tables, channel),
     }
 }
-
-/// How many channels there are.
-pub(crate) const CHANNELS: usize = 64;
 
 // In the reclaim second: the first channel from this one on that is allocated, or on which a flow may be allocated again.
 fn next_reclaimed(tables: &Tables, from: usize) -> usize
@@ -109,11 +106,47 @@ fn next_reclaimed(tables: &Tables, from: usize) -> usize
     CHANNELS
 }
 
-/// The first channel from this one on with which something may be held; 64 if there is none. Most are free.
+// CHANNELS_AVAILABLE_HI in the upper 32 bits, LO in the lower: bit 63 - c is 1 if channel c is open.
 #[inline(always)]
-pub(crate) fn next_taken(tables: &Tables, from: usize) -> usize
+fn open_channels(tables: &Tables) -> u64
+    requires stands { Stands tables.now }
+    ensures { (l : Account) (ch : ℕ) → StandsFor tables.now l → ch < 64 → bit_at result (63 - ch) ≡ flag (is_open l.withheld l.allocations ch) }
+{
+    (u64::from(tables.high) << 32) + u64::from(tables.low)
+}
+
+// The channel after the last that is not open; 64 if all are.
+#[inline(always)]
+fn end_of_used(word: u64) -> usize
+    ensures within { result ≤ 64 }
+    ensures ones { (ch : ℕ) → result ≤ ch → ch < 64 → bit_at word (63 - ch) ≡ 1 }
+{
+    if word == u64::MAX {
+        return CHANNELS;
+    }
+    CHANNELS - word.trailing_ones() as usize
+}
+
+/// A channel from which on none is held. Most of the last channels are free.
+#[inline(always)]
+pub(crate) fn end_of_taken(tables: &Tables) -> usize
+    requires stands { Stands tables.now }
+    ensures within { result ≤ 64 }
+    ensures free { (l : Account) (ch : ℕ) → StandsFor tables.now l → result ≤ ch → ch < 64 → holding l ch ≡ None }
+{
+    if tables.reclaiming {
+        return CHANNELS;
+    }
+    end_of_used(open_channels(tables))
+}
+
+/// The first channel from this one on with which something may be held, if none is from `end` on; 64 if there is none. Most are free.
+#[inline(always)]
+pub(crate) fn next_taken(tables: &Tables, from: usize, end: usize) -> usize
     requires stands { Stands tables.now }
     requires within { from ≤ 64 }
+    requires end { end ≤ 64 }
+    requires free { (l : Account) (ch : ℕ) → StandsFor tables.now l → end ≤ ch → ch < 64 → holding l ch ≡ None }
     ensures after { from ≤ result }
     ensures within { result ≤ 64 }
     ensures free { (l : Account) (ch : ℕ) → StandsFor tables.now l → from ≤ ch → ch < result → holding l ch ≡ None }
@@ -121,7 +154,7 @@ pub(crate) fn next_taken(tables: &Tables, from: usize) -> usize
     if tables.reclaiming {
         return next_reclaimed(tables, from);
     }
-    for channel in from..CHANNELS {
+    for channel in from..end {
         if !matches!(tables.charges[channel], Charge::Free) {
             return channel;
         }

@@ -84,6 +84,7 @@ impl Judged {
     }
 
     /// An answer more.
+    #[inline(always)]
     pub(crate) fn take_answer(&mut self, answer: &Answer)
         ensures { (q : Request) (r : Response) (n : ℕ) → AskedFor answer.now.asked (Some q) → answer.now.rcode ≡ r.rcode → answer.now.shown ≡ r.word
             → n + 1 < 2 ^ 64 → IsWithin n self.old → self.new ≡ answer_judged (Some q) r self.old }

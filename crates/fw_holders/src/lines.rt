@@ -1,6 +1,6 @@
 //! The lines of entries.
 
-ghost use Rattle.std.specs.Prelude.{◌≡◌, ◌++◌, ◌+◌, List, ℕ, OnOk, Some, is_some, length, codes, decimal, slice_get, IsTrue};
+ghost use Rattle.std.specs.Prelude.{◌≡◌, ◌++◌, ◌+◌, List, ℕ, OnOk, Some, is_some, length, slice_get, IsTrue};
 ghost use Rattle.fw_model_account.specs.Account.{Account};
 ghost use Rattle.fw_account_tables.specs.Stands.{Stands, StandsFor};
 ghost use Rattle.fw_log_entry.specs.Network.{device_of_id};
@@ -8,7 +8,7 @@ ghost use Rattle.fw_model_account.specs.Packets.{answered};
 ghost use Rattle.fw_model_account.specs.Sound.{IsSound};
 ghost use Rattle.fw_model_audit.specs.Looked.{Response, Replies};
 ghost use Rattle.fw_ledger.specs.Refused.{IsAnswered};
-ghost use Rattle.fw_holders_text.specs.Names.{nodes_of, right};
+ghost use Rattle.fw_holders_text.specs.Names.{nodes_of};
 ghost use Rattle.fw_holders_text.specs.Deeds.{done_text};
 ghost use Rattle.fw_holders.specs.Found.{HasReply};
 ghost use Rattle.fw_holders.specs.Deeds.{event_told, initiator_text, manager_text, reset_text, packet_told};
@@ -18,27 +18,15 @@ use crate::death::put_death;
 use crate::held::put_held;
 use crate::moves::deed_of;
 use fw_account_tables::Tables;
-use fw_holders_text::{Deed, HeldTexts, fill, put_count, put_done, put_right, put_who};
+use fw_holders_text::{Deed, HeldTexts, fill, put_count, put_done, put_who};
 use fw_ledger::{Answer, Ledger};
 use fw_log_entry::codes::event::{DIED, SECOND_OVER, WITHHELD};
 use fw_log_entry::{EventEntry, ResetEntry};
 use fw_log_names::{put_number, put_word};
 use std::alloc::AllocError;
 
-/// How many columns the cycle has, what is told, and the units that are left.
-const CYCLE_WIDTH: usize = 8;
-
+/// How many columns what is told has.
 const WHAT_WIDTH: usize = 40;
-
-const UNITS_WIDTH: usize = 4;
-
-/// Appends the beginning of a line: the cycle of its entry.
-pub(crate) fn put_cycle(text: &mut Vec<u8>, cycle: u64) -> Result<(), AllocError>
-    ensures { OnOk result (text.new.items ≡ text.old.items ++ (right 8 (decimal cycle) ++ codes " ")) }
-{
-    put_right(text, cycle, CYCLE_WIDTH)?;
-    put_word(text, " ")
-}
 
 /// Appends the end of a line in which what is told begins at this byte: what is left and held after its entry.
 pub(crate) fn put_rest(
@@ -55,8 +43,7 @@ pub(crate) fn put_rest(
 {
     fill(text, from, WHAT_WIDTH)?;
     put_word(text, " ")?;
-    put_right(text, u64::from(tables.left), UNITS_WIDTH)?;
-    put_word(text, " left")?;
+    texts.put_left(text, u64::from(tables.left))?;
     put_held(text, tables, texts)?;
     put_word(text, "\n")
 }
@@ -111,7 +98,7 @@ pub(crate) fn put_reset(
     ensures same { texts.new ≡ texts.old }
     ensures text { (l : Account) → StandsFor tables.now l → OnOk result (text.new.items ≡ text.old.items ++ line cycle (reset_text r.now) l) }
 {
-    put_cycle(text, cycle)?;
+    texts.put_cycle(text, cycle)?;
     let from = text.len();
     put_bus_reset(text, r)?;
     put_rest(text, from, tables, texts)
@@ -155,7 +142,7 @@ fn put_done_line(
     ensures same { texts.new ≡ texts.old }
     ensures text { (k : Account) → StandsFor tables.now k → OnOk result (text.new.items ≡ text.old.items ++ line cycle (done_text (nodes_of k.latest) k.reclaiming controller deed) k) }
 {
-    put_cycle(text, cycle)?;
+    texts.put_cycle(text, cycle)?;
     let from = text.len();
     put_done(text, texts.nodes(), tables.reclaiming, controller, deed)?;
     put_rest(text, from, tables, texts)

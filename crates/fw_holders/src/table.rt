@@ -5,11 +5,11 @@ ghost use Rattle.fw_model_account.specs.Account.{Account};
 ghost use Rattle.fw_account_tables.specs.Stands.{Stands, StandsFor};
 ghost use Rattle.fw_holders.specs.Table.{how_word, units_words, by_text, channel_line, channel_lines, amount_text, judged_line, left_line, table_text};
 
-use crate::holding::{CHANNELS, taken_on};
+use crate::holding::taken_on;
 use crate::judged::Judged;
 use crate::plugs::put_plugs;
 use fw_account_tables::Tables;
-use fw_holders_text::{Holding, How, Side, put_count, put_plug, put_who};
+use fw_holders_text::{CHANNELS, Holding, How, Side, put_count, put_plug, put_who};
 use fw_log_entry::NodeRow;
 use fw_log_names::{put_number, put_word};
 use std::alloc::AllocError;

@@ -1,4 +1,5 @@
 pub mod Deeds
 pub mod Holdings
 pub mod Kept
+pub mod Lists
 pub mod Names

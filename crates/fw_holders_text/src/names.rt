@@ -38,7 +38,7 @@ pub fn fill(text: &mut Vec<u8>, from: usize, width: usize) -> Result<(), AllocEr
 
 /// Appends a number at the right end of a column.
 #[tactic(auto, unfolding(crate::specs::Names::right))]
-pub fn put_right(text: &mut Vec<u8>, number: u64, width: usize) -> Result<(), AllocError>
+pub(crate) fn put_right(text: &mut Vec<u8>, number: u64, width: usize) -> Result<(), AllocError>
     ensures { OnOk result (text.new.items ≡ text.old.items ++ right width (decimal number)) }
 {
     let mut buffer = Buffer::new();

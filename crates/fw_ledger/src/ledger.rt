@@ -92,6 +92,7 @@ impl Ledger {
 
     /// A request of the node with the ID `source`, for what `asked` says at an address of another: as `take_entry` takes the packet that
     /// asks it, with the label of procedures. If it is refused the ledger is unchanged. No memory is taken.
+    #[inline(always)]
     pub fn take_request(
         &mut self,
         source: u16,

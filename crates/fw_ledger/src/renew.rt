@@ -129,7 +129,8 @@ fn clear(seats: &mut Seats, was_there: bool, connected: bool)
     *seats = Seats::empty();
 }
 
-/// The words of all output plugs after a bus reset, whose their connections are, and which go on talking.
+/// The words of all output plugs after a bus reset, whose their connections are, and which go on talking. A plug that was there, and
+/// is silent, is left as it is, as most are.
 pub fn renew_outputs(
     words: &mut [u32],
     seats: &mut [Seats],
@@ -154,10 +155,14 @@ pub fn renew_outputs(
 {
     for device in 0..63 {
         let first = device * 31;
+        let had = usize::from(before[device]);
         for k in first..first + plugs_of(now, device) {
             let word = words[k];
-            let was_there = k - first < usize::from(before[device]);
+            let was_there = k - first < had;
             let connected = OutWord(word).is_connected();
+            if was_there && !connected && !continues[k] {
+                continue;
+            }
             words[k] = output_word(was_there, word, rates[device]);
             continues[k] = goes_on(was_there, connected, runs, continues[k]);
             clear(&mut seats[k], was_there, connected);
@@ -165,7 +170,7 @@ pub fn renew_outputs(
     }
 }
 
-/// The words of all input plugs after a bus reset, and whose their connections are.
+/// The words of all input plugs after a bus reset, and whose their connections are. A plug that was there and has none is left as it is.
 pub fn renew_inputs(words: &mut [u32], seats: &mut [Seats], before: &[u8; 63], now: &[u8; 63])
     requires words { length words.old ≡ 1953 }
     requires seats { length seats.old ≡ 1953 }
@@ -177,10 +182,14 @@ pub fn renew_inputs(words: &mut [u32], seats: &mut [Seats], before: &[u8; 63], n
 {
     for device in 0..63 {
         let first = device * 31;
+        let had = usize::from(before[device]);
         for k in first..first + plugs_of(now, device) {
             let word = words[k];
-            let was_there = k - first < usize::from(before[device]);
+            let was_there = k - first < had;
             let connected = OutWord(word).is_connected();
+            if !connected && was_there {
+                continue;
+            }
             words[k] = input_word(was_there, word);
             clear(&mut seats[k], was_there, connected);
         }

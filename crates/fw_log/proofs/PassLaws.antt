@@ -3,7 +3,7 @@ use Rattle.fw_log.specs.declared.first.Found.{Found}
 use Rattle.fw_log.proofs.Common.{◌≡◌, ℕ, ◌+◌, ◌-◌, ◌*◌, ◌≤◌, ◌<◌, List, [], ◌++◌, length, take, Bool, true, false, Option, Some, None, Ok, Result, refl, ap, sym, subst, ◌∙◌, arith, nat_tests, is_some}
 use Rattle.fw_log.proofs.Common.{body, epoch_after, Timed, IsBody, is_length, version_at, IsPending, State, HoldsPending, EndsEntry, Joins, Feeds, Position, LogFault, LogFed}
 use Rattle.fw_log_entry.specs.Log.{is_end}
-use Rattle.fw_log.specs.Passing.{IsPassed, IsPlain, IsPlainBody, IsFirst, HeadFirst, PassesFirst, BodyFirst, CountsUp, PassesOn, PassesBody}
+use Rattle.fw_log.specs.Passing.{IsPassed, IsPlain, IsPlainBody, IsAnnotationBody, IsFirst, HeadFirst, PassesFirst, BodyFirst, AnnotationFirst, CountsUp, PassesOn, PassesBody, PassesAnnotation}
 use Rattle.fw_log.specs.Reader.{after}
 use Rattle.fw_log.specs.History.{HasRead}
 use Rattle.fw_log.specs.declared.first_look.Passed.{Passed}
@@ -15,7 +15,7 @@ use Rattle.fw_log.proofs.FeedLaws.{pending_of}
 use Rattle.fw_log.proofs.FindLaws.{found_in, same_state, same_stand}
 use Rattle.fw_log.proofs.KeptLaws.{kept_entry}
 use Rattle.fw_log.proofs.HistoryLaws.{reads_on}
-use Rattle.fw_log.proofs.PlainHeadLaws.{not_end}
+use Rattle.fw_log.proofs.PlainHeadLaws.{not_end, annotation_goes_on}
 
 -- a reset has the quadlet of its epoch
 pub reset_long : (kind n : ℕ) (more : List ℕ) → length more ≡ 4 * n → is_length kind n ≡ true → kind ≡ 1 → 4 ≤ length more
@@ -31,6 +31,19 @@ passes_first s bytes given h first same plain =
       entry = record { cycle = h.passed.cycle; what = plain.entry };
       passed = plain.passed;
       first = first.first plain.entry (subst P same plain.is) (not_end plain.entry plain.passed);
+    }
+
+pub annotation_first : (s : Position) (bytes given : List ℕ) (kind : ℕ) (h : PlainHead) → HeadFirst s bytes h → given ≡ h.content → h.kind ≡ kind → IsAnnotationBody h.kind given
+    → AnnotationFirst s bytes kind h
+annotation_first s bytes given kind h first same is n =
+    let P : List ℕ → Type 0 = λ x. IsBody h.kind x n.entry in
+    let Q : ℕ → Type 0 = λ k. IsBody k h.content n.entry in
+    let body = subst P same n.is in
+    record {
+      entry = record { cycle = h.passed.cycle; what = n.entry };
+      is = subst Q is body;
+      annotation = n.annotation;
+      first = first.first n.entry body (annotation_goes_on n.entry n.annotation);
     }
 
 pub body_first : (s : Position) (bytes given : List ℕ) (h : PlainHead) (b : PlainBody) → HeadFirst s bytes h → given ≡ h.content → IsPlainBody h.kind given b
@@ -120,6 +133,17 @@ passes_body r new piece s all p x used f entries bytes h = record {
   entry = x.entry;
   cycle = x.first.cycle;
   made = x.made;
+  read = reads_on entries bytes piece r new (fed used x.entry) h f;
+}
+
+pub passes_annotation : (r new : State) (piece : List ℕ) (s : Position) (all : List ℕ) (kind : ℕ) (p : PlainHead) (x : AnnotationFirst s all kind p) (used : ℕ)
+    → Feeds r.stand r.taken piece (fed used x.entry) new → (entries : List Timed) (bytes : List ℕ) → HasRead entries bytes r
+    → PassesAnnotation entries (bytes ++ take used piece) new kind (record { used = used; cycle = p.passed.cycle; body = p.content })
+passes_annotation r new piece s all kind p x used f entries bytes h = record {
+  entry = x.entry;
+  cycle = x.first.cycle;
+  is = x.is;
+  annotation = x.annotation;
   read = reads_on entries bytes piece r new (fed used x.entry) h f;
 }
 

@@ -10,7 +10,7 @@ use Rattle.fw_log_entry.specs.declared.entry.EventEntry.{EventEntry}
 use Rattle.fw_log_entry.specs.declared.entry.OutcomeEntry.{OutcomeEntry}
 use Rattle.fw_log_entry.specs.declared.entry.ShownEntry.{ShownEntry}
 use Rattle.fw_log.specs.Plain.{IsReset}
-use Rattle.fw_log.specs.Passing.{IsPassed, IsPlain, IsPlainBody, IsPlainEpoch, IsFirst, HeadFirst}
+use Rattle.fw_log.specs.Passing.{IsPassed, IsPlain, IsAnnotation, IsAnnotationBody, IsPlainBody, IsPlainEpoch, IsFirst, HeadFirst}
 use Rattle.fw_log.specs.Reading.{is_own_epoch, HeadFits}
 use Rattle.fw_log.specs.Reader.{Ends, after}
 use Rattle.fw_log.specs.declared.plain.PlainBody.TheVariants as PlainBodies
@@ -25,20 +25,45 @@ plain_reset k bytes e h = record { entry = Reset h.reset; is = record { fits = h
 pub plain_async : (k : ℕ) (bytes : List ℕ) → k ≡ 2 → IsPacket bytes → IsPlain k bytes
 plain_async k bytes e h = record { entry = Async h.packet; is = record { fits = h.spells.fits; kind = sym e; same = h.spells.same }; passed = tt }
 
-pub plain_event : (k : ℕ) (bytes : List ℕ) (r : Option EventEntry)
-    → k ≡ 4 → IfSome r (λ o. EventFits o × (quads (event_quads o) ≡ bytes)) → IsSome r → IsPlain k bytes
-plain_event k bytes None e h some = cc some
-plain_event k bytes (Some o) e h some = record { entry = Event o; is = record { fits = h.0; kind = sym e; same = h.1 }; passed = tt }
+pub annotation_event : (k : ℕ) (bytes : List ℕ) (r : Option EventEntry)
+    → k ≡ 4 → IfSome r (λ o. EventFits o × (quads (event_quads o) ≡ bytes)) → IsSome r → IsAnnotationBody k bytes
+annotation_event k bytes None e h some = cc some
+annotation_event k bytes (Some o) e h some = record { entry = Event o; is = record { fits = h.0; kind = sym e; same = h.1 }; annotation = tt }
 
-pub plain_outcome : (k : ℕ) (bytes : List ℕ) (r : Option OutcomeEntry)
-    → k ≡ 5 → IfSome r (λ o. OutcomeFits o × (quads (outcome_quads o) ≡ bytes)) → IsSome r → IsPlain k bytes
-plain_outcome k bytes None e h some = cc some
-plain_outcome k bytes (Some o) e h some = record { entry = Outcome o; is = record { fits = h.0; kind = sym e; same = h.1 }; passed = tt }
+pub annotation_outcome : (k : ℕ) (bytes : List ℕ) (r : Option OutcomeEntry)
+    → k ≡ 5 → IfSome r (λ o. OutcomeFits o × (quads (outcome_quads o) ≡ bytes)) → IsSome r → IsAnnotationBody k bytes
+annotation_outcome k bytes None e h some = cc some
+annotation_outcome k bytes (Some o) e h some = record { entry = Outcome o; is = record { fits = h.0; kind = sym e; same = h.1 }; annotation = tt }
 
-pub plain_shown : (k : ℕ) (bytes : List ℕ) (r : Option ShownEntry)
-    → k ≡ 6 → IfSome r (λ o. ShownFits o × (quads (shown_quads o) ≡ bytes)) → IsSome r → IsPlain k bytes
-plain_shown k bytes None e h some = cc some
-plain_shown k bytes (Some o) e h some = record { entry = Shown o; is = record { fits = h.0; kind = sym e; same = h.1 }; passed = tt }
+pub annotation_shown : (k : ℕ) (bytes : List ℕ) (r : Option ShownEntry)
+    → k ≡ 6 → IfSome r (λ o. ShownFits o × (quads (shown_quads o) ≡ bytes)) → IsSome r → IsAnnotationBody k bytes
+annotation_shown k bytes None e h some = cc some
+annotation_shown k bytes (Some o) e h some = record { entry = Shown o; is = record { fits = h.0; kind = sym e; same = h.1 }; annotation = tt }
+
+pub not_end : (e : Entry) → IsPassed e → is_end e ≡ false
+not_end (Reset r) h = refl
+not_end (Async p) h = refl
+not_end (Iso p) h = absurd h
+not_end (Event e) h = refl
+not_end (Outcome o) h = refl
+not_end (Shown s) h = refl
+not_end End h = absurd h
+
+-- an annotation may be passed over
+passed_annotation : (e : Entry) → IsAnnotation e → IsPassed e
+passed_annotation (Reset r) h = absurd h
+passed_annotation (Async p) h = absurd h
+passed_annotation (Iso p) h = absurd h
+passed_annotation (Event e) h = tt
+passed_annotation (Outcome o) h = tt
+passed_annotation (Shown s) h = tt
+passed_annotation End h = absurd h
+
+pub plain_annotation : (k : ℕ) (bytes : List ℕ) → IsAnnotationBody k bytes → IsPlain k bytes
+plain_annotation k bytes h = record { entry = h.entry; is = h.is; passed = passed_annotation h.entry h.annotation }
+
+pub annotation_goes_on : (e : Entry) → IsAnnotation e → is_end e ≡ false
+annotation_goes_on e h = not_end e (passed_annotation e h)
 
 -- the epoch after an entry that is passed over, which its head has
 record PlainEpoch (v : Version) (epoch : ℕ) (e : List ℕ) (what : Entry) (n : ℕ) : Type 0 where
@@ -90,15 +115,6 @@ body_iso k bytes given p e fits same g = record {
   goes_on = refl;
   made = (p, refl, fits, same ∙ sym g);
 }
-
-pub not_end : (e : Entry) → IsPassed e → is_end e ≡ false
-not_end (Reset r) h = refl
-not_end (Async p) h = refl
-not_end (Iso p) h = absurd h
-not_end (Event e) h = refl
-not_end (Outcome o) h = refl
-not_end (Shown s) h = refl
-not_end End h = absurd h
 
 -- the entry that a whole prefix of bytes is
 is_first : (v : Version) (s : Position) (bytes e more : List ℕ) (n cycle epoch : ℕ) (what : Entry) → AreBytes bytes → Ends s bytes (Ok (Some n))

@@ -74,7 +74,7 @@ manager_node m count h = by (m == 255) h
     by true h = tt
     by false h = less m count h
 
-quad_back : (bytes : List ℕ) (at : ℕ) → AreBytes bytes → at + 4 ≤ length bytes → to_be_bytes w32 (quadlet_at bytes at) ≡ take 4 (drop at bytes)
+pub quad_back : (bytes : List ℕ) (at : ℕ) → AreBytes bytes → at + 4 ≤ length bytes → to_be_bytes w32 (quadlet_at bytes at) ≡ take 4 (drop at bytes)
 quad_back bytes at fit enough = be_bytes_4 (take 4 (drop at bytes)) (quadlet_at bytes at) (grind (arith, common_steps)) (are_bytes_part bytes 4 at fit) refl
 
 -- how many nodes there are

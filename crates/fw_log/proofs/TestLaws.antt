@@ -1,5 +1,5 @@
 -- What tests say that were passed.
-use Rattle.fw_log.proofs.Common.{◌≡◌, ℕ, ◌≤◌, ◌<◌, ◌==◌, ◌&&◌, nat_le, nat_lt, Bool, true, false, arith, refl, if◌then◌else◌, nat_tests}
+use Rattle.fw_log.proofs.Common.{◌≡◌, ℕ, ◌<◌, ◌==◌, ◌&&◌, nat_lt, Bool, true, false, arith, refl, if◌then◌else◌, nat_tests}
 pub use Rattle.fw_async.proofs.TestLaws.{equal, at_most, Both, both, either}
 
 pub equals : (a b : ℕ) → a ≡ b → (a == b) ≡ true

@@ -22,6 +22,7 @@ use Rattle.fw_log.specs.declared.first_look.PlainEntry.{PlainEntry}
 use Rattle.fw_log.specs.declared.plain.PlainBody.{PlainBody}
 use Rattle.fw_log.specs.declared.plain.PlainBody.TheVariants as PlainBodies
 use Rattle.fw_log.specs.declared.passing.PassedBody.{PassedBody}
+use Rattle.fw_log.specs.declared.annotation.PassedAnnotation.{PassedAnnotation}
 
 -- an entry that may be passed over: it is of no stream, and others may follow
 abbrev pub IsPassed : Entry → Type 0
@@ -38,6 +39,22 @@ pub record IsPlain (kind : ℕ) (bytes : List ℕ) : Type 0 where
   pub entry : Entry
   pub is : IsBody kind bytes entry
   pub passed : IsPassed entry
+
+-- an annotation: an entry that is no traffic, no bus reset and not the end
+abbrev pub IsAnnotation : Entry → Type 0
+IsAnnotation (Reset r) = ⊥
+IsAnnotation (Async p) = ⊥
+IsAnnotation (Iso p) = ⊥
+IsAnnotation (Event e) = Unit {0}
+IsAnnotation (Outcome o) = Unit {0}
+IsAnnotation (Shown s) = Unit {0}
+IsAnnotation End = ⊥
+
+-- the bytes are the body of some annotation of this kind
+pub record IsAnnotationBody (kind : ℕ) (bytes : List ℕ) : Type 0 where
+  pub entry : Entry
+  pub is : IsBody kind bytes entry
+  pub annotation : IsAnnotation entry
 
 -- the epoch of a reset, which its body begins with and its head has, or that of the latest before another entry
 abbrev pub IsPlainEpoch : Version → ℕ → List ℕ → List ℕ → ℕ → Type 0
@@ -100,4 +117,19 @@ pub record PassesBody (entries : List Timed) (bytes : List ℕ) (new : State) (p
   pub entry : Timed
   pub cycle : entry.cycle ≡ p.cycle
   pub made : HasBody p.body entry.what
+  pub read : HasRead (entries ++ entry ∷ []) bytes new
+
+-- the bytes begin with some annotation of this kind, which has the body after the head
+pub record AnnotationFirst (s : Position) (bytes : List ℕ) (kind : ℕ) (h : PlainHead) : Type 0 where
+  pub entry : Timed
+  pub is : IsBody kind h.content entry.what
+  pub annotation : IsAnnotation entry.what
+  pub first : IsFirst s bytes entry h.passed
+
+-- one annotation more was read, of this kind, this cycle and with the bytes of this body
+pub record PassesAnnotation (entries : List Timed) (bytes : List ℕ) (new : State) (kind : ℕ) (p : PassedAnnotation) : Type 0 where
+  pub entry : Timed
+  pub cycle : entry.cycle ≡ p.cycle
+  pub is : IsBody kind p.body entry.what
+  pub annotation : IsAnnotation entry.what
   pub read : HasRead (entries ++ entry ∷ []) bytes new

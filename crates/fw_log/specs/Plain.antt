@@ -1,6 +1,6 @@
 -- Bodies that are right at the first look.
 use Rattle.std.specs.Prelude.{◌≡◌, ℕ, zero, suc, ◌+◌, ◌*◌, ◌≤◌, ◌==◌, ◌||◌, ◌&&◌, nat_lt}
-use Rattle.std.specs.Prelude.{List, ◌∷◌, Bool, Option, Some, None, length, IsTrue}
+use Rattle.std.specs.Prelude.{List, ◌∷◌, Bool, Option, Some, None, drop, length, IsTrue}
 use Rattle.fw_words.specs.Quadlet.{field}
 use Rattle.fw_phy.specs.Phy.{Fits as PhyFits, quadlet_of}
 use Rattle.fw_phy.specs.declared.packet.PhyPacket.{PhyPacket}
@@ -40,3 +40,9 @@ pub record IsReset (bytes : List ℕ) : Type 0 where
   pub reset : ResetEntry
   pub fits : ResetFits reset
   pub same : body (Reset reset) ≡ bytes
+
+-- after the epoch, of four bytes, the body of some reset is these bytes
+pub record EndsReset (later : List ℕ) : Type 0 where
+  pub reset : ResetEntry
+  pub fits : ResetFits reset
+  pub same : drop 4 (body (Reset reset)) ≡ later

@@ -6,7 +6,7 @@ ghost use Rattle.fw_log.specs.Reading.{is_kind, is_length, has_epoch, head_fault
 ghost use Rattle.fw_log_entry.specs.Log.{head_size};
 
 use crate::Version;
-use crate::log_position::{LogPosition, cycle_of, length_of, need};
+use crate::log_position::{LogPosition, cycle_of, entry_need, length_of};
 use crate::read_head::is_epoch;
 use fw_log_entry::codes;
 
@@ -71,12 +71,15 @@ pub(crate) fn end_by_head(stand: LogPosition, bytes: &[u8]) -> Option<usize>
 pub(crate) fn is_part(stand: LogPosition, bytes: &[u8]) -> bool
     ensures { IsTrue result → IsPending (position stand) bytes.now }
 {
+    let LogPosition::Entries { version, .. } = stand else {
+        return false;
+    };
     // Of an entry that is whole the head need not be looked at.
-    if bytes.len() >= need(stand, bytes) {
+    if bytes.len() >= entry_need(version, bytes) {
         return false;
     }
     match end_by_head(stand, bytes) {
-        Some(_) => true,
+        Some(end) => bytes.len() < end,
         None => false,
     }
 }

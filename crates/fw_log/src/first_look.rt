@@ -4,12 +4,13 @@ ghost use Rattle.std.specs.Prelude.{◌≡◌, ◌≤◌, length, slice_index, I
 ghost use Rattle.fw_log.specs.Stands.{position};
 ghost use Rattle.fw_log_entry.specs.Log.{head_size};
 ghost use Rattle.fw_log.specs.Reader.{Finds};
-ghost use Rattle.fw_log.specs.Passing.{BodyFirst, HeadFirst, IsPlainEpoch, PassesFirst};
+ghost use Rattle.fw_log.specs.Passing.{BodyFirst, HeadFirst, IsPlainEpoch, AnnotationFirst, PassesFirst};
 
 use crate::first::Found;
 use crate::log_position::{EPOCH_AT, LogPosition, cycle_of, rest, skip, version_at};
-use crate::plain::{PlainBody, is_plain_body, plain_body};
+use crate::plain::{PlainBody, is_annotation_body, is_plain_body, plain_body};
 use crate::read_head::whole_end;
+use crate::right_body::RightBody;
 use crate::{Entry, Timed, Version};
 use fw_async::{is_plain_packet, whole_packet};
 use fw_log_entry::codes::kind;
@@ -111,23 +112,47 @@ pub struct PlainEntry<'a> {
 
 /// The body of the entry that the bytes begin with, if that is a packet's or a bus reset's, whole and right at the first look.
 #[inline(always)]
-pub(crate) fn plain_bodied<'a>(stand: LogPosition, bytes: &'a [u8]) -> Option<PlainEntry<'a>>
+pub(crate) fn plain_bodied<'a>(
+    stand: LogPosition,
+    bytes: &'a [u8],
+    latest: &mut RightBody,
+) -> Option<PlainEntry<'a>>
     ensures { IfSome result (BodyFirst (position stand) bytes.now) }
 {
     let head = plain_head(stand, bytes)?;
-    let body = plain_body(head.kind, head.content.as_slice())?;
+    let body = plain_body(head.kind, head.content.as_slice(), latest)?;
     Some(PlainEntry {
         passed: head.passed,
         body,
     })
 }
 
+/// The head of the entry that the bytes begin with, if it is an event, an outcome or a register that was shown, of this kind, whole and
+/// right at the first look.
+pub(crate) fn plain_annotation<'a>(
+    stand: LogPosition,
+    bytes: &'a [u8],
+    kind: u8,
+) -> Option<PlainHead<'a>>
+    ensures { IfSome result (AnnotationFirst (position stand) bytes.now kind) }
+{
+    let head = plain_head(stand, bytes)?;
+    if head.kind != kind || !is_annotation_body(head.kind, head.content.as_slice()) {
+        return None;
+    }
+    Some(head)
+}
+
 /// The entry that the bytes begin with, if it is whole and right at the first look, and may be passed over.
-pub(crate) fn plain_entry(stand: LogPosition, bytes: &[u8]) -> Option<Passed>
+pub(crate) fn plain_entry(
+    stand: LogPosition,
+    bytes: &[u8],
+    latest: &mut RightBody,
+) -> Option<Passed>
     ensures { IfSome result (PassesFirst (position stand) bytes.now) }
 {
     let head = plain_head(stand, bytes)?;
-    if !is_plain_body(head.kind, head.content.as_slice()) {
+    if !is_plain_body(head.kind, head.content.as_slice(), latest) {
         return None;
     }
     Some(head.passed)

@@ -2,6 +2,7 @@
 //! written stands in fw_log_entry; those names of it that a user of logs needs are here too.
 #![tactic(auto)]
 
+mod annotation;
 mod apart;
 mod ending;
 mod extent;
@@ -17,9 +18,11 @@ mod read;
 mod read_body;
 mod read_head;
 mod read_reset;
+mod right_body;
 mod room;
 mod version;
 
+pub use annotation::PassedAnnotation;
 pub use first_look::{Passed, PlainEntry};
 use fw_async::PacketFault;
 use fw_cip::IsoFault;

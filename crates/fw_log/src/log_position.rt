@@ -91,7 +91,8 @@ pub(crate) fn cycle_of(version: Version, e: &[u8]) -> u64
     requires { head_size version ≤ length e.now }
     ensures { result ≡ cycle_of version e.now }
 {
-    match e[version.head_size() - CYCLE..].first_chunk::<8>() {
+    let end = version.head_size();
+    match e[end - CYCLE..end].first_chunk::<CYCLE>() {
         Some(eight) => u64::from_be_bytes(*eight),
         None => unreachable!(),
     }
@@ -128,7 +129,8 @@ pub(crate) fn skip(stand: LogPosition) -> usize
     }
 }
 
-fn entry_need(version: Version, e: &[u8]) -> usize
+/// How many bytes an entry takes at least, by what is there of it.
+pub(crate) fn entry_need(version: Version, e: &[u8]) -> usize
     ensures { result ≡ entry_need version e.now }
 {
     if e.len() < LENGTH_END {

@@ -30,8 +30,8 @@ pub struct PassedBody<'a> {
     pub body: PlainBody<'a>,
 }
 
-// Where a reader stands after an entry that ends at this place and is not the end.
-fn going_on(place: u64, last: u64, version: Version, epoch: u32) -> LogPosition
+/// Where a reader stands after an entry that ends at this place and is not the end.
+pub(crate) fn going_on(place: u64, last: u64, version: Version, epoch: u32) -> LogPosition
     requires { 0 < place }
     ensures { position result ≡ record { start = place; last = last; ended = false; version = version; epoch = epoch } }
 {
@@ -77,7 +77,7 @@ impl LogReader {
             cycle,
             version,
             epoch,
-        } = plain_entry(self.stand, bytes)?;
+        } = plain_entry(self.stand, bytes, &mut room.latest)?;
         let used = end - self.taken.as_slice().len();
         self.stand = going_on(self.stand.start() + end as u64, cycle, version, epoch);
         self.taken.clear();
@@ -98,7 +98,7 @@ impl LogReader {
             return None;
         }
         let bytes = at_hand(self.stand, self.taken.as_slice(), piece, &mut room.bytes);
-        plain_bodied(self.stand, bytes)
+        plain_bodied(self.stand, bytes, &mut room.latest)
     }
 
     /// Takes the bytes of a piece up to the end of the entry that comes next, and answers how many.

@@ -5,10 +5,10 @@
 
 ghost use Rattle.std.specs.Prelude.{ℕ, ◌≡◌, ◌*◌, IsTrue, IfSome, length, true};
 ghost use Rattle.fw_log.specs.Reading.{is_kind, is_length};
-ghost use Rattle.fw_log.specs.Passing.{IsPlain, IsPlainBody};
+ghost use Rattle.fw_log.specs.Passing.{IsPlain, IsPlainBody, IsAnnotationBody};
 
-use crate::plain_reset::is_plain_reset;
 use crate::read_body::{event_of, outcome_of, shown_of};
+use crate::right_body::RightBody;
 use fw_async::is_plain_packet;
 use fw_cip::read_iso;
 use fw_log_entry::codes::kind;
@@ -25,16 +25,20 @@ pub enum PlainBody<'a> {
     Reset(Data<'a>),
 }
 
-/// The body of a packet or a bus reset, if it is right at the first look.
+/// The body of a packet or a bus reset, if it is right at the first look, or as that of the latest bus reset.
 #[inline(always)]
-pub(crate) fn plain_body<'a>(kind: u8, bytes: &'a [u8]) -> Option<PlainBody<'a>>
+pub(crate) fn plain_body<'a>(
+    kind: u8,
+    bytes: &'a [u8],
+    latest: &mut RightBody,
+) -> Option<PlainBody<'a>>
     requires kind { is_kind kind 0 ≡ true }
     requires size { (n : ℕ) × (length bytes.now ≡ 4 * n) × (is_length kind n ≡ true) }
     ensures { IfSome result (IsPlainBody kind bytes.now) }
 {
     match kind {
         kind::RESET => {
-            if !is_plain_reset(bytes) {
+            if !latest.is_right(bytes) {
                 return None;
             }
             Some(PlainBody::Reset(Data::new(bytes)))
@@ -53,18 +57,29 @@ pub(crate) fn plain_body<'a>(kind: u8, bytes: &'a [u8]) -> Option<PlainBody<'a>>
     }
 }
 
+/// Whether the body is that of an event, an outcome or a register that was shown, right at the first look.
+pub(crate) fn is_annotation_body(kind: u8, body: &[u8]) -> bool
+    requires kind { is_kind kind 0 ≡ true }
+    requires size { (n : ℕ) × (length body.now ≡ 4 * n) × (is_length kind n ≡ true) }
+    ensures { IsTrue result → IsAnnotationBody kind body.now }
+{
+    match kind {
+        kind::EVENT => event_of(body).is_some(),
+        kind::OUTCOME => outcome_of(body).is_some(),
+        kind::SHOWN => shown_of(body).is_some(),
+        _ => false,
+    }
+}
+
 /// Whether the body is that of an entry of its kind, right at the first look, which is no isochronous packet and not the end.
-pub(crate) fn is_plain_body(kind: u8, body: &[u8]) -> bool
+pub(crate) fn is_plain_body(kind: u8, body: &[u8], latest: &mut RightBody) -> bool
     requires kind { is_kind kind 0 ≡ true }
     requires size { (n : ℕ) × (length body.now ≡ 4 * n) × (is_length kind n ≡ true) }
     ensures { IsTrue result → IsPlain kind body.now }
 {
     match kind {
-        kind::RESET => is_plain_reset(body),
+        kind::RESET => latest.is_right(body),
         kind::ASYNC => is_plain_packet(body),
-        kind::EVENT => event_of(body).is_some(),
-        kind::OUTCOME => outcome_of(body).is_some(),
-        kind::SHOWN => shown_of(body).is_some(),
-        _ => false,
+        _ => is_annotation_body(kind, body),
     }
 }

@@ -144,19 +144,6 @@ fn header_fault(bytes: &[u8]) -> Option<LogFault>
     None
 }
 
-// The first byte after the end, which stands at this place.
-fn after_end(place: u64, bytes: &[u8]) -> Option<LogFault>
-    ensures { result ≡ (if length bytes.now == 0 then None else Some (fault_at place LogWhy.AfterEnd)) }
-{
-    if bytes.is_empty() {
-        return None;
-    }
-    Some(LogFault {
-        place,
-        why: LogWhy::AfterEnd,
-    })
-}
-
 /// Where the entry ends that the bytes begin with, after others, if all of it is there and the parts before its body are
 /// right.
 #[inline(always)]
@@ -189,6 +176,14 @@ pub(crate) fn head_fault(stand: LogPosition, bytes: &[u8]) -> Option<LogFault>
             version,
             epoch,
         } => { entry_fault(version, epoch, past.get(), last, bytes) }
-        LogPosition::Ended { past, .. } => after_end(past.get(), bytes),
+        LogPosition::Ended { past, .. } => {
+            if bytes.is_empty() {
+                return None;
+            }
+            Some(LogFault {
+                place: past.get(),
+                why: LogWhy::AfterEnd,
+            })
+        }
     }
 }

@@ -1,13 +1,16 @@
 use crate::held::SplitEntry;
+use crate::right_body::RightBody;
 use crate::{NodeList, ResetEntry};
 use fw_phy::SelfIds;
 use std::alloc::{AllocError, Global};
 
-/// Memory for what an entry refers to that a reader gives: a reset, and the bytes of an entry that came in pieces.
+/// Memory for what an entry refers to that a reader gives: a reset, and the bytes of an entry that came in pieces; and the body of the latest bus
+/// reset that was found right, since the next is mostly the same.
 #[derive(Drop)]
 pub struct ReadBuffers {
     pub(crate) bytes: Box<SplitEntry>,
     pub(crate) reset: Box<ResetEntry>,
+    pub(crate) latest: RightBody,
 }
 
 impl ReadBuffers {
@@ -16,6 +19,7 @@ impl ReadBuffers {
         Ok(ReadBuffers {
             bytes: Box::new(alloc, SplitEntry::new())?,
             reset: Box::new(alloc, no_reset())?,
+            latest: RightBody::new(),
         })
     }
 }

@@ -1,7 +1,7 @@
 //! The latest bus reset of a log: mostly the next one tells the same, but for its epoch, and then it need not be read again.
 #![tactic(auto)]
 
-ghost use Rattle.std.specs.Prelude.{◌≡◌, ◌&&◌, IfOk, IsFalse, IsTrue, OnErr, OnOk, false, true};
+ghost use Rattle.std.specs.Prelude.{◌≡◌, ◌&&◌, IfOk, IsFalse, IsTrue, OnErr, OnOk, drop, false, true};
 ghost use Rattle.fw_log_entry.specs.Log.{ResetFits, body};
 ghost use Rattle.fw_log_entry.specs.declared.entry.Entry.TheVariants.{Reset};
 ghost use Rattle.fw_log_entry.specs.declared.entry.ResetEntry.{ResetEntry as AReset};
@@ -74,7 +74,8 @@ impl LatestReset {
 
     // These bytes stand after the epoch in the body of the one that is kept.
     fn has(&self, later: &[u8]) -> bool
-        ensures { IsTrue result → (self.now.is_kept ≡ true) × ResetFits self.now.entry × (later_bytes self.now.entry ≡ later.now) }
+        ensures kept { IsTrue result → (self.now.is_kept ≡ true) × ResetFits self.now.entry × (later_bytes self.now.entry ≡ later.now) }
+        ensures found { self.now.is_kept ≡ true → later_bytes self.now.entry ≡ later.now → IsTrue result }
     {
         self.is_kept && self.later.as_slice() == later
     }
@@ -84,6 +85,7 @@ impl LatestReset {
     pub fn renew(&mut self, bytes: &[u8]) -> bool
         requires { (r : AReset) × ResetFits r × (body (Reset r) ≡ bytes.now) }
         ensures renewed { IsTrue result → (r : AReset) → ResetFits r → body (Reset r) ≡ bytes.now → self.new ≡ record { is_kept = true; entry = r } }
+        ensures found { self.old.is_kept ≡ true → later_bytes self.old.entry ≡ drop 4 bytes.now → IsTrue result }
         ensures same { IsFalse result → self.new ≡ self.old }
     {
         if !self.has(&bytes[EPOCH_SIZE..]) {

@@ -1,10 +1,12 @@
 -- What a verdict says of an entry that is passed.
-use Rattle.std.proofs.Common.{◌≡◌, ℕ, ◌+◌, List, [], ◌∷◌, ◌++◌, length, None, arith, sym, subst, ◌∙◌, length-append}
+use Rattle.std.proofs.Common.{◌≡◌, ℕ, ◌+◌, List, [], ◌∷◌, ◌++◌, length, None, arith, refl, sym, subst, ◌∙◌, length-append}
 use Rattle.fw_model_account.specs.Fold.{entries_of}
 use Rattle.fw_audit.specs.Found.{Found, IsPassedOver}
-use Rattle.fw_audit.proofs.Audits.{passed_found}
+use Rattle.fw_audit.proofs.Audits.{other_clear, passed_found}
 use Rattle.fw_audit.specs.declared.audit.Audit.{Audit}
+use Rattle.fw_log_entry.specs.Log.{kind_of}
 use Rattle.fw_log_entry.specs.declared.entry.Entry.{Entry}
+use Rattle.fw_log_entry.specs.declared.entry.Entry.TheVariants.{Reset, Async, Iso, Event, Outcome, Shown, End}
 use Rattle.fw_log_entry.specs.declared.entry.Timed.{Timed}
 use Rattle.fw_log_reports.specs.Verdicts.{Audits, entries_more}
 use Rattle.fw_log_reports.specs.declared.verdict.Verdict.{Verdict}
@@ -26,3 +28,13 @@ taken_audits v audit count entries t h fresh found counts = record {
   sound = fresh ∙ h.sound;
   found = subst (λ (es : List Entry). Found es audit None) (sym (entries_more entries (t ∷ []))) found;
 }
+
+-- no audit looks at the outcome of a command
+pub outcome_passed : (e : Entry) → kind_of e ≡ 5 → IsPassedOver e
+outcome_passed (Outcome o) is = λ l. (refl, other_clear l)
+outcome_passed (Reset r) is = cc is
+outcome_passed (Async p) is = cc is
+outcome_passed (Iso p) is = cc is
+outcome_passed (Event e) is = cc is
+outcome_passed (Shown s) is = cc is
+outcome_passed End is = cc is

@@ -1,5 +1,5 @@
 -- The last bus reset of entries, one after another.
-use Rattle.std.proofs.Common.{◌≡◌, ℕ, Bool, true, false, List, [], ◌∷◌, ◌++◌, Option, Some, None, Result, Ok, Err, refl, ap, sym, ◌∙◌}
+use Rattle.std.proofs.Common.{◌≡◌, ℕ, Bool, true, false, List, [], ◌∷◌, ◌++◌, Option, Some, None, Result, Ok, Err, refl, ap, sym, subst, ◌∙◌}
 use Rattle.std.proofs.lemmas.Bool.{false≢true}
 use Rattle.std.specs.Result.{OnOk}
 use Rattle.fw_log_entry.specs.declared.entry.Entry.{Entry}
@@ -7,7 +7,7 @@ use Rattle.fw_log_entry.specs.declared.entry.Entry.TheVariants.{Reset, Async, Is
 use Rattle.fw_log_entry.specs.declared.entry.ResetEntry.{ResetEntry}
 use Rattle.fw_log_entry.specs.declared.entry.Timed.{Timed}
 use Rattle.fw_log_entry.specs.Log.{ResetFits, body}
-use Rattle.fw_log.specs.Passing.{HasBody}
+use Rattle.fw_log.specs.Passing.{HasBody, IsAnnotation}
 use Rattle.fw_log.specs.declared.plain.PlainBody.{PlainBody}
 use Rattle.fw_log.specs.declared.plain.PlainBody.TheVariants as Bodies
 use Rattle.fw_log_reports.specs.Trees.{reset_or, last_from, last_reset, KeepsLast}
@@ -46,6 +46,10 @@ pub no_reset_body : (b : PlainBody) (w : Entry) → HasBody b w → ((bytes : Li
 no_reset_body (Bodies.Packet bytes) w h other e is = cc (h.1, is)
 no_reset_body (Bodies.Iso bytes) w h other e is = cc (h.1, is)
 no_reset_body (Bodies.Reset bytes) w h other e is = other bytes refl
+
+-- and an annotation is none
+pub no_reset_annotation : (w : Entry) → IsAnnotation w → (e : ResetEntry) → w ≡ Reset e → ⊥
+no_reset_annotation w h e is = subst IsAnnotation is h
 
 -- ---- the same of a call that may fail
 

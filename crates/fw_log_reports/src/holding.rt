@@ -1,6 +1,6 @@
 //! `holders`: who holds what, each time that it changes, and at the log's end.
 
-ghost use Rattle.std.specs.Prelude.{◌≡◌, ◌+◌, ◌<◌, ◌^◌, [], List, length, IfOk, IsTrue, IsFalse};
+ghost use Rattle.std.specs.Prelude.{◌≡◌, ◌+◌, ◌<◌, ◌^◌, ◌++◌, ℕ, [], List, length, take, None, IfNone, IfOk, IfSome, IsTrue, IsFalse};
 ghost use Rattle.fw_async.specs.Reader.{IsPacket, Spells};
 ghost use Rattle.fw_async.specs.declared.packet.Packet.{Packet as APacket};
 ghost use Rattle.fw_log_entry.specs.Log.{ResetFits, body};
@@ -8,8 +8,11 @@ ghost use Rattle.fw_log_entry.specs.declared.entry.Entry.{Entry as AnEntry};
 ghost use Rattle.fw_log_entry.specs.declared.entry.Entry.TheVariants.{Async, Reset};
 ghost use Rattle.fw_log_entry.specs.declared.entry.ResetEntry.{ResetEntry as AReset};
 ghost use Rattle.fw_log_entry.specs.declared.entry.Timed.{Timed as TimedEntry};
-ghost use Rattle.fw_log.specs.Passing.{HasBody};
+ghost use Rattle.fw_log.specs.History.{HasRead};
+ghost use Rattle.fw_log.specs.Passing.{CountsUp, HasBody};
+ghost use Rattle.fw_log.specs.Reader.{total};
 ghost use Rattle.fw_log_loop.specs.Endings.{ReadsLog};
+ghost use Rattle.fw_log_loop.specs.Readings.{Passes};
 ghost use Rattle.fw_log_reports.specs.Holdings.{holders_form, holders_rules, Takes, TakesText};
 ghost use Rattle.fw_log_text.specs.Resets.{IsResetBody};
 
@@ -19,6 +22,7 @@ use crate::whole_reset::no_reset;
 use crate::{LogRefusal, Unsound};
 use fw_holders::Holders;
 use fw_log::{LogReader, PlainBody, ReadBuffers, Timed};
+use fw_log_entry::codes::kind;
 use fw_log_loop::{Closing, LogEnding, Reading, Stop, read_log};
 use fw_outside::{Failed, Sink, Source};
 use std::alloc::{AllocError, Global};
@@ -92,6 +96,29 @@ impl Holding {
             PlainBody::Iso(_) => Ok(false),
         }
     }
+
+    // Takes the entry that ends in a piece if it is the outcome of a command, which no audit looks at and which has no line.
+    fn take_outcome(
+        &mut self,
+        kind: Option<u8>,
+        reader: &mut LogReader,
+        room: &mut ReadBuffers,
+        piece: &[u8],
+    ) -> Option<usize>
+        requires { total reader.old + length piece.now < 2 ^ 64 }
+        ensures kept { IfNone result ((reader.new ≡ reader.old) × (self.new ≡ self.old)) }
+        ensures fresh { IfSome result (λ n. reader.new.fault ≡ None) }
+        ensures counts { IfSome result (CountsUp reader.old piece.now reader.new) }
+        ensures history { (entries : List TimedEntry) → (bytes : List ℕ) → HasRead entries bytes reader.old → Takes self.old entries
+            → IfSome result (λ n. Passes holders_form.text (Takes self.new) self.old.holders.text self.new.holders.text entries (bytes ++ take n piece.now) reader.new) }
+    {
+        if kind != Some(kind::OUTCOME) {
+            return None;
+        }
+        let annotation = reader.pass_annotation(kind::OUTCOME, piece, room)?;
+        self.count = self.count.saturating_add(1);
+        Some(annotation.used)
+    }
 }
 
 impl Reading for Holding {
@@ -131,8 +158,9 @@ impl Reading for Holding {
         room: &mut ReadBuffers,
         piece: &[u8],
     ) -> Result<Option<usize>, AllocError> {
-        if !may_pass(reader.next_kind(piece)) {
-            return Ok(None);
+        let kind = reader.next_kind(piece);
+        if !may_pass(kind) {
+            return Ok(self.take_outcome(kind, reader, room, piece));
         }
         let Some(next) = reader.next_body(piece, room) else {
             return Ok(None);

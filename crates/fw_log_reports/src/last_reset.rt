@@ -69,6 +69,25 @@ impl LastReset {
         }
     }
 
+    // Takes the annotation that ends in a piece: it changes nothing.
+    fn take_annotation(
+        &self,
+        reader: &mut LogReader,
+        room: &mut ReadBuffers,
+        piece: &[u8],
+    ) -> Option<usize>
+        requires { total reader.old + length piece.now < 2 ^ 64 }
+        ensures kept { IfNone result (reader.new ≡ reader.old) }
+        ensures fresh { IfSome result (λ n. reader.new.fault ≡ None) }
+        ensures counts { IfSome result (CountsUp reader.old piece.now reader.new) }
+        ensures history { (entries : List TimedEntry) → (bytes : List ℕ) → HasRead entries bytes reader.old → KeepsLast entries self.now.there self.now.body.items
+            → IfSome result (λ n. Passes silent_form.text (λ es. KeepsLast es self.now.there self.now.body.items) [] [] entries (bytes ++ take n piece.now) reader.new) }
+    {
+        let kind = reader.next_kind(piece)?;
+        let annotation = reader.pass_annotation(kind, piece, room)?;
+        Some(annotation.used)
+    }
+
     /// Takes the entry that ends in a piece from its bytes, if it has a body of a usual form, as `Reading::pass` says.
     #[inline(always)]
     pub(crate) fn take_raw(
@@ -85,7 +104,7 @@ impl LastReset {
             → IfOk result (λ used. IfSome used (λ n. Passes silent_form.text (λ es. KeepsLast es self.new.there self.new.body.items) [] [] entries (bytes ++ take n piece.now) reader.new)) }
     {
         let Some(passed) = reader.pass_body(piece, room) else {
-            return Ok(None);
+            return Ok(self.take_annotation(reader, room, piece));
         };
         self.take_body(&passed.body)?;
         Ok(Some(passed.used))

@@ -1,6 +1,6 @@
 //! `audit`: whether the registers of a log ran as a sound account.
 
-ghost use Rattle.std.specs.Prelude.{◌≡◌, ◌+◌, ◌<◌, ◌^◌, ◌++◌, ◌∷◌, [], List, length, IfOk, IsTrue, IsFalse, string_bytes};
+ghost use Rattle.std.specs.Prelude.{◌≡◌, ◌+◌, ◌<◌, ◌^◌, ◌++◌, ◌∷◌, ℕ, [], List, length, take, None, IfNone, IfOk, IfSome, IsTrue, IsFalse, string_bytes};
 ghost use Rattle.fw_async.specs.Reader.{IsPacket, Spells};
 ghost use Rattle.fw_async.specs.declared.packet.Packet.{Packet as APacket};
 ghost use Rattle.fw_log_entry.specs.Log.{Fits, ResetFits, body};
@@ -8,8 +8,11 @@ ghost use Rattle.fw_log_entry.specs.declared.entry.Entry.{Entry as AnEntry};
 ghost use Rattle.fw_log_entry.specs.declared.entry.Entry.TheVariants.{Async, Reset};
 ghost use Rattle.fw_log_entry.specs.declared.entry.ResetEntry.{ResetEntry as AReset};
 ghost use Rattle.fw_log_entry.specs.declared.entry.Timed.{Timed as TimedEntry};
-ghost use Rattle.fw_log.specs.Passing.{HasBody};
+ghost use Rattle.fw_log.specs.History.{HasRead};
+ghost use Rattle.fw_log.specs.Passing.{CountsUp, HasBody};
+ghost use Rattle.fw_log.specs.Reader.{total};
 ghost use Rattle.fw_log_loop.specs.Endings.{ReadsLog};
+ghost use Rattle.fw_log_loop.specs.Readings.{Passes};
 ghost use Rattle.fw_log_reports.specs.Texts.{silent_form, count_text};
 ghost use Rattle.fw_log_reports.specs.Verdicts.{audit_rules, Audits, Judges};
 ghost use Rattle.fw_log_text.specs.Resets.{IsResetBody};
@@ -20,6 +23,7 @@ use crate::whole_reset::no_reset;
 use crate::{LogRefusal, Unsound};
 use fw_audit::Audit;
 use fw_log::{LogReader, PlainBody, ReadBuffers, Timed};
+use fw_log_entry::codes::kind;
 use fw_log_loop::{Closing, LogEnding, Reading, Stop, read_log};
 use fw_outside::{Failed, Sink, Source};
 use std::alloc::{AllocError, Global};
@@ -119,6 +123,29 @@ impl Verdict {
             PlainBody::Iso(_) => false,
         }
     }
+
+    // Takes the entry that ends in a piece if it is the outcome of a command, which no audit looks at.
+    fn take_outcome(
+        &mut self,
+        kind: Option<u8>,
+        reader: &mut LogReader,
+        room: &mut ReadBuffers,
+        piece: &[u8],
+    ) -> Option<usize>
+        requires { total reader.old + length piece.now < 2 ^ 64 }
+        ensures kept { IfNone result ((reader.new ≡ reader.old) × (self.new ≡ self.old)) }
+        ensures fresh { IfSome result (λ n. reader.new.fault ≡ None) }
+        ensures counts { IfSome result (CountsUp reader.old piece.now reader.new) }
+        ensures history { (entries : List TimedEntry) → (bytes : List ℕ) → HasRead entries bytes reader.old → Audits self.old entries
+            → IfSome result (λ n. Passes silent_form.text (Audits self.new) [] [] entries (bytes ++ take n piece.now) reader.new) }
+    {
+        if kind != Some(kind::OUTCOME) {
+            return None;
+        }
+        let annotation = reader.pass_annotation(kind::OUTCOME, piece, room)?;
+        self.count = self.count.saturating_add(1);
+        Some(annotation.used)
+    }
 }
 
 impl Reading for Verdict {
@@ -150,8 +177,9 @@ impl Reading for Verdict {
         room: &mut ReadBuffers,
         piece: &[u8],
     ) -> Result<Option<usize>, AllocError> {
-        if !may_pass(reader.next_kind(piece)) {
-            return Ok(None);
+        let kind = reader.next_kind(piece);
+        if !may_pass(kind) {
+            return Ok(self.take_outcome(kind, reader, room, piece));
         }
         let Some(next) = reader.next_body(piece, room) else {
             return Ok(None);

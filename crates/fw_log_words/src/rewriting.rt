@@ -1,11 +1,15 @@
 //! `convert`: a log that is written again in a version, as its entries end.
 
-ghost use Rattle.std.specs.Prelude.{◌≡◌, ◌≤◌, ◌<◌, ◌/◌, ◌++◌, [], length, take, None, IfOk, OnOk};
-ghost use Rattle.fw_log_entry.specs.Log.{Fits, body, epoch_after, entry_bytes, entry_head};
+ghost use Rattle.std.specs.Prelude.{◌≡◌, ◌≤◌, ◌<◌, ◌+◌, ◌/◌, ◌^◌, ◌++◌, ℕ, [], List, length, take, None, IfNone, IfOk, IfSome, OnOk};
+ghost use Rattle.fw_log_entry.specs.Log.{Fits, body, epoch_after, latest_epoch, entry_bytes, entry_head};
 ghost use Rattle.fw_log_entry.specs.declared.entry.Entry.{Entry};
 ghost use Rattle.fw_log_entry.specs.declared.version.Version.TheVariants.{One, Two};
-ghost use Rattle.fw_log.specs.Passing.{HasBody};
+ghost use Rattle.fw_log_entry.specs.declared.entry.Timed.{Timed as TimedEntry};
+ghost use Rattle.fw_log.specs.History.{HasRead};
+ghost use Rattle.fw_log.specs.Passing.{CountsUp, HasBody};
+ghost use Rattle.fw_log.specs.Reader.{total};
 ghost use Rattle.fw_log_loop.specs.Endings.{ReadsLog};
+ghost use Rattle.fw_log_loop.specs.Readings.{Passes};
 ghost use Rattle.fw_log_reports.specs.Texts.{nothing};
 ghost use Rattle.fw_log_words.specs.Texts.{log_form};
 ghost use Rattle.fw_log_reports.specs.Silences.{never_refused};
@@ -127,6 +131,32 @@ impl Rewriting {
             }
         }
     }
+
+    // Copies the annotation that ends in a piece, as `Reading::take_raw` says. Not in line: such entries are few beside packets.
+    #[inline(never)]
+    fn copy_annotation(
+        &mut self,
+        reader: &mut LogReader,
+        room: &mut ReadBuffers,
+        piece: &[u8],
+    ) -> Result<Option<usize>, AllocError>
+        requires { total reader.old + length piece.now < 2 ^ 64 }
+        ensures version { self.new.version ≡ self.old.version }
+        ensures kept { IfOk result (λ used. IfNone used ((reader.new ≡ reader.old) × (self.new ≡ self.old))) }
+        ensures fresh { IfOk result (λ used. IfSome used (λ n. reader.new.fault ≡ None)) }
+        ensures counts { IfOk result (λ used. IfSome used (CountsUp reader.old piece.now reader.new)) }
+        ensures history { (entries : List TimedEntry) → (bytes : List ℕ) → HasRead entries bytes reader.old → self.old.epoch ≡ latest_epoch 0 entries
+            → IfOk result (λ used. IfSome used (λ n. Passes (log_form self.old.version).text (λ es. self.new.epoch ≡ latest_epoch 0 es) self.old.bytes self.new.bytes entries (bytes ++ take n piece.now) reader.new)) }
+    {
+        let Some(kind) = reader.next_kind(piece) else {
+            return Ok(None);
+        };
+        let Some(annotation) = reader.pass_annotation(kind, piece, room) else {
+            return Ok(None);
+        };
+        self.copy(kind, annotation.cycle, annotation.body.as_slice())?;
+        Ok(Some(annotation.used))
+    }
 }
 
 impl Reading for Rewriting {
@@ -153,7 +183,7 @@ impl Reading for Rewriting {
         Ok(None)
     }
 
-    // Between versions only the head of an entry changes: the body of a packet or a bus reset of a usual form is copied.
+    // Between versions only the head of an entry changes: a body of a usual form is copied.
     fn take_raw(
         &mut self,
         reader: &mut LogReader,
@@ -161,7 +191,7 @@ impl Reading for Rewriting {
         piece: &[u8],
     ) -> Result<Option<usize>, AllocError> {
         let Some(passed) = reader.pass_body(piece, room) else {
-            return Ok(None);
+            return self.copy_annotation(reader, room, piece);
         };
         self.put_body(passed.cycle, &passed.body)?;
         Ok(Some(passed.used))

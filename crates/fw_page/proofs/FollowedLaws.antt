@@ -50,6 +50,7 @@ follow_shown st old new e stops moves is stays b s h = subst (λ (p : Progress).
   painted = h.painted;
   edge = h.edge;
   blank = h.blank;
+  row_end = h.row_end;
   counts = h.counts;
   drawn = drawn_is old.is_moved moves st.followed.account (follow st.number e st.followed).account st.lives st.nodes (painted_of st) old.nodes.items stays h.drawn;
 })

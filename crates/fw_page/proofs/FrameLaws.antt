@@ -45,6 +45,7 @@ last_shown st old new cycle e h = subst (λ (p : Progress). Shows (record st { l
   painted = h.painted;
   edge = h.edge;
   blank = h.blank;
+  row_end = h.row_end;
   counts = h.counts;
   drawn = h.drawn;
 })
@@ -67,6 +68,7 @@ begun_shown st old new b e h = subst (λ (p : Progress). Shows (record st { begu
   painted = h.painted;
   edge = h.edge;
   blank = h.blank;
+  row_end = h.row_end;
   counts = h.counts;
   drawn = h.drawn;
 })
@@ -89,6 +91,7 @@ due_shown st old new b e h = subst (λ (p : Progress). Shows (record st { is_due
   painted = h.painted;
   edge = h.edge;
   blank = h.blank;
+  row_end = h.row_end;
   counts = h.counts;
   drawn = h.drawn;
 })
@@ -111,6 +114,7 @@ number_shown st old new n m e k h = subst (λ (p : Progress). Shows (record st {
   painted = h.painted;
   edge = h.edge;
   blank = h.blank;
+  row_end = h.row_end;
   counts = h.counts;
   drawn = h.drawn;
 })
@@ -133,6 +137,7 @@ counts_shown st old new n m e k h = subst (λ (p : Progress). Shows (record st {
   painted = h.painted;
   edge = h.edge;
   blank = h.blank;
+  row_end = h.row_end;
   counts = k;
   drawn = h.drawn;
 })
@@ -155,6 +160,7 @@ nothing_shown st old new e h = subst (λ (p : Progress). Shows (record st { held
   painted = h.painted;
   edge = h.edge;
   blank = h.blank;
+  row_end = h.row_end;
   counts = h.counts;
   drawn = h.drawn;
 })
@@ -178,6 +184,7 @@ standing_shown st old new list e k b h = subst (λ (p : Progress). Shows (record
   painted = h.painted;
   edge = h.edge;
   blank = h.blank;
+  row_end = h.row_end;
   counts = h.counts;
   drawn = h.drawn;
 })
@@ -202,6 +209,7 @@ asked_shown st old new cycle number asked q p e same k h = subst (λ (x : Progre
   painted = h.painted;
   edge = h.edge;
   blank = h.blank;
+  row_end = h.row_end;
   counts = h.counts;
   drawn = h.drawn;
 })
@@ -224,6 +232,7 @@ run_shown st old new run e k h = subst (λ (p : Progress). Shows (record st { he
   painted = h.painted;
   edge = h.edge;
   blank = h.blank;
+  row_end = h.row_end;
   counts = h.counts;
   drawn = h.drawn;
 })

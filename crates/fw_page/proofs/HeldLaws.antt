@@ -68,6 +68,7 @@ taken_shown st old new take is k h = subst (λ (p : Progress). Shows (held_run t
   painted = h.painted;
   edge = h.edge;
   blank = h.blank;
+  row_end = h.row_end;
   counts = h.counts;
   drawn = h.drawn;
 })

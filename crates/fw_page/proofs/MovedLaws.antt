@@ -20,6 +20,7 @@ lines_shown st old new lines e k h = subst (λ (p : Progress). Shows (record st 
   painted = h.painted;
   edge = h.edge;
   blank = h.blank;
+  row_end = h.row_end;
   counts = h.counts;
   drawn = h.drawn;
 })
@@ -42,6 +43,7 @@ second_shown st old new b e h = subst (λ (p : Progress). Shows (record st { sec
   painted = h.painted;
   edge = h.edge;
   blank = h.blank;
+  row_end = h.row_end;
   counts = h.counts;
   drawn = tt;
 })
@@ -64,6 +66,7 @@ lives_shown st old new lives now e k h = subst (λ (p : Progress). Shows (record
   painted = h.painted;
   edge = h.edge;
   blank = h.blank;
+  row_end = h.row_end;
   counts = h.counts;
   drawn = tt;
 })
@@ -86,6 +89,7 @@ moved_shown st old new e h = subst (λ (p : Progress). Shows (st) p) (sym e) (re
   painted = h.painted;
   edge = h.edge;
   blank = h.blank;
+  row_end = h.row_end;
   counts = h.counts;
   drawn = tt;
 })

@@ -63,6 +63,7 @@ counted_shown st old new b c n m is second counts h = subst (λ (p : Progress). 
   painted = h.painted;
   edge = h.edge;
   blank = h.blank;
+  row_end = h.row_end;
   counts = counts;
   drawn = h.drawn;
 })
@@ -93,6 +94,7 @@ reset_shown st old new columns rows lives is same none bars hear h = subst (λ (
   painted = h.painted;
   edge = h.edge;
   blank = h.blank;
+  row_end = h.row_end;
   counts = h.counts;
   drawn = tt;
 })
@@ -157,6 +159,7 @@ died_alone st old new device _ is lives which none h = subst (λ (p : Progress).
   painted = h.painted;
   edge = h.edge;
   blank = h.blank;
+  row_end = h.row_end;
   counts = h.counts;
   drawn = tt;
 })
@@ -181,6 +184,7 @@ died_known st old new device o node is lives which some gave bars h = subst (λ 
   painted = h.painted;
   edge = h.edge;
   blank = h.blank;
+  row_end = h.row_end;
   counts = h.counts;
   drawn = tt;
 })

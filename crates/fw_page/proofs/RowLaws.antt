@@ -1,12 +1,15 @@
 -- A row: its text, and what it leaves.
-use Rattle.fw_page.proofs.Common.{◌≡◌, ℕ, not, Bool, true, false, List, [], ◌++◌, codes, Option, refl, ap, subst, sym, ◌∙◌, is_some, Account, NodeRow, Lives, Painted, Progress, State, row, Prefix}
+use Rattle.fw_page.proofs.Common.{◌≡◌, ℕ, not, Bool, true, false, List, [], ◌++◌, codes, Option, Some, None}
+use Rattle.fw_page.proofs.Common.{refl, ap, subst, sym, ◌∙◌, is_some, Account, NodeRow, Lives, Painted, Progress, State, row, Prefix}
 use Rattle.fw_page.proofs.Common.{Shows, painted_of}
 use Rattle.fw_page_marks.specs.Shapes.{halves}
 use Rattle.fw_page_scene.specs.Bars.{BarsFor}
 use Rattle.fw_page_scene.specs.Lines.{nodes_text}
 use Rattle.fw_page_section.proofs.ChainLaws.{six}
 use Rattle.fw_page_strip.specs.Drawing.{StaysAs, painted}
-use Rattle.fw_page.specs.Rows.{lines_now, strip_text, row_text, drawn_now}
+use Rattle.fw_page_strip.proofs.StripLaws.{still_text}
+use Rattle.std.proofs.lemmas.List.{append-nil}
+use Rattle.fw_page.specs.Rows.{strip_opening, lines_now, strip_text, row_text, drawn_now}
 use Rattle.fw_page_content.specs.Heads.{head_text}
 use Rattle.fw_page.specs.Sheets.{IsDrawn, StayNodes, Draws, IsDrawnNow}
 
@@ -25,6 +28,47 @@ pub strip_stays : (moved : Bool) (lives : Lives) (l : Option Account) (rows : Li
     → StaysAs moved now l
 strip_stays true lives l rows left now nodes e d = tt
 strip_stays false lives l rows left now nodes e d = e ∙ d.1
+
+-- how a row ends
+end_of : {a b : Bool} {c d : List ℕ} → a ≡ b → c ≡ d → strip_opening a ++ c ++ codes "</svg></li>\n" ≡ strip_opening b ++ d ++ codes "</svg></li>\n"
+end_of e f = cc
+
+-- a row of the strip that the last one left ends as that did
+pub still_drawn : (st : State) (old : Progress) (none : Bool) → old.is_moved ≡ false → none ≡ old.blank → none ≡ not (is_some st.followed.account) → Shows st old
+    → (old.row_end.items ≡ strip_text None st) × IsDrawnNow st old old
+still_drawn st old none off same is h =
+    let left = unmoved old.is_moved off h.drawn in
+    let b : st.drawn.blank ≡ not (is_some st.followed.account) = sym h.blank ∙ (sym same ∙ is) in (
+      h.row_end ∙ end_of b (sym (append-nil st.drawn.lanes) ∙ still_text (painted_of st) st.followed.account None left),
+      record {
+        strip_is = h.painted ∙ left;
+        blank_is = sym same ∙ is;
+        end_is = h.row_end ∙ end_of b (ap (λ (p : Painted). p.lanes) left);
+        rest = refl;
+      },
+    )
+  where
+    unmoved : (moved : Bool) → moved ≡ false → IsDrawn moved st.lives st.followed.account st.nodes (painted_of st) old.nodes.items → painted_of st ≡ painted st.followed.account
+    unmoved true e d = absurd (let z : ⊥ = cc in z)
+    unmoved false e d = d.1
+
+-- there is none
+pub none_so : {A : Type 0} (o : Option A) → is_some o ≡ false → o ≡ None
+none_so None e = refl
+none_so (Some x) e = absurd (let z : ⊥ = cc in z)
+
+-- the strip is drawn, and how rows end that draw it again
+pub end_drawn : (st : State) (old new : Progress) (strip : Painted) (none : Bool) → new ≡ record old { strip = strip; blank = none; row_end = new.row_end } → strip ≡ painted st.followed.account
+    → none ≡ not (is_some st.followed.account) → new.row_end.items ≡ strip_opening none ++ strip.lanes ++ codes "</svg></li>\n" → IsDrawnNow st old new
+end_drawn st old new strip none is painting blank end =
+    let s : new.strip ≡ strip = ap (λ (p : Progress). p.strip) is in
+    let b : new.blank ≡ none = ap (λ (p : Progress). p.blank) is in
+    record {
+      strip_is = s ∙ painting;
+      blank_is = b ∙ blank;
+      end_is = end ∙ end_of blank (ap (λ (p : Painted). p.lanes) painting);
+      rest = is ∙ (λ i. record old { strip = (sym s) i; blank = (sym b) i; row_end = new.row_end });
+    }
 
 -- what is drawn of the nodes now
 drawn_anew : (moved : Bool) (lives : Lives) (l : Option Account) (rows : List NodeRow) (left : Painted) (nodes now : List ℕ) → now ≡ nodes_text lives l rows → IsDrawn moved lives l rows left nodes
@@ -51,6 +95,7 @@ nodes_shown st old new is e b h = subst (λ (p : Progress). Shows st p) (sym is)
   painted = h.painted;
   edge = h.edge;
   blank = h.blank;
+  row_end = h.row_end;
   counts = h.counts;
   drawn = drawn_anew old.is_moved st.lives st.followed.account st.nodes (painted_of st) old.nodes.items new.nodes.items e h.drawn;
 })
@@ -59,7 +104,7 @@ nodes_shown st old new is e b h = subst (λ (p : Progress). Shows st p) (sym is)
 
 -- what it leaves
 pub row_left : (st : State) (old drawn painting new : Progress) (lines : List ℕ) → Draws st old drawn lines → IsDrawnNow st drawn painting
-    → new ≡ record painting { lines = new.lines; edge = painting.second; blank = not (is_some st.followed.account); is_moved = false } → new.lines.items ≡ lines → Shows (drawn_now st) new
+    → new ≡ record painting { lines = new.lines; edge = painting.second; is_moved = false } → new.lines.items ≡ lines → Shows (drawn_now st) new
 row_left st old drawn painting new lines d p is l = subst (λ (x : Progress). Shows (drawn_now st) x) (sym whole) (record {
   number = h.number;
   last = h.last;
@@ -75,7 +120,8 @@ row_left st old drawn painting new lines d p is l = subst (λ (x : Progress). Sh
   lines = l ∙ d.lines_are;
   painted = p.strip_is;
   edge = h.second;
-  blank = refl;
+  blank = p.blank_is;
+  row_end = p.end_is;
   counts = h.counts;
   drawn = (d.nodes_are, refl);
 })
@@ -83,8 +129,8 @@ row_left st old drawn painting new lines d p is l = subst (λ (x : Progress). Sh
     h : Shows st drawn
     h = d.shows
 
-    whole : new ≡ record drawn { strip = painting.strip; lines = new.lines; edge = drawn.second; blank = not (is_some st.followed.account); is_moved = false }
-    whole = is ∙ ap (λ (x : Progress). record x { lines = new.lines; edge = x.second; blank = not (is_some st.followed.account); is_moved = false }) p.rest
+    whole : new ≡ record drawn { strip = painting.strip; blank = painting.blank; row_end = painting.row_end; lines = new.lines; edge = drawn.second; is_moved = false }
+    whole = is ∙ ap (λ (x : Progress). record x { lines = new.lines; edge = x.second; is_moved = false }) p.rest
 
 -- its text
 pub row_said : (st : State) (old drawn : Progress) (prefix : Prefix) (marks words lines : List ℕ) (dot : Option ℕ) (t t1 t2 t3 t4 t5 t6 : List ℕ) → Shows st old → Draws st old drawn lines

@@ -1,5 +1,6 @@
 -- For which state the progress of a sheet stands, and what methods do (own).
-use Rattle.std.specs.Prelude.{◌≡◌, ℕ, ◌++◌, Bool, true, false, List, Option}
+use Rattle.std.specs.Prelude.{◌≡◌, ℕ, ◌++◌, not, Bool, true, false, List, Option}
+use Rattle.std.specs.Option.{is_some}
 use Rattle.fw_async.specs.Reader.{Spells}
 use Rattle.fw_log_entry.specs.declared.nodes.NodeRow.{NodeRow}
 use Rattle.fw_model_account.specs.Account.{Account}
@@ -14,7 +15,7 @@ use Rattle.fw_page.specs.declared.progress.Progress.{Progress}
 use Rattle.fw_page.specs.declared.sheet.Sheet.{Sheet}
 use Rattle.fw_page.specs.State.{State, TextAndState, Deferred, Nothing, Asks, Runs}
 use Rattle.fw_page_strip.specs.Drawing.{Painted, painted}
-use Rattle.fw_page.specs.Rows.{lines_now}
+use Rattle.fw_page.specs.Rows.{lines_now, plain_back, drawn_now}
 
 -- what is held back: of a request its bytes, of a run the run
 abbrev pub KeepsFor : Kept → List ℕ → Run → Deferred → Type 0
@@ -52,6 +53,7 @@ pub record Shows (st : State) (s : Progress) : Type 0 where
   pub painted : s.strip ≡ painted_of st
   pub edge : s.edge ≡ st.drawn.edge
   pub blank : s.blank ≡ st.drawn.blank
+  pub row_end : s.row_end.items ≡ plain_back st
   pub counts : s.counts ≡ st.counts
   pub drawn : IsDrawn s.is_moved st.lives st.followed.account st.nodes (painted_of st) s.nodes.items
 
@@ -79,7 +81,9 @@ pub record Draws (st : State) (old new : Progress) (drawn : List ℕ) : Type 0 w
 -- the strip is drawn of the account, and nothing else has changed
 pub record IsDrawnNow (st : State) (old new : Progress) : Type 0 where
   pub strip_is : new.strip ≡ painted st.followed.account
-  pub rest : new ≡ record old { strip = new.strip }
+  pub blank_is : new.blank ≡ not (is_some st.followed.account)
+  pub end_is : new.row_end.items ≡ plain_back (drawn_now st)
+  pub rest : new ≡ record old { strip = new.strip; blank = new.blank; row_end = new.row_end }
 
 -- ---- a sheet, as others see it
 

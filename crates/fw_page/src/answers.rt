@@ -27,6 +27,7 @@ impl Sheet {
         self.words.clear();
         put_answer_marks(
             &mut self.marks,
+            &mut self.room.arrows,
             &self.progress.columns,
             &head,
             told_by(p, standing),

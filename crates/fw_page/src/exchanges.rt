@@ -52,7 +52,12 @@ impl Sheet {
     {
         self.marks.clear();
         self.words.clear();
-        put_alone_marks(&mut self.marks, &self.progress.columns, &request.asked)?;
+        put_alone_marks(
+            &mut self.marks,
+            &mut self.room.arrows,
+            &self.progress.columns,
+            &request.asked,
+        )?;
         let Some(p) = self.progress.kept_packet() else {
             return Ok(());
         };
@@ -84,8 +89,13 @@ impl Sheet {
         self.marks.clear();
         self.words.clear();
         let told = told_of(p, Some(request));
-        let columns = &self.progress.columns;
-        put_exchange_marks(&mut self.marks, columns, &request.asked, told)?;
+        put_exchange_marks(
+            &mut self.marks,
+            &mut self.room.arrows,
+            &self.progress.columns,
+            &request.asked,
+            told,
+        )?;
         let Some(asking) = self.progress.kept_packet() else {
             return Ok(());
         };

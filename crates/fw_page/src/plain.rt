@@ -1,14 +1,15 @@
 //! Rows that draw what the last one left: the cycles that pass, and notes; and the section before the first bus reset.
 
-ghost use Rattle.std.specs.Prelude.{◌≡◌, ◌++◌, OnOk};
-ghost use Rattle.fw_page.specs.Rows.{strip_opening, gap_class};
+ghost use Rattle.std.specs.Prelude.{◌≡◌, ◌++◌, IfOk, OnOk};
+ghost use Rattle.fw_page.specs.State.{first_state};
+ghost use Rattle.fw_page.specs.Rows.{strip_opening, plain_back, gap_class};
 
 use crate::progress::Progress;
 use fw_log_names::{Pairs, put_number, put_word};
 use fw_page_content::put_edge;
 use fw_page_marks::put_millis;
 use fw_page_phrases::put_stop;
-use std::alloc::AllocError;
+use std::alloc::{AllocError, Global};
 
 // The classes of a gap, by how many cycles pass: the more digits that has, the taller it is.
 fn gap_class(cycles: u64) -> &'static str
@@ -22,6 +23,16 @@ fn gap_class(cycles: u64) -> &'static str
         10_000..=99_999 => "gp g5",
         _ => "gp g6",
     }
+}
+
+/// The end of a row that draws no account before the first row.
+pub(crate) fn first_row_end(alloc: Global) -> Result<Vec<u8>, AllocError>
+    ensures { IfOk result (λ end. end.items ≡ plain_back first_state) }
+{
+    let mut end = Vec::new(alloc);
+    put_strip_prefix(&mut end, false)?;
+    put_word(&mut end, "</svg></li>\n")?;
+    Ok(end)
 }
 
 /// Appends the beginning of a strip, after the end of the words of its row.
@@ -67,9 +78,7 @@ impl Progress {
     pub(crate) fn close_plain(&self, text: &mut Vec<u8>) -> Result<(), AllocError>
         ensures { (st : State) → Shows st self.now → OnOk result (text.new.items ≡ text.old.items ++ plain_back st) }
     {
-        put_strip_prefix(text, self.blank)?;
-        text.extend_from_slice(self.strip.lanes())?;
-        put_word(text, "</svg></li>\n")
+        text.extend_from_slice(&self.row_end)
     }
 
     // Appends a row of so many cycles that pass, if there are any between.

@@ -1,5 +1,6 @@
 //! What the entries that were taken leave for the next ones.
 
+use crate::plain::first_row_end;
 use fw_async::{Head, Packet, read_packet};
 use fw_log_entry::Entry;
 use fw_log_explain::head_of;
@@ -55,6 +56,8 @@ pub(crate) struct Progress {
     pub(crate) strip: Strip,
     pub(crate) edge: bool,
     pub(crate) blank: bool,
+    // The end of a row that draws the strip as the last row left it.
+    pub(crate) row_end: Vec<u8>,
     pub(crate) counts: Counts,
 }
 
@@ -98,6 +101,7 @@ impl Progress {
             strip: Strip::new(alloc),
             edge: false,
             blank: false,
+            row_end: first_row_end(alloc)?,
             counts: Counts::new(),
         })
     }

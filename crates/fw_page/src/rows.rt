@@ -10,7 +10,8 @@ ghost use Rattle.fw_page.specs.Sheets.{StayNodes};
 use crate::plain::put_strip_prefix;
 use crate::progress::Progress;
 use fw_log_names::{Pairs, put_word};
-use fw_page_content::{RowHead, put_head};
+use fw_page_content::{HeadRows, RowHead};
+use fw_page_kept::KeptArrows;
 use fw_page_marks::put_halves;
 use fw_page_registers::Memo;
 use fw_page_scene::Scene;
@@ -23,6 +24,9 @@ pub(crate) struct RowBuffers {
     pub(crate) pairs: Pairs,
     // The phrases that were said last.
     pub(crate) memo: Memo,
+    // What rows begin with, and the arrows that were drawn last.
+    pub(crate) heads: HeadRows,
+    pub(crate) arrows: KeptArrows,
     pub(crate) shapes: Vec<u8>,
     // What the next row draws over the columns.
     pub(crate) lines: Vec<u8>,
@@ -33,6 +37,8 @@ impl RowBuffers {
         RowBuffers {
             pairs: Pairs::new(),
             memo: Memo::new(alloc),
+            heads: HeadRows::new(),
+            arrows: KeptArrows::new(alloc),
             shapes: Vec::new(alloc),
             lines: Vec::new(alloc),
         }
@@ -57,12 +63,10 @@ fn draw_nodes(
 }
 
 impl Progress {
-    ghost use Rattle.std.specs.Prelude.{◌≡◌, ◌++◌, OnOk, not, false};
+    ghost use Rattle.std.specs.Prelude.{◌≡◌, ◌++◌, OnOk, not, false, codes};
     ghost use Rattle.std.specs.Option.{is_some};
-    ghost use Rattle.fw_page_scene.specs.Beside.{IsBeside};
-    ghost use Rattle.fw_page_scene.specs.Followed.{Followed};
     ghost use Rattle.fw_page.specs.State.{State};
-    ghost use Rattle.fw_page.specs.Rows.{strip_text, bare_row, drawn_now, row, lines_now};
+    ghost use Rattle.fw_page.specs.Rows.{strip_opening, strip_text, bare_row, row};
     ghost use Rattle.fw_page_content.specs.Heads.{prefix_of};
     ghost use Rattle.fw_page.specs.Sheets.{Shows, Moves, Draws, IsDrawnNow};
 
@@ -85,16 +89,48 @@ impl Progress {
         Ok(())
     }
 
+    // Keeps the end of the rows that draw the strip as it is now.
+    fn draw_row_end(&mut self) -> Result<(), AllocError>
+        ensures text { OnOk result (self.new.row_end.items ≡ strip_opening self.old.blank ++ self.old.strip.lanes ++ codes "</svg></li>\n") }
+        ensures rest { self.new ≡ record self.old { row_end = self.new.row_end } }
+    {
+        self.row_end.clear();
+        put_strip_prefix(&mut self.row_end, self.blank)?;
+        self.row_end.extend_from_slice(self.strip.lanes())?;
+        put_word(&mut self.row_end, "</svg></li>\n")
+    }
+
+    // Appends the strip of a row after which another may be drawn, over an account or over none, and its end.
+    fn put_new_strip(
+        &mut self,
+        text: &mut Vec<u8>,
+        blank: bool,
+        dot: Option<u8>,
+    ) -> Result<(), AllocError>
+        ensures draws { (st : State) → Shows st self.old → blank ≡ not (is_some st.followed.account)
+            → OnOk result ((text.new.items ≡ text.old.items ++ strip_text dot st) × IsDrawnNow st self.old self.new) }
+        ensures run { OnOk result (self.new.run ≡ self.old.run) }
+        ensures standing { OnOk result (self.new.standing ≡ self.old.standing) }
+    {
+        put_strip_prefix(text, blank)?;
+        self.strip
+            .put(text, self.account.ledger(), self.is_moved, dot)?;
+        put_word(text, "</svg></li>\n")?;
+        self.blank = blank;
+        self.draw_row_end()
+    }
+
     // Appends the strip of a row, with a dot on a channel if one is given, and its end. What it draws is drawn then.
     fn put_strip(&mut self, text: &mut Vec<u8>, dot: Option<u8>) -> Result<(), AllocError>
         ensures draws { (st : State) → Shows st self.old → OnOk result ((text.new.items ≡ text.old.items ++ strip_text dot st) × IsDrawnNow st self.old self.new) }
         ensures run { OnOk result (self.new.run ≡ self.old.run) }
         ensures standing { OnOk result (self.new.standing ≡ self.old.standing) }
     {
-        put_strip_prefix(text, self.account.ledger().is_none())?;
-        self.strip
-            .put(text, self.account.ledger(), self.is_moved, dot)?;
-        put_word(text, "</svg></li>\n")
+        let blank = self.account.ledger().is_none();
+        if self.is_moved || dot.is_some() || blank != self.blank {
+            return self.put_new_strip(text, blank, dot);
+        }
+        text.extend_from_slice(&self.row_end)
     }
 
     /// What was drawn for a row is what the last row left.
@@ -106,14 +142,12 @@ impl Progress {
 
     // A row was drawn: it is what the next one comes after.
     fn leave_row(&mut self, room: &mut RowBuffers)
-        ensures left { (f : Followed) → IsBeside self.old.account f
-            → self.new ≡ record self.old { lines = room.old.lines; edge = self.old.second; blank = not (is_some f.account); is_moved = false } }
+        ensures left { self.new ≡ record self.old { lines = room.old.lines; edge = self.old.second; is_moved = false } }
         ensures run { self.new.run ≡ self.old.run }
         ensures standing { self.new.standing ≡ self.old.standing }
     {
         self.leave_lines(room);
         self.edge = self.second;
-        self.blank = self.account.ledger().is_none();
         self.is_moved = false;
     }
 
@@ -131,7 +165,7 @@ impl Progress {
         ensures run { OnOk result (self.new.run ≡ self.old.run) }
         ensures standing { OnOk result (self.new.standing ≡ self.old.standing) }
     {
-        put_head(text, head, self.second)?;
+        room.heads.put(text, &head, self.second)?;
         self.draw_lines(room)?;
         put_halves(text, &self.lines, &room.lines)?;
         text.extend_from_slice(marks)?;

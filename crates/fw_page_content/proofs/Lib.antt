@@ -1,6 +1,7 @@
 pub mod Common
 pub mod TextLaws
 pub mod LoopLaws
+pub mod HeadLaws
 pub mod LeftLaws
 pub mod LedgerLaws
 pub mod ListLaws

@@ -1,5 +1,5 @@
 -- What a row begins with: the name to which links lead, its classes, its entry's number and its cycle (own).
-use Rattle.std.specs.Prelude.{ℕ, ◌+◌, ◌-◌, ◌==◌, Bool, true, false, List, [], ◌++◌, codes, decimal, Option, Some, None, if◌then◌else◌}
+use Rattle.std.specs.Prelude.{ℕ, ◌+◌, ◌-◌, ◌==◌, Bool, true, false, List, [], ◌∷◌, ◌++◌, codes, decimal, Option, Some, None, if◌then◌else◌}
 use Rattle.fw_log_entry.specs.declared.nodes.NodeRow.{NodeRow}
 use Rattle.fw_page_marks.specs.Places.{device_of}
 use Rattle.fw_page_content.specs.declared.heads.RowHead.{RowHead}
@@ -56,3 +56,9 @@ unfoldable pub head_text : Prefix → Bool → List ℕ
 head_text prefix edge =
     codes "<li" ++ anchor_text prefix.is_anchor prefix.number ++ codes " class=\"" ++ prefix.classes ++ edge_text edge ++ (codes "<i>" ++ decimal prefix.number)
     ++ (codes "</i><b>" ++ decimal prefix.cycle) ++ codes "</b><svg class=\"f\" aria-hidden=\"true\">"
+
+-- the same, of a row to which links lead, from its pieces: its class, one more, its devices, the digits of its number but the last, that one, and the digits of its cycle
+abbrev pub head_pieces : List ℕ → List ℕ → Option ℕ × Option ℕ → List ℕ → ℕ → Bool → List ℕ → List ℕ
+head_pieces class more devices tens digit edge cycle =
+    codes "<li id=\"e" ++ (tens ++ (48 + digit) ∷ []) ++ codes "\" class=\"" ++ class ++ more ++ device_class devices.0 ++ device_class devices.1 ++ (edge_text edge ++ codes "<i>")
+    ++ (tens ++ (48 + digit) ∷ []) ++ codes "</i><b>" ++ cycle ++ codes "</b><svg class=\"f\" aria-hidden=\"true\">"

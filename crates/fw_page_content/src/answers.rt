@@ -8,7 +8,8 @@ ghost use Rattle.fw_page_content.specs.Exchanges.{answer_marks, answer_words, an
 use fw_async::{Head, Packet};
 use fw_log_explain::head_of;
 use fw_log_names::Pairs;
-use fw_page_marks::{Columns, Line, SwapResult, put_arrow, put_cross};
+use fw_page_kept::KeptArrows;
+use fw_page_marks::{Columns, Line, SwapResult, put_cross};
 use fw_page_phrases::{Kind, OutstandingRequest, answer_of, put_answer, put_who, told_of};
 use fw_page_registers::Memo;
 use std::alloc::AllocError;
@@ -39,6 +40,7 @@ pub fn told_by(p: &Packet, standing: Option<&OutstandingRequest>) -> SwapResult
 /// Appends the marks of an answer that comes later, and tells this.
 pub fn put_answer_marks(
     marks: &mut Vec<u8>,
+    arrows: &mut KeptArrows,
     columns: &Columns,
     head: &Head,
     told: SwapResult,
@@ -46,7 +48,7 @@ pub fn put_answer_marks(
     ensures { OnOk result (marks.new.items ≡ marks.old.items ++ answer_marks columns.now head.now told) }
 {
     let (from, to) = (columns.x_of(head.source), columns.x_of(head.destination));
-    put_arrow(marks, Line::Dashed, from, to, told)?;
+    arrows.put_arrow(marks, Line::Dashed, from, to, told)?;
     put_cross(marks, false, from, to, told)
 }
 

@@ -6,12 +6,14 @@ ghost use Rattle.fw_page_content.specs.Exchanges.{asked_text, alone_marks, alone
 use fw_async::Packet;
 use fw_log_names::{Pairs, put_word};
 use fw_log_requests::Asked;
-use fw_page_marks::{Columns, Line, SwapResult, put_arrow, put_cross, put_turn};
+use fw_page_kept::KeptArrows;
+use fw_page_marks::{Columns, Line, SwapResult, put_cross};
 use fw_page_phrases::{BROADCAST, Request, put_ask, put_got, put_who};
 use fw_page_registers::Memo;
 use std::alloc::AllocError;
 
 // Appends who asks whom, with this sign between, and for what.
+#[inline(always)]
 fn put_asked(
     words: &mut Vec<u8>,
     pairs: &Pairs,
@@ -37,13 +39,14 @@ fn put_asked(
 /// Appends the marks of a request that is not answered at once.
 pub fn put_alone_marks(
     marks: &mut Vec<u8>,
+    arrows: &mut KeptArrows,
     columns: &Columns,
     asked: &Asked,
 ) -> Result<(), AllocError>
     ensures { OnOk result (marks.new.items ≡ marks.old.items ++ alone_marks columns.now asked.now) }
 {
     let (from, to) = (columns.x_of(asked.source), columns.x_of(asked.destination));
-    put_arrow(marks, Line::Whole, from, to, SwapResult::Nothing)
+    arrows.put_arrow(marks, Line::Whole, from, to, SwapResult::Nothing)
 }
 
 /// Appends the words of a request that is not answered at once.
@@ -66,6 +69,7 @@ pub fn put_alone_words(
 /// Appends the marks of a request with its answer, which tells this.
 pub fn put_exchange_marks(
     marks: &mut Vec<u8>,
+    arrows: &mut KeptArrows,
     columns: &Columns,
     asked: &Asked,
     told: SwapResult,
@@ -73,7 +77,7 @@ pub fn put_exchange_marks(
     ensures { OnOk result (marks.new.items ≡ marks.old.items ++ exchange_marks columns.now asked.now told) }
 {
     let (from, to) = (columns.x_of(asked.source), columns.x_of(asked.destination));
-    put_turn(marks, from, to, told)?;
+    arrows.put_turn(marks, from, to, told)?;
     put_cross(marks, true, from, to, told)
 }
 

@@ -113,8 +113,9 @@ fn put_numbered(text: &mut Vec<u8>, edge: bool, number: u64) -> Result<(), Alloc
     put_part(text, if edge { r#" w"><i>"# } else { r#""><i>"# }, number)
 }
 
-/// Appends the beginning of a row, up to what it draws.
-pub fn put_head(text: &mut Vec<u8>, head: RowHead, edge: bool) -> Result<(), AllocError>
+// Appends the beginning of a row piece by piece, up to what it draws.
+#[inline(never)]
+pub(crate) fn put_head(text: &mut Vec<u8>, head: RowHead, edge: bool) -> Result<(), AllocError>
     ensures { OnOk result (text.new.items ≡ text.old.items ++ head_text (prefix_of head) edge) }
 {
     put_anchor(text, head.is_anchor, head.number)?;

@@ -9,6 +9,7 @@ mod answers;
 mod counts;
 mod dropped;
 mod exchanges;
+mod head_rows;
 mod heads;
 mod kept;
 mod leaving;
@@ -19,7 +20,8 @@ pub use answers::{answer_kind, put_answer_marks, put_answer_words, told_by};
 pub use counts::{Counts, next};
 pub use dropped::{put_dropped_marks, put_dropped_words};
 pub use exchanges::{put_alone_marks, put_alone_words, put_exchange_marks, put_exchange_words};
-pub use heads::{RowHead, put_edge, put_head};
+pub use head_rows::HeadRows;
+pub use heads::{RowHead, put_edge};
 pub use kept::{put_account, put_orphans};
 pub use leaving::{FIRST_NODE, put_dropped, put_left, put_not_taken};
 pub use sayings::{

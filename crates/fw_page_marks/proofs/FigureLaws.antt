@@ -6,7 +6,7 @@ use Rattle.std.proofs.lemmas.Fmt.{decimal_digit, decimal_step}
 more : (n : ℕ) (ds : List ℕ) → 10 ≤ n → n < 100000 → decimal (n / 10) ≡ ds → decimal n ≡ ds ++ (48 + n % 10) ∷ []
 more n ds some few is = decimal_step n some (omega arith) ∙ ap (λ (d : List ℕ). d ++ (48 + n % 10) ∷ []) is
 
-two_figures : (n : ℕ) → 10 ≤ n → n < 100 → decimal n ≡ (48 + n / 10) ∷ (48 + n % 10) ∷ []
+pub two_figures : (n : ℕ) → 10 ≤ n → n < 100 → decimal n ≡ (48 + n / 10) ∷ (48 + n % 10) ∷ []
 two_figures n some few = more n ((48 + n / 10) ∷ []) some (omega arith) (decimal_digit (n / 10) (omega arith))
 
 pub three_figures : (n : ℕ) → 100 ≤ n → n < 1000 → decimal n ≡ (48 + n / 100) ∷ (48 + n / 10 % 10) ∷ (48 + n % 10) ∷ []

@@ -9,7 +9,7 @@ use Rattle.fw_page_marks.specs.Shapes.{path_prefix, mark_prefix, symbol_at, halv
 use Rattle.fw_page_marks.specs.Arrows.{arrow, turn, head_class, line_class}
 use Rattle.fw_page_marks.specs.declared.arrows.Line.{Line}
 use Rattle.fw_page_marks.specs.declared.arrows.SwapResult.{SwapResult}
-use Rattle.fw_page_marks.proofs.FigureLaws.{three_figures}
+use Rattle.fw_page_marks.proofs.FigureLaws.{two_figures, three_figures}
 
 -- one text more
 pub following : (s t u x y : List ℕ) → t ≡ s ++ x → u ≡ t ++ y → u ≡ s ++ (x ++ y)
@@ -139,6 +139,28 @@ unfolding rect
 usual_rect x width some few narrow =
     ap (λ (ds : List ℕ). ((codes "M" ++ ds) ++ (codes " 0h" ++ (48 + width) ∷ [])) ++ (codes "v999h-" ++ (48 + width) ∷ []) ++ codes "z") (sym (three_figures x some few))
     ∙ ap (λ (w : List ℕ). ((codes "M" ++ decimal x) ++ (codes " 0h" ++ w)) ++ (codes "v999h-" ++ w) ++ codes "z") (sym (decimal_digit width narrow))
+
+-- ---- a shape in two pieces
+
+pub one_digit_place : (x : ℕ) → x < 10 → 77 ∷ (48 + x % 10) ∷ codes " 0h" ≡ codes "M" ++ decimal x ++ codes " 0h"
+one_digit_place x few =
+    ap (λ (d : ℕ). 77 ∷ (48 + d) ∷ codes " 0h") (omega arith) ∙ ap (λ (ds : List ℕ). codes "M" ++ ds ++ codes " 0h") (sym (decimal_digit x few))
+
+pub two_digit_place : (x : ℕ) → 10 ≤ x → x < 100 → 77 ∷ (48 + x / 10 % 10) ∷ (48 + x % 10) ∷ codes " 0h" ≡ codes "M" ++ decimal x ++ codes " 0h"
+two_digit_place x some few =
+    ap (λ (d : ℕ). 77 ∷ (48 + d) ∷ (48 + x % 10) ∷ codes " 0h") (omega arith) ∙ ap (λ (ds : List ℕ). codes "M" ++ ds ++ codes " 0h") (sym (two_figures x some few))
+
+pub three_digit_place : (x : ℕ) → 100 ≤ x → x < 1000 → 77 ∷ (48 + x / 100) ∷ (48 + x / 10 % 10) ∷ (48 + x % 10) ∷ codes " 0h" ≡ codes "M" ++ decimal x ++ codes " 0h"
+three_digit_place x some few = ap (λ (ds : List ℕ). codes "M" ++ ds ++ codes " 0h") (sym (three_figures x some few))
+
+pub one_digit_size : (n : ℕ) → n < 10 → (48 + n % 10) ∷ (codes "v999h-" ++ (48 + n % 10) ∷ codes "z") ≡ decimal n ++ codes "v999h-" ++ decimal n ++ codes "z"
+one_digit_size n few =
+    ap (λ (d : ℕ). (48 + d) ∷ (codes "v999h-" ++ (48 + d) ∷ codes "z")) (omega arith)
+    ∙ ap (λ (ds : List ℕ). ds ++ codes "v999h-" ++ ds ++ codes "z") (sym (decimal_digit n few))
+
+pub two_digit_size : (n : ℕ) → 10 ≤ n → n < 100
+    → (48 + n / 10) ∷ (48 + n % 10) ∷ (codes "v999h-" ++ (48 + n / 10) ∷ (48 + n % 10) ∷ codes "z") ≡ decimal n ++ codes "v999h-" ++ decimal n ++ codes "z"
+two_digit_size n some few = ap (λ (ds : List ℕ). ds ++ codes "v999h-" ++ ds ++ codes "z") (sym (two_figures n some few))
 
 -- what an append adds, if memory was there
 pub if_ok : {T E : Type 0} (r : Result T E) (t a b : List ℕ) → t ≡ (if is_ok r then a else b) → OnOk r (t ≡ a)

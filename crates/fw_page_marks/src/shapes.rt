@@ -1,6 +1,6 @@
 //! Shapes of SVG.
 
-ghost use Rattle.std.specs.Prelude.{◌≡◌, ◌≤◌, ◌<◌, ◌++◌, ℕ, List, OnOk, codes};
+ghost use Rattle.std.specs.Prelude.{◌≡◌, ◌≤◌, ◌<◌, ◌++◌, ℕ, List, OnOk, codes, decimal};
 ghost use Rattle.fw_page_marks.specs.Shapes.{path_prefix, mark_prefix, path, mark, level_line, there_and_back, rect, symbol_at, halves};
 
 use crate::small::put_part;
@@ -119,14 +119,49 @@ fn put_usual_rect(shapes: &mut Vec<u8>, x: u64, width: u64) -> Result<(), AllocE
     shapes.extend_from_slice(&shape)
 }
 
+// Appends where a shape begins, at a place of three digits at most.
+#[tactic(auto, using(crate::proofs::TextLaws::one_digit_place, crate::proofs::TextLaws::two_digit_place, crate::proofs::TextLaws::three_digit_place))]
+fn put_place(shapes: &mut Vec<u8>, x: u64) -> Result<(), AllocError>
+    requires { x < 1000 }
+    ensures { OnOk result (shapes.new.items ≡ shapes.old.items ++ (codes "M" ++ decimal x ++ codes " 0h")) }
+{
+    let one = b'0' + (x % 10) as u8;
+    let ten = b'0' + (x / 10 % 10) as u8;
+    if x < 10 {
+        return shapes.extend_from_slice(&[b'M', one, b' ', b'0', b'h']);
+    }
+    if x < 100 {
+        return shapes.extend_from_slice(&[b'M', ten, one, b' ', b'0', b'h']);
+    }
+    shapes.extend_from_slice(&[b'M', b'0' + (x / 100) as u8, ten, one, b' ', b'0', b'h'])
+}
+
+// Appends how wide a shape is, with two digits at most, and how high.
+#[tactic(auto, using(crate::proofs::TextLaws::one_digit_size, crate::proofs::TextLaws::two_digit_size))]
+fn put_size(shapes: &mut Vec<u8>, width: u64) -> Result<(), AllocError>
+    requires { width < 100 }
+    ensures { OnOk result (shapes.new.items ≡ shapes.old.items ++ (decimal width ++ codes "v999h-" ++ decimal width ++ codes "z")) }
+{
+    let one = b'0' + (width % 10) as u8;
+    if width < 10 {
+        return shapes.extend_from_slice(&[one, b'v', b'9', b'9', b'9', b'h', b'-', one, b'z']);
+    }
+    let ten = b'0' + (width / 10) as u8;
+    shapes.extend_from_slice(&[ten, one, b'v', b'9', b'9', b'9', b'h', b'-', ten, one, b'z'])
+}
+
 /// Appends a shape of this width over the whole height of a row.
 #[tactic(auto, unfolding(crate::specs::Shapes::rect))]
 pub fn put_rect(shapes: &mut Vec<u8>, x: u64, width: u64) -> Result<(), AllocError>
     ensures { OnOk result (shapes.new.items ≡ shapes.old.items ++ rect x width) }
 {
-    // Most shapes are of this kind.
+    // Most shapes are of this kind, and most others have a width of two digits.
     if 100 <= x && x < 1000 && width < 10 {
         return put_usual_rect(shapes, x, width);
+    }
+    if x < 1000 && width < 100 {
+        put_place(shapes, x)?;
+        return put_size(shapes, width);
     }
     put_part(shapes, "M", x)?;
     put_part(shapes, " 0h", width)?;

@@ -7,3 +7,4 @@ pub mod DrawnLaws
 pub mod CutLaws
 pub mod VerdictLaws
 pub mod FollowLaws
+pub mod SpotLaws

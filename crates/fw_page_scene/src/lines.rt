@@ -1,9 +1,10 @@
 //! What each row draws over the columns of the nodes: who talks, hears, lingers, is dead or deaf.
 
-ghost use Rattle.std.specs.Prelude.{◌≡◌, ◌≤◌, ◌++◌, OnOk, Option, None};
+ghost use Rattle.std.specs.Prelude.{◌≡◌, ◌≤◌, ◌++◌, OnOk, Option, None, false};
 ghost use Rattle.std.specs.Option.{option_copied};
 ghost use Rattle.fw_model_account.specs.Account.{Account};
 ghost use Rattle.fw_account_tables.specs.Stands.{StandsFor};
+ghost use Rattle.fw_log_entry.specs.declared.nodes.NodeRow.{NodeRow};
 ghost use Rattle.fw_page_strip.specs.Drawing.{LedgerFor};
 ghost use Rattle.fw_page_scene.specs.Lines.{talks, lingers, hears_by, by_account, holds, spot_shape};
 
@@ -12,6 +13,7 @@ use crate::plugs::{hears, lingers, talks};
 use fw_ledger::Ledger;
 use fw_log_entry::NodeRow;
 use fw_page_marks::{Columns, put_path, put_rect};
+use fw_page_strip::reclaims;
 use std::alloc::AllocError;
 
 /// What is drawn of the nodes that something holds for.
@@ -65,6 +67,16 @@ fn lingers_by(ledger: Option<&Ledger>, row: &NodeRow) -> bool
     }
 }
 
+// Whether any node may linger: in a reclaim second alone.
+fn may_linger(ledger: Option<&Ledger>) -> bool
+    ensures { (l : Option Account) → LedgerFor (option_copied ledger.entry) l → result ≡ false → (row : NodeRow) → by_account (λ a. lingers a row) l ≡ false }
+{
+    match ledger {
+        Some(ledger) => reclaims(ledger),
+        None => false,
+    }
+}
+
 // Whether that holds for a node.
 fn holds(spot: Spot, lives: &Lives, ledger: Option<&Ledger>, row: &NodeRow) -> bool
     ensures { (l : Option Account) → LedgerFor (option_copied ledger.entry) l → result ≡ holds spot lives.now l row.now }
@@ -100,12 +112,13 @@ pub struct Scene<'a> {
 }
 
 impl<'a> Scene<'a> {
-    ghost use Rattle.std.specs.Prelude.{◌≡◌, ◌++◌, slice_get, OnOk, Option};
+    ghost use Rattle.std.specs.Prelude.{◌≡◌, ◌++◌, slice_get, OnOk, Option, false};
     ghost use Rattle.std.specs.Option.{option_copied};
     ghost use Rattle.fw_model_account.specs.Account.{Account};
     ghost use Rattle.fw_page_marks.specs.Places.{place_of};
     ghost use Rattle.fw_page_strip.specs.Drawing.{LedgerFor};
-    ghost use Rattle.fw_page_scene.specs.Lines.{spot_of, spots, nodes_text};
+    ghost use Rattle.fw_log_entry.specs.declared.nodes.NodeRow.{NodeRow};
+    ghost use Rattle.fw_page_scene.specs.Lines.{holds, spot_of, spots, nodes_text};
 
     // Appends the shape of a node, if it is one for which something holds.
     fn put_spot(&self, shapes: &mut Vec<u8>, spot: Spot, node: usize) -> Result<(), AllocError>
@@ -121,10 +134,25 @@ impl<'a> Scene<'a> {
         }
     }
 
+    // Whether something may hold for any node.
+    fn may_hold(&self, spot: Spot) -> bool
+        ensures { (l : Option Account) → LedgerFor (option_copied self.now.ledger) l → result ≡ false → (row : NodeRow) → holds spot self.now.lives.now l row ≡ false }
+    {
+        match spot {
+            Spot::Dead => !self.lives.dead.is_empty(),
+            Spot::Deaf => !self.lives.deaf.is_empty(),
+            Spot::Talks | Spot::Hears => self.ledger.is_some(),
+            Spot::Lingers => may_linger(self.ledger),
+        }
+    }
+
     // Appends the shapes of all nodes for which something holds.
     fn put_spots(&self, shapes: &mut Vec<u8>, spot: Spot) -> Result<(), AllocError>
         ensures { (l : Option Account) → LedgerFor (option_copied self.now.ledger) l → OnOk result (shapes.new.items ≡ shapes.old.items ++ spots spot self.now.lives.now l self.now.columns.now) }
     {
+        if !self.may_hold(spot) {
+            return Ok(());
+        }
         for node in 0..self.columns.nodes().len() {
             self.put_spot(shapes, spot, node)?;
         }

@@ -7,7 +7,7 @@ pub struct Devices {
 }
 
 impl Devices {
-    ghost use Rattle.std.specs.Prelude.{◌≡◌};
+    ghost use Rattle.std.specs.Prelude.{◌≡◌, ℕ, true, false};
     ghost use Rattle.fw_page_scene.specs.Lives.{no_devices, has_device, with_device};
 
     /// None.
@@ -22,6 +22,13 @@ impl Devices {
         ensures { result ≡ has_device self.now device }
     {
         device < 63 && self.there[usize::from(device)]
+    }
+
+    /// Whether there are none: if it says so, no device is one of them.
+    pub(crate) fn is_empty(&self) -> bool
+        ensures { result ≡ true → (device : ℕ) → has_device self.now device ≡ false }
+    {
+        !self.there.contains(&true)
     }
 
     /// With a device, or without it.

@@ -1,15 +1,15 @@
 -- What loops over the channels append.
 use Rattle.std.proofs.Common.{◌≡◌, inl, inr, ℕ, zero, suc, ◌+◌, ◌<◌, ◌≤◌, ◌^◌, List, [], ◌∷◌}
-use Rattle.std.proofs.Common.{◌++◌, length, slice_index_or, slice_set, get_or-set_same, get_or-set_other, append_assoc, refl, ap, sym, ◌∙◌, arith}
-use Rattle.std.proofs.lemmas.Bool.{cases_eq}
-use Rattle.std.proofs.lemmas.List.{append-nil, length_push, get_or_at, get_or_append_left, ext_get_or}
+use Rattle.std.proofs.Common.{◌++◌, length, slice_index_or, slice_set, replicate, get_or-set_same, get_or-set_other, append_assoc, refl, ap, sym, ◌∙◌, arith}
+use Rattle.std.proofs.lemmas.Bool.{cases_eq, cases_lt}
+use Rattle.std.proofs.lemmas.List.{append-nil, length_push, get_or_at, get_or_append_left, get_or-replicate, ext_get_or}
 use Rattle.fw_terms.specs.Tables.{sum_to}
 use Rattle.fw_model_account.specs.Account.{Account}
 use Rattle.fw_model_account.specs.Sound.{IsSound}
 use Rattle.fw_page_strip.specs.declared.owner.Class.{Class}
 use Rattle.fw_page_strip.specs.declared.owner.Owner.{Owner}
 use Rattle.fw_page_strip.specs.declared.owner.Owner.TheVariants.{Nobody}
-use Rattle.fw_page_strip.specs.Owners.{owner, owners_below, amount, units_before, path_class}
+use Rattle.fw_page_strip.specs.Owners.{AreNobodys, owner, owners_below, amount, units_before, path_class}
 use Rattle.fw_page_strip.specs.declared.amounts.Totals.{Totals}
 use Rattle.fw_page_strip.specs.declared.owner.Class.TheVariants.{Pending, Connected, Orphaned, Kept, Withheld}
 use Rattle.fw_page_strip.specs.Drawing.{AreTotals}
@@ -63,6 +63,28 @@ owner_set l owners n o low long is done k under = elim (cases_eq k n) [
 pub owners_are : (l : Account) (owners : List Owner) (n : ℕ) → length owners ≡ 64 → n ≡ 64 → ((k : ℕ) → k < n → slice_index_or owners k Nobody ≡ owner l k) → owners ≡ owners_below l 64
 owners_are l owners n long all done =
     ext_get_or Nobody owners (owners_below l 64) (long ∙ sym (owners_long l 64)) (λ k low. done k (omega arith) ∙ sym (owner_at l 64 k Nobody (omega arith)))
+
+-- a list in which nobody has the channels from n on
+abbrev pub AreLeft : List Owner → ℕ → Type 0
+AreLeft owners n = (k : ℕ) → n ≤ k → k < 64 → slice_index_or owners k Nobody ≡ Nobody
+
+pub all_left : AreLeft (replicate 64 Nobody) 0
+all_left k a b = get_or-replicate 64 k Nobody Nobody b
+
+pub left_after : (owners : List Owner) (n : ℕ) (o : Owner) → AreLeft owners n → AreLeft (slice_set owners n o) (n + 1)
+left_after owners n o left k a b = get_or-set_other owners n k o Nobody (omega arith) ∙ left k (omega arith) b
+
+-- those of all channels, if nobody has those from n on
+pub owners_short : (l : Account) (owners : List Owner) (n reach : ℕ) → length owners ≡ 64 → n ≡ reach → AreNobodys l reach → ((k : ℕ) → k < n → slice_index_or owners k Nobody ≡ owner l k)
+    → AreLeft owners n
+    → owners ≡ owners_below l 64
+owners_short l owners n reach long e none done left = owners_are l owners 64 long refl each
+  where
+    each : (k : ℕ) → k < 64 → slice_index_or owners k Nobody ≡ owner l k
+    each k low = elim (cases_lt k n) [
+      | inl under ↦ done k under
+      | inr over ↦ left k over low ∙ sym (none k (omega arith) low)
+    ]
 
 -- ---- lanes
 

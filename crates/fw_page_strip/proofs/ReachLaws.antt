@@ -1,6 +1,5 @@
 -- Channels from which on nobody has any add nothing.
-use Rattle.std.proofs.Common.{◌≡◌, inl, inr, ℕ, zero, suc, ◌+◌, ◌<◌, ◌≤◌, Bool, Option, Some, None, List, ◌∷◌, ◌++◌, refl, ap, sym, ◌∙◌, arith}
-use Rattle.std.specs.Prelude.{slice_index_or}
+use Rattle.std.proofs.Common.{◌≡◌, inl, inr, ℕ, zero, suc, ◌+◌, ◌<◌, ◌≤◌, Bool, Option, Some, None, ◌++◌, refl, ap, sym, ◌∙◌, arith}
 use Rattle.std.proofs.lemmas.Bool.{cases_eq}
 use Rattle.std.proofs.lemmas.List.{append-nil}
 use Rattle.fw_terms.specs.Tables.{sum_to}
@@ -9,12 +8,12 @@ use Rattle.fw_page_strip.specs.declared.owner.Class.{Class}
 use Rattle.fw_page_strip.specs.declared.owner.Class.TheVariants.{Pending, Connected, Orphaned, Kept, Withheld}
 use Rattle.fw_page_strip.specs.declared.owner.Owner.{Owner}
 use Rattle.fw_page_strip.specs.declared.owner.Owner.TheVariants.{Nobody}
-use Rattle.fw_page_strip.specs.Owners.{AreNobodys, owner, owners_below, owner_by, flow_on, units_as, kept_for, amount, units_before, units_of_class}
+use Rattle.fw_page_strip.specs.Owners.{AreNobodys, owner, owner_by, flow_on, units_as, kept_for, amount, units_before, units_of_class}
 use Rattle.fw_page_strip.specs.Lanes.{bar_part, bar_below, lane, channels_below}
 use Rattle.fw_page_strip.specs.declared.amounts.Totals.{Totals}
 use Rattle.fw_page_strip.specs.Drawing.{AreTotals}
 use Rattle.fw_page_strip.proofs.SumLaws.{AreSums, sum_next}
-use Rattle.fw_page_strip.proofs.LaneLaws.{owner_at, more_bars}
+use Rattle.fw_page_strip.proofs.LaneLaws.{more_bars}
 
 -- what no step changes is what it was
 flat : {A : Type 0} (g : ℕ → A) (n m : ℕ) → n ≤ m → ((k : ℕ) → n ≤ k → k < m → g (k + 1) ≡ g k) → g m ≡ g n
@@ -67,16 +66,6 @@ sums_end l class n low h = flat (λ k. sum_to k (λ ch. units_as class (l.alloca
         let s = sum_next k (λ ch. units_as class (l.allocations ch)) in
         let z = no_units l class k (h k a b) in
         omega arith
-
--- ---- a list of the owners
-
--- nobody has the channels from n on of those below m, by a list
-abbrev pub NobodysTo : List Owner → ℕ → ℕ → Type 0
-NobodysTo owners n m = (k : ℕ) → n ≤ k → k < m → slice_index_or owners k Nobody ≡ Nobody
-
-pub nobodys_end : (l : Account) (owners : List Owner) (n m : ℕ) → owners ≡ owners_below l 64 → m ≡ 64 → NobodysTo owners n m → AreNobodys l n
-nobodys_end l owners n m is all h k a b =
-    sym (owner_at l 64 k Nobody b) ∙ (ap (λ (xs : List Owner). slice_index_or xs k Nobody) (sym is) ∙ h k a (omega arith))
 
 -- the sums as far as somebody has a channel are those of all
 pub sums_all : (s : Totals) (l : Account) (n : ℕ) → n ≡ s.reach → n ≤ 64 → AreNobodys l s.reach → AreSums s l n → AreTotals s l

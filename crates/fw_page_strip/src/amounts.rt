@@ -1,12 +1,13 @@
 //! The units that are taken, by class and channel.
 
-ghost use Rattle.std.specs.Prelude.{◌≡◌, ◌<◌, ◌≤◌};
+ghost use Rattle.std.specs.Prelude.{◌≡◌, ◌<◌, ◌≤◌, true};
 ghost use Rattle.fw_model_account.specs.Account.{Account};
 ghost use Rattle.fw_account_tables.specs.Stands.{StandsFor, allocation_of};
 ghost use Rattle.fw_page_strip.specs.Drawing.{AreTotals};
-ghost use Rattle.fw_page_strip.specs.Owners.{AreNobodys, owners_below, flow_on, units_as, has_units_of, has_units, kept_for, amount};
+ghost use Rattle.fw_page_strip.specs.declared.owner.Owner.TheVariants.{Nobody};
+ghost use Rattle.fw_page_strip.specs.Owners.{AreNobodys, owner, flow_on, units_as, has_units_of, has_units, kept_for, amount};
 
-use crate::owner::{Class, Owner, is_same};
+use crate::owner::{Class, Owner, is_same, owner_of};
 use crate::shares::{charge, reclaimable};
 use fw_account_tables::{Charge, Reclaimable};
 use fw_ledger::Ledger;
@@ -78,26 +79,32 @@ fn units_as(charge: Charge, class: Class) -> u32
     }
 }
 
-// How many channels come up to the last that somebody has.
-fn reach_of(owners: &[Owner; 64]) -> usize
-    ensures few { result ≤ 64 }
-    ensures nobodys { (l : Account) → owners.now ≡ owners_below l 64 → AreNobodys l result }
+// Nobody has a channel.
+fn is_nobodys(ledger: &Ledger, channel: usize) -> bool
+    requires { channel < 64 }
+    ensures { (l : Account) → StandsFor ledger.now l → result ≡ true → owner l channel ≡ Nobody }
 {
-    let mut reach = 0;
-    for channel in 0..CHANNELS {
-        if !matches!(owners[channel], Owner::Nobody) {
-            reach = channel + 1;
-        }
+    matches!(owner_of(ledger, channel), Owner::Nobody)
+}
+
+/// How many channels come up to the last that somebody has.
+pub(crate) fn reach_of(ledger: &Ledger) -> usize
+    ensures few { result ≤ 64 }
+    ensures nobodys { (l : Account) → StandsFor ledger.now l → AreNobodys l result }
+{
+    let mut reach = CHANNELS;
+    while reach > 0 && is_nobodys(ledger, reach - 1) {
+        reach -= 1;
     }
     reach
 }
 
-/// The units of all channels, by an account and the owners of its channels.
-pub(crate) fn sums_of(ledger: &Ledger, owners: &[Owner; 64]) -> Totals
+/// The units of all channels, by an account and how many channels come up to the last that somebody has.
+pub(crate) fn sums_of(ledger: &Ledger, reach: usize) -> Totals
+    requires { reach ≤ 64 }
     ensures few { result.reach ≤ 64 }
-    ensures totals { (l : Account) → StandsFor ledger.now l → owners.now ≡ owners_below l 64 → AreTotals result l }
+    ensures totals { (l : Account) → StandsFor ledger.now l → AreNobodys l reach → AreTotals result l }
 {
-    let reach = reach_of(owners);
     let mut sums = Totals {
         connected: 0,
         pending: 0,

@@ -1,11 +1,11 @@
 //! What a row draws of the account.
 
-ghost use Rattle.std.specs.Prelude.{◌≡◌};
+ghost use Rattle.std.specs.Prelude.{◌≡◌, ◌≤◌};
 ghost use Rattle.fw_model_account.specs.Account.{Account};
 ghost use Rattle.fw_account_tables.specs.Stands.{StandsFor};
-ghost use Rattle.fw_page_strip.specs.Owners.{owners_below};
+ghost use Rattle.fw_page_strip.specs.Owners.{AreNobodys, owners_below};
 
-use crate::amounts::CHANNELS;
+use crate::amounts::reach_of;
 use crate::lanes::put_lanes;
 use crate::owner::{Owner, owner_of};
 use fw_ledger::Ledger;
@@ -22,12 +22,13 @@ pub(crate) struct Drawn {
     pub(crate) units: u32,
 }
 
-// The owners of all channels.
-fn owners_of(ledger: &Ledger) -> [Owner; 64]
-    ensures { (l : Account) → StandsFor ledger.now l → result ≡ owners_below l 64 }
+// The owners of all channels, by how many come up to the last that somebody has.
+fn owners_of(ledger: &Ledger, reach: usize) -> [Owner; 64]
+    requires { reach ≤ 64 }
+    ensures { (l : Account) → StandsFor ledger.now l → AreNobodys l reach → result ≡ owners_below l 64 }
 {
     let mut owners = [Owner::Nobody; 64];
-    for channel in 0..CHANNELS {
+    for channel in 0..reach {
         owners[channel] = owner_of(ledger, channel);
     }
     owners
@@ -63,9 +64,10 @@ impl Drawn {
     fn draw_ledger(&mut self, shapes: &mut Vec<u8>, ledger: &Ledger) -> Result<(), AllocError>
         ensures { (l : Account) → StandsFor ledger.now l → OnOk result (IsDrawnOf self.new (Some l)) }
     {
-        self.owners = owners_of(ledger);
+        let reach = reach_of(ledger);
+        self.owners = owners_of(ledger, reach);
         self.lanes.clear();
-        put_lanes(&mut self.lanes, shapes, ledger, &self.owners)?;
+        put_lanes(&mut self.lanes, shapes, ledger, &self.owners, reach)?;
         self.units = UNITS.saturating_sub(ledger.remainder());
         Ok(())
     }

@@ -132,16 +132,19 @@ fn put_class(
     put_path(text, class.path(), shapes)
 }
 
-/// Appends the lanes of an account, by the owners of its channels, with a list for the shapes of a class.
+/// Appends the lanes of an account, by the owners of its channels and how many come up to the last that somebody has, with a list for
+/// the shapes of a class.
 pub(crate) fn put_lanes(
     text: &mut Vec<u8>,
     shapes: &mut Vec<u8>,
     ledger: &Ledger,
     owners: &[Owner; 64],
+    reach: usize,
 ) -> Result<(), AllocError>
-    ensures { (l : Account) → StandsFor ledger.now l → owners.now ≡ owners_below l 64 → OnOk result (text.new.items ≡ text.old.items ++ lanes (Some l)) }
+    requires { reach ≤ 64 }
+    ensures { (l : Account) → StandsFor ledger.now l → owners.now ≡ owners_below l 64 → AreNobodys l reach → OnOk result (text.new.items ≡ text.old.items ++ lanes (Some l)) }
 {
-    let totals = sums_of(ledger, owners);
+    let totals = sums_of(ledger, reach);
     put_class(text, shapes, ledger, owners, totals, Class::Pending)?;
     put_class(text, shapes, ledger, owners, totals, Class::Connected)?;
     put_class(text, shapes, ledger, owners, totals, Class::Orphaned)?;

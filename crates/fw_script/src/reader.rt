@@ -198,13 +198,37 @@ impl ScriptReader {
         }
     }
 
-    /// The next command. `End` is given when the input's end is reached, and after it none.
+    /// Puts the next command into `out`, and answers whether there was one. `End` is given when the input's end is reached, and after it none.
     ///
     /// It asks that no fault was answered before. The source is asked, for 4,096 bytes at once, only if what is held gives
     /// no answer, and not again once its end was met. After a command, or a line that is refused, at most 4,096 bytes are held.
     /// With `ReadFault` no whole line is held: the commands of all lines whose line feed was taken have been given.
-    // Inlined at its one call, if the command is then put in its place: else it is copied there, twice.
     #[inline(always)]
+    pub fn read_command<S: Source>(
+        &mut self,
+        source: &mut S,
+        out: &mut Command,
+    ) -> Result<bool, ScriptFault>
+        requires { self.old.stage ≢ ReaderStage.Failed }
+        ensures gives { Advances self.old self.new (S.left source.old) (S.left source.new) (answer_of result out.new) }
+        ensures stage { IsStageAfter self.old.stage (answer_of result out.new) self.new.stage }
+        ensures held { IsHeld (answer_of result out.new) self.new }
+        ensures unasked { self.old.whole ≡ true → source.new ≡ source.old }
+        ensures asks { HoldsAnswer self.old → source.new ≡ source.old }
+        ensures later { S.faults source.old ≤ S.faults source.new }
+        ensures cause { result ≡ Err ScriptFault.ReadFault → Rose (S.faults source.old) (S.faults source.new) }
+        ensures unfailed { result ≢ Err ScriptFault.ReadFault → S.faults source.new ≡ S.faults source.old }
+    {
+        if self.is_done() {
+            return Ok(false);
+        }
+        match self.read_on(source, out) {
+            Ok(()) => Ok(true),
+            Err(fault) => Err(fault),
+        }
+    }
+
+    /// The next command, as `read_command` puts it.
     pub fn next<S: Source>(&mut self, source: &mut S) -> Result<Option<Command>, ScriptFault>
         requires { self.old.stage ≢ ReaderStage.Failed }
         ensures gives { Advances self.old self.new (S.left source.old) (S.left source.new) result }
@@ -216,11 +240,11 @@ impl ScriptReader {
         ensures cause { result ≡ Err ScriptFault.ReadFault → Rose (S.faults source.old) (S.faults source.new) }
         ensures unfailed { result ≢ Err ScriptFault.ReadFault → S.faults source.new ≡ S.faults source.old }
     {
-        if self.is_done() {
-            return Ok(None);
-        }
         let mut command = Command::End;
-        self.read_on(source, &mut command)?;
-        Ok(Some(command))
+        match self.read_command(source, &mut command) {
+            Ok(true) => Ok(Some(command)),
+            Ok(false) => Ok(None),
+            Err(fault) => Err(fault),
+        }
     }
 }

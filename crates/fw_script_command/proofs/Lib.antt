@@ -1,4 +1,5 @@
 pub mod CommandLaws
+pub mod DigitLaws
 pub mod FormLaws
 pub mod NumberLaws
 pub mod PiecesLaws

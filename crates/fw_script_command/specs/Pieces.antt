@@ -1,5 +1,12 @@
 -- Bytes separated by a separator.
 use Rattle.std.specs.Prelude.{◌≡◌, ◌≢◌, ℕ, ◌<◌, ◌==◌, List, [], ◌∷◌, ◌++◌, length, slice_index, if◌then◌else◌}
+use Rattle.fw_script_command.specs.declared.cut.Separator.{Separator}
+use Rattle.fw_script_command.specs.declared.cut.Separator.TheVariants.{Space, FullStop}
+
+-- the byte of a separator
+abbrev pub byte_of : Separator → ℕ
+byte_of Space = 32
+byte_of FullStop = 46
 
 -- no byte of the word is the separator
 abbrev pub IsFree : ℕ → List ℕ → Type 0

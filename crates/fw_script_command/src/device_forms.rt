@@ -86,8 +86,7 @@ pub(crate) fn show(words: &mut Pieces, out: &mut Command) -> Option<()>
     ensures none { IfNone result ((c : Command) → HasArguments Keyword.Show words.old c → ⊥) }
 {
     let name = words.shown()?;
-    let offset = words.offset()?;
-    words.end()?;
+    let offset = words.last_offset()?;
     *out = Command::Show(name, offset);
     Some(())
 }

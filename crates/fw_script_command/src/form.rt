@@ -7,12 +7,14 @@ ghost use Rattle.fw_script_command.specs.declared.command.Command.{Command};
 use crate::Command;
 use crate::candidate_forms::{candidate, contend};
 use crate::controller_forms::{break_, broadcast, connect, die, listen, lose, settle, start, step};
-use crate::cut::Pieces;
+use crate::cut::{Pieces, Separator};
 use crate::device_forms::{cable, device, dub, eject, insert, reset, show, withhold};
 use crate::keyword::{Keyword, keyword_of};
 use crate::transaction_forms::{command, cycles, end, read, swap, wait};
 
 /// The command of a keyword with the words after it.
+// Inlined at its one call, so that the words are kept in registers.
+#[inline(always)]
 fn arguments(keyword: Keyword, words: &mut Pieces, out: &mut Command) -> Option<()>
     ensures found { IfSome result (λ u. HasArguments keyword words.old out.new) }
     ensures none { IfNone result ((c : Command) → HasArguments keyword words.old c → ⊥) }
@@ -51,7 +53,7 @@ pub fn command_of(line: &[u8], out: &mut Command) -> Option<()>
     ensures found { IfSome result (λ u. HasForm out.new line.now) }
     ensures none { IfNone result ((c : Command) → HasForm c line.now → ⊥) }
 {
-    let mut words = Pieces::new(line, b' ');
+    let mut words = Pieces::new(line, Separator::Space);
     let keyword = keyword_of(words.next()?)?;
     arguments(keyword, &mut words, out)
 }

@@ -21,7 +21,7 @@ mod word_type;
 mod words;
 
 pub use command::Command;
-pub use cut::Pieces;
+pub use cut::{Pieces, Separator};
 pub use form::command_of;
 pub use keyword::{Keyword, keyword_of};
 pub use laws::forms_are_one_table;

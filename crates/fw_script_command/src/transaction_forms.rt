@@ -43,8 +43,7 @@ pub(crate) fn command(words: &mut Pieces, out: &mut Command) -> Option<()>
     let Command::Command(_, _, frame) = out else {
         unreachable!();
     };
-    words.frame(frame)?;
-    words.end()
+    words.last_frame(frame)
 }
 
 /// `read NAME NAME OFF`
@@ -54,8 +53,7 @@ pub(crate) fn read(words: &mut Pieces, out: &mut Command) -> Option<()>
 {
     let sender = words.name()?;
     let target = words.name()?;
-    let offset = words.offset()?;
-    words.end()?;
+    let offset = words.last_offset()?;
     *out = Command::Read(sender, target, offset);
     Some(())
 }

@@ -7,7 +7,7 @@ ghost use Rattle.std.specs.Str.Parse.{digits_value};
 ghost use Rattle.fw_script_command.specs.Words.{is, is_name_byte, is_taken, name_in, is_decimal, number_in, place_in};
 
 use crate::Name;
-use crate::cut::Pieces;
+use crate::cut::{Pieces, Separator};
 
 /// The word is this text.
 #[inline(always)]
@@ -89,7 +89,7 @@ pub(crate) fn small(word: &[u8], low: u8, high: u8) -> Option<u8>
 pub(crate) fn place(word: &[u8], high: u8) -> Option<(Name, u8)>
     ensures { result ≡ place_in high word.now }
 {
-    let mut parts = Pieces::new(word, b'.');
+    let mut parts = Pieces::new(word, Separator::FullStop);
     let name = name(parts.next()?)?;
     let number = small(parts.next()?, 0, high)?;
     parts.end()?;

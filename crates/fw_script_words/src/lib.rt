@@ -18,4 +18,4 @@ pub use laws::{runs_go_on_line_by_line, scripts_have_one_log};
 pub use recording::{dub, record_run};
 pub use script::run;
 pub use seed::{in_memory, run_seed};
-pub use step::carry_next;
+pub use step::{carry_known, carry_next};

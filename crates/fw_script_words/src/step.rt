@@ -1,9 +1,12 @@
 //! The step that all words share which run a script.
 
-ghost use Rattle.std.specs.Prelude.{◌≡◌, List, ℕ};
+ghost use Rattle.std.specs.Prelude.{◌≡◌, List, ℕ, IsFalse, Ok, Some, take};
 ghost use Rattle.std.specs.declared.option.Option.{Option as Maybe};
 ghost use Rattle.fw_tape.specs.Desks.{AnyBlock, AnyVendorByte};
-ghost use Rattle.fw_script.specs.Reading.{HoldsAnswer};
+ghost use Rattle.fw_bus.specs.Buses.{IsCommand};
+ghost use Rattle.fw_script.specs.Passing.{IsCommandNext};
+ghost use Rattle.fw_script.specs.Reader.{HoldsLine};
+ghost use Rattle.fw_script.specs.Reading.{Advances, HoldsAnswer, IsHeld, Reading};
 ghost use Rattle.fw_script_words.specs.Ending.{ending_by};
 ghost use Rattle.fw_script_words.specs.Counts.{ReadsOn, WritesOn};
 ghost use Rattle.fw_script_words.specs.Going.{Going, IsUnderWay, StepsOn};
@@ -12,6 +15,7 @@ use crate::ending::{Refusal, Refused, RunEnding};
 use fw_bus::{Bus, BusFault};
 use fw_outside::{Sink, Source, Stop};
 use fw_script::{ScriptFault, ScriptReader};
+use fw_script_command::Command;
 use fw_tape::Desk;
 
 fn refused(line: u32, why: Refusal) -> RunEnding
@@ -30,6 +34,33 @@ fn ending_of(fault: ScriptFault, line: u32) -> RunEnding
         ScriptFault::NoEnd => refused(line, Refusal::NoEnd),
         ScriptFault::ReadFault => RunEnding::Stopped(Stop::ReadFault),
         ScriptFault::TooLong => RunEnding::Stopped(Stop::TooLong),
+    }
+}
+
+// Carries out a command whose line was read last, and answers how the run ends, or None if it goes on.
+#[inline(always)]
+fn carry_read<K: Sink, F: Fn(u16, u32, u16) -> [u8; 480], H: Fn(u32, u8) -> u8>(
+    command: &Command,
+    reader: &ScriptReader,
+    bus: &mut Bus,
+    sink: &mut K,
+    desk: &Desk<F, H>,
+) -> Option<RunEnding>
+    requires blocks { AnyBlock (F.pre desk.now.blocks) }
+    requires desk { AnyVendorByte (H.pre desk.now.vendor) }
+    requires fresh { IsFalse bus.old.spent }
+    requires command { IsCommand command.now }
+    ensures goes { (left before now held after : Maybe (List ℕ)) (old : Reading)
+        → (g : Going (record { blocks = F.post desk.now.blocks; vendor = H.post desk.now.vendor }) left before held after old bus.old)
+        → Advances old reader.now before now (Ok (Some command.now)) → IsHeld (Ok (Some command.now)) reader.now
+        → StepsOn g now (K.held sink.old) (K.held sink.new) reader.now bus.new result }
+    ensures reads { (faults : ℕ) → ReadsOn faults faults result }
+    ensures writes { WritesOn (K.faults sink.old) (K.faults sink.new) result }
+{
+    match bus.apply(command, sink, desk) {
+        Ok(()) => None,
+        Err(BusFault::Refused(rule)) => Some(refused(reader.line(), Refusal::Rule(rule))),
+        Err(BusFault::WriteFault) => Some(RunEnding::Stopped(Stop::WriteFault)),
     }
 }
 
@@ -57,14 +88,36 @@ pub fn carry_next<S: Source, K: Sink, F: Fn(u16, u32, u16) -> [u8; 480], H: Fn(u
     ensures reads { ReadsOn (S.faults source.old) (S.faults source.new) result }
     ensures writes { WritesOn (K.faults sink.old) (K.faults sink.new) result }
 {
-    let command = match reader.next(source) {
-        Ok(Some(command)) => command,
-        Ok(None) => return Some(RunEnding::Done),
-        Err(fault) => return Some(ending_of(fault, reader.line())),
-    };
-    match bus.apply(&command, sink, desk) {
-        Ok(()) => None,
-        Err(BusFault::Refused(rule)) => Some(refused(reader.line(), Refusal::Rule(rule))),
-        Err(BusFault::WriteFault) => Some(RunEnding::Stopped(Stop::WriteFault)),
+    let mut command = Command::End;
+    match reader.read_command(source, &mut command) {
+        Ok(true) => carry_read(&command, reader, bus, sink, desk),
+        Ok(false) => Some(RunEnding::Done),
+        Err(fault) => Some(ending_of(fault, reader.line())),
     }
+}
+
+/// As `carry_next`, of a command that a caller has looked at: it is that of the next line, which is held, with its length and how many bytes
+/// it takes. The line is not looked at again.
+pub fn carry_known<K: Sink, F: Fn(u16, u32, u16) -> [u8; 480], H: Fn(u32, u8) -> u8>(
+    line: (usize, usize),
+    command: &Command,
+    reader: &mut ScriptReader,
+    bus: &mut Bus,
+    sink: &mut K,
+    desk: &Desk<F, H>,
+) -> Option<RunEnding>
+    requires blocks { AnyBlock (F.pre desk.now.blocks) }
+    requires desk { AnyVendorByte (H.pre desk.now.vendor) }
+    requires under_way { (now : Maybe (List ℕ)) × IsUnderWay (record { blocks = F.post desk.now.blocks; vendor = H.post desk.now.vendor }) now reader.old bus.old }
+    requires line { HoldsLine reader.old line.0 line.1 }
+    requires next { IsCommandNext reader.old reader.old (take line.0 reader.old.rest) command.now }
+    ensures goes { (left now held after : Maybe (List ℕ))
+        → (g : Going (record { blocks = F.post desk.now.blocks; vendor = H.post desk.now.vendor }) left now held after reader.old bus.old)
+        → StepsOn g now (K.held sink.old) (K.held sink.new) reader.new bus.new result }
+    ensures reads { (faults : ℕ) → ReadsOn faults faults result }
+    ensures writes { WritesOn (K.faults sink.old) (K.faults sink.new) result }
+{
+    let (length, size) = line;
+    reader.pass_command(length, size);
+    carry_read(command, reader, bus, sink, desk)
 }

@@ -127,9 +127,9 @@ abbrev pub TracesFrom : DeskRelations → Option (List ℕ) → Option (List ℕ
 TracesFrom D left' left'' held' held'' old reader bus bus' tracer tracer' history history' result =
     (left held : Option (List ℕ)) → Tracing D left left' held held' old bus tracer history → TracesOn D left left'' held held'' old reader bus' tracer' history' result
 
--- a command stands next, on a line of this length
-abbrev pub HoldsCommand : Reading → ℕ → Command → Type 0
-HoldsCommand p n c = (size : ℕ) × HoldsLine p n size × IsCommandNext p p (take n p.rest) c
+-- a command stands next, on a line of this length, which takes so many bytes
+abbrev pub HoldsCommand : Reading → ℕ × ℕ → Command → Type 0
+HoldsCommand p line c = HoldsLine p line.0 line.1 × IsCommandNext p p (take line.0 p.rest) c
 
 -- the log's header was read, and nothing was told; or the sink, or memory, failed, and nothing was told
 abbrev pub IsBeginning : Option (List ℕ) → Option (List ℕ) → Option Lack → Traced → List ℕ → Option RunEnding → Type 0

@@ -35,7 +35,8 @@ fn put_iso(tracer: &mut Tracer, cycle: u64, bytes: &[u8]) -> Result<(), AllocErr
     tracer.put_iso(cycle, &whole_iso(bytes))
 }
 
-// Adds the lines of a bus reset, if it is the latest but for its epoch.
+// Adds the lines of a bus reset, if it is the latest but for its epoch. It is rare, and so not inlined.
+#[inline(never)]
 fn put_again(
     tracer: &mut Tracer,
     latest: &mut LatestReset,

@@ -39,12 +39,21 @@ fn carry_alone<S: Source, K: Sink, F: Fn(u16, u32, u16) -> [u8; 480], H: Fn(u32,
     ensures writes { WritesOn (K.faults telling.old.inner.now) (K.faults telling.new.inner.now) result }
 {
     telling.begin_alone();
-    carry(&Command::End, None, reader, bus, source, telling, desk)
+    carry(
+        None,
+        &Command::End,
+        None,
+        reader,
+        bus,
+        source,
+        telling,
+        desk,
+    )
 }
 
-// Carries out the command of the next line, which is held and has this length, and tells the line with what it causes.
+// Carries out the command of the next line, which is held and has this length and size, and tells the line with what it causes.
 fn carry_line<S: Source, K: Sink, F: Fn(u16, u32, u16) -> [u8; 480], H: Fn(u32, u8) -> u8>(
-    length: usize,
+    line: (usize, usize),
     command: &Command,
     reader: &mut ScriptReader,
     bus: &mut Bus,
@@ -56,7 +65,7 @@ fn carry_line<S: Source, K: Sink, F: Fn(u16, u32, u16) -> [u8; 480], H: Fn(u32, 
     requires desk { AnyVendorByte (H.pre desk.now.vendor) }
     requires tracing { IsTracing (record { blocks = F.post desk.now.blocks; vendor = H.post desk.now.vendor })
         (S.left source.old) (K.held telling.old.inner.now) reader.old bus.old telling.old.teller.now.tracer telling.old.teller.now.history.bytes }
-    requires holds { HoldsCommand reader.old length command.now }
+    requires holds { HoldsCommand reader.old line command.now }
     requires lack { telling.old.teller.now.lack ≡ None }
     ensures goes { TracesFrom (record { blocks = F.post desk.now.blocks; vendor = H.post desk.now.vendor }) (S.left source.old) (S.left source.new)
         (K.held telling.old.inner.now) (K.held telling.new.inner.now) reader.old reader.new bus.old bus.new telling.old.teller.now.tracer telling.new.teller.now.tracer
@@ -67,11 +76,20 @@ fn carry_line<S: Source, K: Sink, F: Fn(u16, u32, u16) -> [u8; 480], H: Fn(u32, 
     ensures writes { WritesOn (K.faults telling.old.inner.now) (K.faults telling.new.inner.now) result }
 {
     let number = reader.line() + 1;
-    let Ok(()) = telling.begin(number, reader.held_text(length), command) else {
+    let Ok(()) = telling.begin(number, reader.held_text(line.0), command) else {
         return Some(RunEnding::Stopped(Stop::NoMemory));
     };
     let place = place_of(bus, command);
-    carry(command, place, reader, bus, source, telling, desk)
+    carry(
+        Some(line),
+        command,
+        place,
+        reader,
+        bus,
+        source,
+        telling,
+        desk,
+    )
 }
 
 // Reads the next line, which is held, and tells it if it says nothing by itself, or carries out its command. Answers how the run ends, or
@@ -105,7 +123,7 @@ fn trace_line<S: Source, K: Sink, F: Fn(u16, u32, u16) -> [u8; 480], H: Fn(u32, 
             Ok(()) => None,
             Err(lack) => Some(stopped(lack)),
         },
-        Said::Command => carry_line(length, &command, reader, bus, source, telling, desk),
+        Said::Command => carry_line(line, &command, reader, bus, source, telling, desk),
         Said::Refused => carry_alone(reader, bus, source, telling, desk),
     }
 }

@@ -13,7 +13,8 @@ use Rattle.fw_log_requests.specs.Requests.{asked_by}
 use Rattle.fw_trace_lines.specs.declared.streams.Stream.{Stream}
 use Rattle.fw_trace_names.specs.Names.{Naming}
 use Rattle.fw_trace_lines.specs.Streams.{stream_at}
-use Rattle.fw_trace_lines.specs.Caused.{Telling, kind_of, held_by, joined_lines, joined_line, late_lines, response_lines, packet_lines, own_lines, lines_by, entry_lines, renumbered, naming_after, held_after, telling_after}
+use Rattle.fw_trace_lines.specs.Caused.{Telling, kind_of, held_by, joined_lines, joined_line, late_lines, response_lines, packet_lines}
+use Rattle.fw_trace_lines.specs.Caused.{own_lines, lines_by, entry_lines, renumbered, naming_after, held_after, telling_after}
 use Rattle.fw_trace_names.specs.CausedLines.{Caused}
 use Rattle.fw_trace_requests.specs.Held.{DeferredRequest, is_joined, lone_lines}
 use Rattle.fw_trace_lines.specs.Commands.{stream_lines, first_streams, last_lines, lines_from, telling_following, command_lines}

@@ -112,6 +112,7 @@ impl Tracer {
     }
 
     // As `put`, of an asynchronous packet in this cycle.
+    #[inline(never)]
     #[tactic(auto, unfolding(crate::specs::Caused::lines_by))]
     fn put_async(&mut self, cycle: u64, p: &Packet) -> Result<(), AllocError>
         ensures text { OnOk result (self.new.text ≡ self.old.text ++ caused_text (entry_lines self.old.telling (record { cycle = cycle; what = Async p.now }))) }

@@ -33,9 +33,9 @@ fn write_begun<const N: usize>(out: &mut [u8], at: usize, row: &[u8; N], size: u
 fn write_ends<const N: usize>(
     out: &mut [u8; ROOM],
     digits: (&[u8; 24], usize),
-    left: ([u8; 16], usize),
+    left: (&[u8; 16], usize),
     arrow: &[u8; N],
-    right: ([u8; 16], usize),
+    right: (&[u8; 16], usize),
 ) -> usize
     requires arrow { N ≤ 5 }
     requires digits { digits.1 ≤ 24 }
@@ -43,12 +43,12 @@ fn write_ends<const N: usize>(
     requires right { right.1 ≤ 16 }
     requires margin { take 6 out.old ≡ codes "      " }
     ensures end { result ≤ 80 }
-    ensures text { take result out.new ≡ codes "      " ++ take digits.entry.1 digits.entry.0.now ++ take left.1 left.0 ++ arrow.now ++ take right.1 right.0 ++ codes " " }
+    ensures text { take result out.new ≡ codes "      " ++ take digits.entry.1 digits.entry.0.now ++ take left.entry.1 left.entry.0.now ++ arrow.now ++ take right.entry.1 right.entry.0.now ++ codes " " }
 {
     let at = write_begun(out, MARGIN, digits.0, digits.1);
-    let at = write_begun(out, at, &left.0, left.1);
+    let at = write_begun(out, at, left.0, left.1);
     let at = write_begun(out, at, arrow, N);
-    let at = write_begun(out, at, &right.0, right.1);
+    let at = write_begun(out, at, right.0, right.1);
     write_begun(out, at, b" ", 1)
 }
 

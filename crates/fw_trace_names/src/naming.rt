@@ -60,13 +60,13 @@ impl DeviceName {
 
     // A row that begins with it, and its length, if there is one.
     #[inline(always)]
-    fn row(&self) -> Option<([u8; 16], usize)>
-        ensures { IfSome result (λ r. (r.1 ≤ 16) × (take r.1 r.0 ≡ self.now)) }
+    fn row(&self) -> Option<(&[u8; 16], usize)>
+        ensures { IfSome result (λ r. (r.1 ≤ 16) × (take r.1 r.0.now ≡ self.now)) }
     {
         if self.size == 0 {
             return None;
         }
-        Some((self.row, self.size))
+        Some((&self.row, self.size))
     }
 
     // Appends it.
@@ -198,8 +198,8 @@ impl Names {
     // A row that begins with the name of the node with an ID, and the name's length, if there is one.
     #[inline(always)]
     #[tactic(auto, unfolding(crate::specs::Names::node_text, crate::specs::Names::node_or, crate::specs::Names::device_text))]
-    pub(crate) fn row_of(&self, id: u16) -> Option<([u8; 16], usize)>
-        ensures { IfSome result (λ r. (r.1 ≤ 16) × (take r.1 r.0 ≡ id_text self.now id)) }
+    pub(crate) fn row_of(&self, id: u16) -> Option<(&[u8; 16], usize)>
+        ensures { IfSome result (λ r. (r.1 ≤ 16) × (take r.1 r.0.now ≡ id_text self.now id)) }
     {
         let device = self.nodes.as_slice().get(usize::from(number_of(id)))?;
         let name = self.names.get(usize::from(*device))?;

@@ -218,6 +218,8 @@ impl Memo {
     }
 
     /// Appends a phrase. An error says that memory ran out.
+    // Inlined, since its callers know of which kind the phrase is.
+    #[inline(always)]
     pub(crate) fn put(
         &mut self,
         text: &mut Vec<u8>,

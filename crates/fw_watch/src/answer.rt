@@ -4,16 +4,13 @@ ghost use Rattle.std.specs.Prelude.{◌≡◌, OnOk};
 ghost use Rattle.fw_watch_remarks.specs.Remarks.{told};
 ghost use Rattle.fw_async.specs.Reader.{IsPacket, Spells};
 ghost use Rattle.fw_async.specs.declared.packet.Packet.{Packet as AsyncPacket};
-ghost use Rattle.fw_watch_known.specs.Judging.{judged};
-ghost use Rattle.fw_watch_known.specs.Swapped.{swapped};
-ghost use Rattle.fw_watch.specs.Judging.{judge_remarks};
-ghost use Rattle.fw_watch.specs.Swaps.{swap_remarks};
-ghost use Rattle.fw_watch.specs.Answering.{heed, not_manager_remarks, made_remarks, after_made, found_remarks, after_found, with_manager, followed_remarks, after_followed, answer_remarks, after_answer, packet_remarks, after_packet};
+ghost use Rattle.fw_watch_known.specs.States.{is_manager, manager_by};
+ghost use Rattle.fw_watch.specs.Answering.{heed, not_manager_remarks, with_manager, followed_remarks, after_followed, answer_remarks, after_answer, packet_remarks, after_packet};
 
-use crate::judge::tell_judged;
-use crate::tell_swap::{tell_not_manager, tell_swap};
+use crate::found::take_found;
+use crate::tell_swap::tell_not_manager;
 use fw_async::Packet;
-use fw_watch_known::{Answer, Made, State};
+use fw_watch_known::{Answer, Manager, State};
 use fw_watch_remarks::{At, Journal, Known};
 use std::alloc::AllocError;
 
@@ -28,6 +25,18 @@ pub enum Heed {
     Follow,
 }
 
+// A node is the resource manager, or may be, since nothing has said which node is.
+#[inline(always)]
+fn may_manage(manager: Manager, node: u8) -> bool
+    ensures { result ≡ is_manager node (manager_by node manager) }
+{
+    match manager {
+        Manager::Unknown => true,
+        Manager::Node(number) => number == node,
+        Manager::Absent => false,
+    }
+}
+
 // What is to be done with an answer.
 #[inline(always)]
 #[tactic(auto, unfolding(crate::specs::Answering::heed))]
@@ -36,7 +45,7 @@ fn how_to_heed(state: &State, at: At) -> Heed
 {
     if at.node >= state.count {
         Heed::Ignore
-    } else if at.register.is_managed() && !state.manager.by(at.node).is(at.node) {
+    } else if at.register.is_managed() && !may_manage(state.manager, at.node) {
         Heed::Refuse
     } else {
         Heed::Follow
@@ -60,104 +69,17 @@ fn tell_refused(
     }
 }
 
-// Takes a swap that was made.
-#[inline(never)]
-fn take_made(state: &mut State, journal: &mut Journal, made: &Made) -> Result<(), AllocError>
-    ensures lines { OnOk result (journal.new ≡ told journal.old (swap_remarks state.old made.now)) }
-    ensures known { OnOk result (state.new ≡ swapped state.old made.now) }
-{
-    tell_swap(state, journal, made)?;
-    state.swap(made);
-    Ok(())
-}
-
-// Takes a swap that an answer has made, if it has made one. What is not inlined is not given the answer, so that it need not be put
-// together in memory.
-#[inline(always)]
-#[tactic(auto, unfolding(crate::specs::Answering::made_remarks, crate::specs::Answering::after_made))]
-fn take_swap(
-    state: &mut State,
-    journal: &mut Journal,
-    cycle: u64,
-    a: &Answer,
-) -> Result<(), AllocError>
-    ensures lines { OnOk result (journal.new ≡ told journal.old (made_remarks cycle a.now a.now.swap state.old)) }
-    ensures known { OnOk result (state.new ≡ after_made cycle a.now a.now.swap state.old) }
-{
-    let Some(swap) = a.swap else {
-        return Ok(());
-    };
-    let made = Made {
-        cycle,
-        by: a.by,
-        at: a.at,
-        old: swap.argument,
-        new: swap.new,
-    };
-    take_made(state, journal, &made)
-}
-
-// Takes a word that is found, which is not the one that is known to be there.
-#[inline(never)]
-fn take_other(
-    state: &mut State,
-    journal: &mut Journal,
-    cycle: u64,
-    at: At,
-    found: u32,
-) -> Result<(), AllocError>
-    ensures lines { OnOk result (journal.new ≡ told journal.old (judge_remarks state.old cycle at found)) }
-    ensures known { OnOk result (state.new ≡ judged state.old at found) }
-{
-    tell_judged(state, journal, cycle, at, found)?;
-    state.judge(at, found);
-    Ok(())
-}
-
-// Takes a word that is found.
-#[inline(always)]
-#[tactic(auto, unfolding(crate::specs::Judging::judge_remarks))]
-fn take_word(
-    state: &mut State,
-    journal: &mut Journal,
-    cycle: u64,
-    at: At,
-    found: u32,
-) -> Result<(), AllocError>
-    ensures lines { OnOk result (journal.new ≡ told journal.old (judge_remarks state.old cycle at found)) }
-    ensures known { OnOk result (state.new ≡ judged state.old at found) }
-{
-    if state.judge_same(at, found) {
-        return Ok(());
-    }
-    take_other(state, journal, cycle, at, found)
-}
-
-// Takes an answer that shows a word.
-#[inline(always)]
-#[tactic(auto, using(crate::proofs::WatchLaws::told_more), unfolding(crate::specs::Answering::found_remarks, crate::specs::Answering::after_found))]
-fn take_found(
-    state: &mut State,
-    journal: &mut Journal,
-    cycle: u64,
-    a: &Answer,
-    found: u32,
-) -> Result<(), AllocError>
-    ensures lines { OnOk result (journal.new ≡ told journal.old (found_remarks cycle a.now found state.old)) }
-    ensures known { OnOk result (state.new ≡ after_found cycle a.now found state.old) }
-{
-    take_word(state, journal, cycle, a.at, found)?;
-    take_swap(state, journal, cycle, a)
-}
-
 // The node of a register has answered as the resource manager, if the register is one of its.
 #[inline(always)]
 #[tactic(auto, unfolding(crate::specs::Answering::with_manager))]
 fn note_manager(state: &mut State, at: At)
     ensures { state.new ≡ with_manager at state.old }
 {
-    if at.register.is_managed() {
-        state.manager = state.manager.by(at.node);
+    if !at.register.is_managed() {
+        return;
+    }
+    if let Manager::Unknown = state.manager {
+        state.manager = Manager::Node(at.node);
     }
 }
 

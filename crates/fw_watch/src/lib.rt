@@ -4,6 +4,7 @@
 #![tactic(auto)]
 
 mod answer;
+mod found;
 mod hear;
 mod held;
 mod judge;

@@ -3,7 +3,8 @@
 ghost use Rattle.std.specs.Prelude.{◌≡◌, ◌++◌, OnOk, IsTrue};
 ghost use Rattle.fw_watch_remarks.specs.Remarks.{asker_text, held_text, swapper_text, not_manager_text, too_many_text, several_text, changer_text, to_text, words_text, more_text, two_text, carries_text, not_taken_text, other_plug_text, remark_text, is_finding};
 
-use crate::parts::{put_manager_clause, put_owners, put_small, put_units, put_who};
+use crate::nodes::put_who;
+use crate::parts::{put_manager_clause, put_owners, put_small, put_units};
 use crate::register::{At, put_at};
 use crate::remark::Remark;
 use crate::seconds::{put_new_in_second, put_units_in_second};

@@ -5,6 +5,7 @@ mod count;
 mod findings;
 mod journal;
 mod known;
+mod nodes;
 mod parts;
 mod register;
 mod remark;

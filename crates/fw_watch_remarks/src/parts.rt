@@ -2,11 +2,11 @@
 
 ghost use Rattle.std.specs.Prelude.{◌≡◌, ◌++◌, ◌<◌, ◌≤◌, ◌||◌, OnOk, decimal};
 ghost use Rattle.fw_words.specs.Quadlet.{field};
-ghost use Rattle.fw_watch_remarks.specs.Parts.{part, either, who_text, units_text, channel_at, channels_to, set_text, moved_channels, apart, moved_units, moved_text, mask_text, has_bit, next_owner, owners_to, manager_text, manager_clause};
+ghost use Rattle.fw_watch_remarks.specs.Parts.{part, either, units_text, channel_at, channels_to, set_text, moved_channels, apart, moved_units, moved_text, mask_text, has_bit, next_owner, owners_to, manager_text, manager_clause};
 
 use crate::known::{Known, bit};
 use crate::register::WatchedRegister;
-use fw_log_names::{Pairs, put_hex8, put_node, put_number, put_word};
+use fw_log_names::{Pairs, put_hex8, put_number, put_word};
 use fw_words::Quadlet;
 use std::alloc::AllocError;
 
@@ -27,6 +27,7 @@ pub fn put_small(text: &mut Vec<u8>, word: &str, n: u8) -> Result<(), AllocError
 }
 
 // Appends a word and a number of 32 bits.
+#[inline(always)]
 pub fn put_wide(text: &mut Vec<u8>, word: &str, n: u32) -> Result<(), AllocError>
     ensures { OnOk result (text.new.items ≡ text.old.items ++ part word.now n) }
 {
@@ -34,6 +35,7 @@ pub fn put_wide(text: &mut Vec<u8>, word: &str, n: u32) -> Result<(), AllocError
 }
 
 // Appends a word and a field of a quadlet.
+#[inline(always)]
 pub fn put_field(
     text: &mut Vec<u8>,
     word: &str,
@@ -49,22 +51,15 @@ pub fn put_field(
 }
 
 // Appends one word or another.
+#[inline(always)]
 #[tactic(auto, unfolding(crate::specs::Parts::either))]
 pub fn put_either(text: &mut Vec<u8>, flag: bool, yes: &str, no: &str) -> Result<(), AllocError>
     ensures { OnOk result (text.new.items ≡ text.old.items ++ either flag yes.now no.now) }
 {
-    put_word(text, if flag { yes } else { no })
-}
-
-// Appends who asked for something.
-#[tactic(auto, unfolding(crate::specs::Parts::who_text))]
-pub fn put_who(text: &mut Vec<u8>, pairs: &Pairs, by: u16) -> Result<(), AllocError>
-    ensures { OnOk result (text.new.items ≡ text.old.items ++ who_text by) }
-{
-    if by == 0xFFFF {
-        put_word(text, "node_ID ffff")
+    if flag {
+        put_word(text, yes)
     } else {
-        put_node(text, pairs, by)
+        put_word(text, no)
     }
 }
 

@@ -3,6 +3,7 @@
 ghost use Rattle.std.specs.Prelude.{◌≡◌, ◌<◌, ◌++◌, OnOk};
 ghost use Rattle.fw_watch_remarks.specs.Registers.{register_at, plug_at, plug_number, is_managed, is_output, place_of, at_text};
 
+use crate::nodes::put_plug_of_node;
 use fw_csr::offset::{
     BANDWIDTH_AVAILABLE, CHANNELS_AVAILABLE_HI, CHANNELS_AVAILABLE_LO, IPCR, OPCR,
 };
@@ -116,12 +117,27 @@ impl WatchedRegister {
     }
 }
 
-// Appends a register by its name and its node.
+// Appends any register by its name and its node.
 #[tactic(auto, unfolding(crate::specs::Registers::at_text))]
-pub fn put_at(text: &mut Vec<u8>, pairs: &Pairs, at: At) -> Result<(), AllocError>
+fn put_any(text: &mut Vec<u8>, pairs: &Pairs, at: At) -> Result<(), AllocError>
     ensures { OnOk result (text.new.items ≡ text.old.items ++ at_text at) }
 {
     put_place(text, pairs, at.register.place())?;
     put_word(text, " of node ")?;
     put_number(text, u64::from(at.node))
+}
+
+// Appends a register by its name and its node.
+pub fn put_at(text: &mut Vec<u8>, pairs: &Pairs, at: At) -> Result<(), AllocError>
+    ensures { OnOk result (text.new.items ≡ text.old.items ++ at_text at) }
+{
+    match at.register {
+        WatchedRegister::Output(number) if number < 10 => put_plug_of_node(
+            text, b'o', number, at.node,
+        ),
+        WatchedRegister::Input(number) if number < 10 => put_plug_of_node(
+            text, b'i', number, at.node,
+        ),
+        _ => put_any(text, pairs, at),
+    }
 }

@@ -5,8 +5,9 @@ ghost use Rattle.fw_watch_remarks.specs.Remarks.{reset_text, mover_text, unit_te
 
 use crate::findings::put_finding;
 use crate::known::is_connected;
+use crate::nodes::put_who;
 use crate::parts::{
-    apart, put_either, put_field, put_manager, put_small, put_units, put_who, put_wide,
+    apart, put_either, put_field, put_manager, put_part, put_small, put_units, put_wide,
 };
 use crate::register::{At, put_at};
 use crate::remark::Remark;
@@ -75,7 +76,7 @@ fn put_channel(
     ensures { OnOk result (text.new.items ≡ text.old.items ++ channel_text by does.now channel) }
 {
     put_who(text, pairs, by)?;
-    put_small(text, does, channel)
+    put_part(text, does, u64::from(channel))
 }
 
 // Appends the counts of a plug.

@@ -216,6 +216,13 @@ source_of h q e = grind (arith, nat_tests)
 pub asker_is : (h : Head) (q : Asked) (at : ℕ) → is_of h q ≡ true → at ≡ h.source % 64 → at ≡ q.source % 64
 asker_is h q at of e = e ∙ ap (λ (n : ℕ). n % 64) (sym (source_of h q of))
 
+few_rest : (list : List Asked) → length list ≤ 256 → length (drop 1 list) ≤ 256
+few_rest [] h = h
+few_rest (q ∷ qs) h = omega (arith, h)
+
+pub rest_kept : (askers : List Bool) (list : List Asked) → AreKept askers list → AreKept askers (drop 1 list)
+rest_kept askers list x = record { few = few_rest list x.few; apart = apart_rest list x.apart; marked = askers_rest askers list x.marked }
+
 -- ---- the first of them
 
 one_at_least : (n : ℕ) → nat_le 1 (suc n) ≡ true

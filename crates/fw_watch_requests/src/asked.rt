@@ -1,7 +1,7 @@
 //! What is kept of a request at a watched register, and the answer that a response is to it.
 
-ghost use Rattle.std.specs.Prelude.{◌≡◌, ◌+◌, ◌<◌};
-ghost use Rattle.fw_watch_requests.specs.Standing.{lock_of, asked, is_read, answers, is_of, node_of, answer_by, old_word, made_by};
+ghost use Rattle.std.specs.Prelude.{◌≡◌, ◌+◌, ◌<◌, ◌==◌, Some, None, if◌then◌else◌};
+ghost use Rattle.fw_watch_requests.specs.Standing.{lock_of, asked, is_read, answers, is_of, node_of, answer_by, old_word, made_by, read_answer, lock_answer};
 
 use fw_async::Head;
 use fw_watch_remarks::{At, WatchedRegister};
@@ -175,6 +175,30 @@ impl Asked {
                 swap: self.asking.made(found),
             }),
             None => None,
+        }
+    }
+
+    // The answer that a response to a read with this response code is.
+    #[inline(always)]
+    pub(crate) fn read_answer(&self, rcode: u8, value: u32) -> Option<Answer>
+        ensures { result ≡ if rcode == 0 then read_answer (Some self.now) value else None }
+    {
+        if rcode == 0 {
+            self.answer(Some(value))
+        } else {
+            None
+        }
+    }
+
+    // The answer that a response to a lock with this response code is.
+    #[inline(always)]
+    pub(crate) fn lock_answer(&self, rcode: u8, function: u8, bytes: &[u8]) -> Option<Answer>
+        ensures { result ≡ if rcode == 0 then lock_answer (Some self.now) function bytes.now else None }
+    {
+        if rcode == 0 {
+            self.answer(self.asking.old_word(function, bytes))
+        } else {
+            None
         }
     }
 }

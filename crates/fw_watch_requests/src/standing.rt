@@ -1,20 +1,19 @@
 //! The requests at watched registers that stand.
 
-ghost use Rattle.std.specs.Prelude.{◌≡◌, ◌%◌, ◌==◌, ◌++◌, ◌∷◌, true, false, [], None, if◌then◌else◌};
+ghost use Rattle.std.specs.Prelude.{◌≡◌, ◌==◌, ◌++◌, ◌∷◌, true, false, [], None, drop, if◌then◌else◌};
 ghost use Rattle.fw_async.specs.Reader.{IsPacket, Spells};
 ghost use Rattle.fw_async.specs.declared.packet.Packet.{Packet as AsyncPacket};
 ghost use Rattle.fw_watch_requests.specs.Standing.{asked, is_of, latest, standing_following, without_answered, without_same, without_source, with_request, answered, read_answer, lock_answer, answer_of};
 
 use crate::asked::{Answer, Asked, Asking};
 use crate::glance::{Kind, head_at, kind_at, offset_at, rcode_at, swap_at};
-use crate::taking::{make_room, take_answered, take_same, take_source};
+use crate::taking::{
+    ASKERS, asker_of, first_answered, make_room, take_answered, take_same, take_source,
+};
 use fw_async::{Head, Packet, whole_packet};
 use fw_request_queue::Queue;
 use fw_words::{COMPARE_SWAP, quadlet_at};
 use std::marker::Model;
-
-/// How many last numbers of nodes are told apart when a request of a new one's is looked for.
-const ASKERS: usize = 64;
 
 /// The requests at watched registers that no response has answered since the latest bus reset, the oldest first: at most 256, of
 /// which the oldest makes room for a new one. Mostly the oldest is answered first, and none has the source of a new one: nothing is
@@ -36,14 +35,6 @@ impl Model for OutstandingRequests {
     ghost view = { λ s. s.queue };
 
     ghost invariant = { λ s. AreKept s.askers s.queue };
-}
-
-// The last six bits of the node_ID of who asks.
-#[inline(always)]
-fn asker_of(head: &Head) -> usize
-    ensures { result ≡ head.now.source % 64 }
-{
-    usize::from(head.source) % ASKERS
 }
 
 impl OutstandingRequests {
@@ -105,13 +96,24 @@ impl OutstandingRequests {
         take_source(&mut self.queue, source);
     }
 
-    // The request that a response answers, which stands no longer.
+    // The first request stands no longer.
     #[inline(always)]
-    fn take_answered(&mut self, read: bool, head: &Head) -> Option<Asked>
-        ensures value { result ≡ answered read head.now self.old }
-        ensures known { self.new ≡ without_answered read head.now self.old }
+    fn take_first(&mut self)
+        ensures { self.new ≡ drop 1 self.old }
     {
-        let asked = take_answered(&mut self.queue, read, head);
+        self.queue.take_first();
+        if self.queue.as_slice().is_empty() {
+            self.askers = [false; ASKERS];
+        }
+    }
+
+    // The request that a response answers, wherever it stands, which stands no longer.
+    #[inline(never)]
+    fn take_answered(&mut self, read: bool, head: Head) -> Option<Asked>
+        ensures value { result ≡ answered read head self.old }
+        ensures known { self.new ≡ without_answered read head self.old }
+    {
+        let asked = take_answered(&mut self.queue, read, &head);
         if self.queue.as_slice().is_empty() {
             self.askers = [false; ASKERS];
         }
@@ -124,9 +126,15 @@ impl OutstandingRequests {
         ensures value { result ≡ if rcode == 0 then read_answer (answered true head.now self.old) value else None }
         ensures known { self.new ≡ without_answered true head.now self.old }
     {
-        match self.take_answered(true, head) {
-            Some(q) if rcode == 0 => q.answer(Some(value)),
-            _ => None,
+        match first_answered(self.queue.as_slice(), true, head) {
+            Some(first) => {
+                self.take_first();
+                first.read_answer(rcode, value)
+            }
+            None => match self.take_answered(true, *head) {
+                Some(later) => later.read_answer(rcode, value),
+                None => None,
+            },
         }
     }
 
@@ -136,9 +144,15 @@ impl OutstandingRequests {
         ensures value { result ≡ if rcode == 0 then lock_answer (answered false head.now self.old) function bytes.now else None }
         ensures known { self.new ≡ without_answered false head.now self.old }
     {
-        match self.take_answered(false, head) {
-            Some(q) if rcode == 0 => q.answer(q.asking.old_word(function, bytes)),
-            _ => None,
+        match first_answered(self.queue.as_slice(), false, head) {
+            Some(first) => {
+                self.take_first();
+                first.lock_answer(rcode, function, bytes)
+            }
+            None => match self.take_answered(false, *head) {
+                Some(later) => later.lock_answer(rcode, function, bytes),
+                None => None,
+            },
         }
     }
 

@@ -1,8 +1,9 @@
 //! Lines that say nothing, one by one.
 
-ghost use Rattle.std.specs.Prelude.{◌≡◌, ◌≢◌, ◌≤◌, length, take, true, IfOk, OnOk, OnErr, Err};
+ghost use Rattle.std.specs.Prelude.{◌≡◌, ◌≢◌, ◌≤◌, ℕ, List, length, take, true, IfOk, OnOk, OnErr, Ok, Err, Some};
+ghost use Rattle.std.specs.declared.option.Option.{Option as Maybe};
 ghost use Rattle.fw_outside.specs.Outside.{Rose};
-ghost use Rattle.fw_script.specs.Passing.{FailsThere, HoldsNext, Passes};
+ghost use Rattle.fw_script.specs.Passing.{FailsThere, HoldsNext, IsCommandNext, Passes};
 ghost use Rattle.fw_script.specs.Reader.{IsOpen, HoldsLine};
 ghost use Rattle.fw_script.specs.Reading.{Advances, IsHeld, TakesMore};
 
@@ -84,5 +85,18 @@ impl ScriptReader {
             Meaning::Command => Said::Command,
             Meaning::Refused => Said::Refused,
         }
+    }
+
+    /// Reads the next line, which has this length and takes so many bytes, and is a command's: `read_line` has put the command, and it is not
+    /// read again.
+    pub fn pass_command(&mut self, length: usize, size: usize)
+        requires line { HoldsLine self.old length size }
+        requires next { (c : Command) × IsCommandNext self.old self.old (take length self.old.rest) c }
+        ensures gives { (c : Command) (left : Maybe (List ℕ)) → IsCommandNext self.old self.old (take length self.old.rest) c → Advances self.old self.new left left (Ok (Some c)) }
+        ensures held { (c : Command) → IsHeld (Ok (Some c)) self.new }
+    {
+        // What the invariant says of the bytes is known from here on, as in `read_line`.
+        let _ = &self.bytes;
+        self.advance(length, size);
     }
 }

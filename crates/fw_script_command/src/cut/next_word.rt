@@ -112,6 +112,16 @@ impl<'a> Pieces<'a> {
         offset(self.next()?)
     }
 
+    /// A register's offset, if it is the last word.
+    #[inline(always)]
+    pub(crate) fn last_offset(&self) -> Option<u16>
+        ensures read { IfSome result (λ n. first_by offset_in self.now ≡ Some n) }
+        ensures last { OnSome result (after_first self.now ≡ []) }
+        ensures none { IfNone result (after_first self.now ≡ [] → first_by offset_in self.now ≡ None) }
+    {
+        offset(self.whole()?)
+    }
+
     /// The word of a register.
     #[inline(always)]
     pub(crate) fn word(&mut self) -> Option<u32>
@@ -121,14 +131,14 @@ impl<'a> Pieces<'a> {
         word(self.next()?)
     }
 
-    /// A frame, which is put into `out`.
+    /// A frame, if it is the last word: it is put into `out`.
     #[inline(always)]
-    pub(crate) fn frame(&mut self, out: &mut Bytes<110>) -> Option<()>
+    pub(crate) fn last_frame(&self, out: &mut Bytes<110>) -> Option<()>
         requires { out.old ≡ [] }
-        ensures read { IfSome result (λ u. first_by frame_in self.old ≡ Some out.new) }
-        ensures left { OnSome result (self.new ≡ after_first self.old) }
-        ensures none { IfNone result (first_by frame_in self.old ≡ None) }
+        ensures read { IfSome result (λ u. first_by frame_in self.now ≡ Some out.new) }
+        ensures last { OnSome result (after_first self.now ≡ []) }
+        ensures none { IfNone result (after_first self.now ≡ [] → first_by frame_in self.now ≡ None) }
     {
-        frame(self.next()?, out)
+        frame(self.whole()?, out)
     }
 }

@@ -20,6 +20,9 @@ is_unsettled-requires-clause-most g c =
 pub is_unsettled-requires-clause-within : goal.is_unsettled-requires-clause-within
 is_unsettled-requires-clause-within g c = c.round_end-end.ensures.within
 
+pub is_unsettled-requires-clause-ends : goal.is_unsettled-requires-clause-ends
+is_unsettled-requires-clause-ends g c = c.round_end-end.ensures.ends
+
 pub rest-requires-clause-ready : goal.rest-requires-clause-ready
 rest-requires-clause-ready g c = ready_after c.requires.ready c.loop-i.invariant.does
 

@@ -22,14 +22,14 @@ loop-k-preserved c =
     let before = c.args.before.now in
     let now = c.args.now.now in
     let was : get_or c.loop-k.words k 0 ≡ slice_index c.args.words.now k = c.loop-k.invariant.words.left k (omega arith) in
-    let had : c.from.result ≡ slice_index before d = c.from.ensures in
+    let had : c.from-had.result ≡ slice_index before d = c.from-had.ensures in
     let shows : c.is_connected-connected.result ≡ is_connected (slice_index c.args.words.now k) = c.is_connected-connected.ensures ∙ ap is_connected was in
     let blank : Seats = record { counts = []; broadcaster = Nobody } in
     record {
       words = one_renewed ℕ 0 _ c.args.words.now c.loop-k.words k c.input_word.result (omega arith)
-          (input_set before now d n k (get_or c.loop-k.words k 0) c.from.result c.input_word.result at.0 at.1 there had c.input_word.ensures) c.loop-k.invariant.words;
+          (input_set before now d n k (get_or c.loop-k.words k 0) c.from-had.result c.input_word.result at.0 at.1 there had c.input_word.ensures) c.loop-k.invariant.words;
       seats = one_renewed Seats no_seats _ c.args.seats.now c.loop-k.seats k c.clear.new.seats (omega arith)
-          (seats_set before now d n k (slice_index c.args.words.now k) c.from.result c.is_connected-connected.result
+          (seats_set before now d n k (slice_index c.args.words.now k) c.from-had.result c.is_connected-connected.result
           (get_or c.loop-k.seats k blank) c.clear.new.seats at.0 at.1 there had shows c.clear.ensures
           ∙ ap (λ s. renewed_seats before now (k / 31) (k % 31) (slice_index c.args.words.now k) s) (get_or_default c.loop-k.seats k blank no_seats (omega arith)))
           c.loop-k.invariant.seats;

@@ -1,9 +1,9 @@
-use Rattle.fw_log.proofs.Common.{arith, sym, ◌∙◌}
+use Rattle.fw_log.proofs.Common.{arith}
 use Rattle.fw_log.proofs.PlainHeadLaws.{body_reset, body_packet, body_iso}
 use Rattle.fw_log.proofs.plain.plain_body.Goals as goal
 
-pub returns-else-not-is_plain_reset : goal.returns-else-not-is_plain_reset
-returns-else-not-is_plain_reset c = body_reset c.args.kind c.args.bytes.now c.new.result c.in-1.is (c.is_plain_reset.ensures c.if-not-is_plain_reset.false) c.new.ensures
+pub returns-else-not-is_right : goal.returns-else-not-is_right
+returns-else-not-is_right c = body_reset c.args.kind c.args.bytes.now c.new.result c.in-1.is (c.is_right.ensures.reset c.if-not-is_right.false) c.new.ensures
 
 pub returns-else-not-is_plain_packet : goal.returns-else-not-is_plain_packet
 returns-else-not-is_plain_packet c =

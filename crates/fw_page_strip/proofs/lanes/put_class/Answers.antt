@@ -8,5 +8,6 @@ pub returns : goal.returns
 returns c = λ l h a o.
     on_ok_weaker c.put_path.result
     (λ e. path_put l c.args.class c.args.text.now.items _ _ _ c.path.ensures
-    (c.deref.ensures.value ∙ two_parts _ _ _ (bar l c.args.class) (channels_below l c.args.class 64) c.clear.ensures.items (c.in_ok-put_bar.ensures l h a) (c.in_ok-put_channels.ensures l o a.reach)) e)
+    (c.deref.ensures.value
+    ∙ two_parts _ _ _ (bar l c.args.class) (channels_below l c.args.class 64) c.clear.ensures.items (c.in_ok-put_bar.ensures l h a) (c.in_ok-put_channels.ensures l o a.reach)) e)
     c.put_path.ensures

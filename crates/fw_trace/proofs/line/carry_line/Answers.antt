@@ -10,12 +10,12 @@ returns-in_default-clause-goes g c = λ left held t.
 
 pub returns-clause-goes : goal.returns-clause-goes
 returns-clause-goes g c = λ left held t.
-    let (size, h, s) = c.requires.holds in
+    let (h, s) = c.requires.holds in
     let old = c.args.telling.now.teller.now in
     let new = c.begin.new.self.teller.now in
     let number = c.line-number.result + 1 in
-    c.carry.ensures.goes left held (Some (take c.args.length c.args.reader.now.rest))
-    (begun_line t c.args.length size c.args.command.now h s (g.K.Sink.held new.passed.start.value) new.origin.value new.earlier.value.bytes number c.place_of-place.result
+    c.carry.ensures.goes left held (Some (take c.args.line.0 c.args.reader.now.rest))
+    (begun_line t c.args.line.0 c.args.line.1 c.args.command.now h s (g.K.Sink.held new.passed.start.value) new.origin.value new.earlier.value.bytes number c.place_of-place.result
     (ap (λ s. g.K.Sink.held s) c.begin.ensures.start) (ap (λ (n : ℕ). n + 1) c.line-number.ensures)
     (c.in-Ok.ensures.text ∙ ap (λ (l : List ℕ). old.tracer.text ++ line_text number l) c.held_text.ensures) c.in-Ok.ensures.kept c.begin.ensures.earlier
     (λ o d. c.place_of-place.ensures t.going.commands t.going.actions t.going.log t.going.state o t.going.run t.going.stands d))

@@ -11,7 +11,7 @@ use Rattle.fw_trace.proofs.step.carry.Goals as goal
 pub returns-in-Some-clause-reference : goal.returns-in-Some-clause-reference
 returns-in-Some-clause-reference g c =
     let old = c.args.telling.now.teller.now in
-    let sink = c.carry_next.new.sink in
+    let sink = c.carry_on.new.sink in
     let new = sink.teller.now in
     let base : Base = (c.args.telling.now.inner.ghost_name, (g.K.Sink.held old.passed.start.value, (g.K.Sink.faults old.passed.start.value, (old.origin.value, old.earlier.value.bytes)))) in
     let base' : Base = (sink.inner.ghost_name, (g.K.Sink.held new.passed.start.value, (g.K.Sink.faults new.passed.start.value, (new.origin.value, new.earlier.value.bytes)))) in
@@ -23,7 +23,7 @@ returns-in-Some-clause-reference g c =
 pub returns-in-Ok-clause-reference : goal.returns-in-Ok-clause-reference
 returns-in-Ok-clause-reference g c =
     let old = c.args.telling.now.teller.now in
-    let sink = c.carry_next.new.sink in
+    let sink = c.carry_on.new.sink in
     let new = sink.teller.now in
     let base : Base = (c.args.telling.now.inner.ghost_name, (g.K.Sink.held old.passed.start.value, (g.K.Sink.faults old.passed.start.value, (old.origin.value, old.earlier.value.bytes)))) in
     let base' : Base = (sink.inner.ghost_name, (g.K.Sink.held new.passed.start.value, (g.K.Sink.faults new.passed.start.value, (new.origin.value, new.earlier.value.bytes)))) in
@@ -35,7 +35,7 @@ returns-in-Ok-clause-reference g c =
 pub returns-in-Err-clause-reference : goal.returns-in-Err-clause-reference
 returns-in-Err-clause-reference g c =
     let old = c.args.telling.now.teller.now in
-    let sink = c.carry_next.new.sink in
+    let sink = c.carry_on.new.sink in
     let new = sink.teller.now in
     let base : Base = (c.args.telling.now.inner.ghost_name, (g.K.Sink.held old.passed.start.value, (g.K.Sink.faults old.passed.start.value, (old.origin.value, old.earlier.value.bytes)))) in
     let base' : Base = (sink.inner.ghost_name, (g.K.Sink.held new.passed.start.value, (g.K.Sink.faults new.passed.start.value, (new.origin.value, new.earlier.value.bytes)))) in
@@ -47,7 +47,7 @@ returns-in-Err-clause-reference g c =
 pub returns-in-Ok-clause-writes : goal.returns-in-Ok-clause-writes
 returns-in-Ok-clause-writes g c =
     let old = c.args.telling.now.teller.now in
-    let sink = c.carry_next.new.sink in
+    let sink = c.carry_on.new.sink in
     let new = sink.teller.now in
     let base : Base = (c.args.telling.now.inner.ghost_name, (g.K.Sink.held old.passed.start.value, (g.K.Sink.faults old.passed.start.value, (old.origin.value, old.earlier.value.bytes)))) in
     let base' : Base = (sink.inner.ghost_name, (g.K.Sink.held new.passed.start.value, (g.K.Sink.faults new.passed.start.value, (new.origin.value, new.earlier.value.bytes)))) in
@@ -62,13 +62,13 @@ returns-in-Ok-clause-writes g c =
 pub returns-in-Ok-clause-goes : goal.returns-in-Ok-clause-goes
 returns-in-Ok-clause-goes g c = λ left held line b.
     let old = c.args.telling.now.teller.now in
-    let sink = c.carry_next.new.sink in
+    let sink = c.carry_on.new.sink in
     let new = sink.teller.now in
     let base : Base = (c.args.telling.now.inner.ghost_name, (g.K.Sink.held old.passed.start.value, (g.K.Sink.faults old.passed.start.value, (old.origin.value, old.earlier.value.bytes)))) in
     let base' : Base = (sink.inner.ghost_name, (g.K.Sink.held new.passed.start.value, (g.K.Sink.faults new.passed.start.value, (new.origin.value, new.earlier.value.bytes)))) in
     let steps = c.in_default.ensures.goes left (Some []) (Some b.after) b.going in
-    let left' = g.S.Source.left c.carry_next.new.source in
-    let f = framed_step b.going base base' old.history.bytes new.history.bytes left' c.carry_next.new.reader c.carry_next.new.bus None steps (c.requires.waits ∙ b.read) in
+    let left' = g.S.Source.left c.carry_on.new.source in
+    let f = framed_step b.going base base' old.history.bytes new.history.bytes left' c.carry_on.new.reader c.carry_on.new.bus None steps (c.requires.waits ∙ b.read) in
     let none : new.lack ≡ None = lack_none old.lack new.lack c.requires.lack c.in_default.ensures.writes in
     let passed = passed_whole new.lack new.passed.failed (g.K.Sink.held new.passed.start.value) (g.K.Sink.held sink.inner.now) (g.K.Sink.faults new.passed.start.value)
     (g.K.Sink.faults sink.inner.now) new.passed.given.bytes none new.failed sink.passed in
@@ -81,13 +81,13 @@ returns-in-Ok-clause-goes g c = λ left held line b.
 pub returns-in-Err-clause-goes : goal.returns-in-Err-clause-goes
 returns-in-Err-clause-goes g c = λ left held line b.
     let old = c.args.telling.now.teller.now in
-    let sink = c.carry_next.new.sink in
+    let sink = c.carry_on.new.sink in
     let new = sink.teller.now in
     let base : Base = (c.args.telling.now.inner.ghost_name, (g.K.Sink.held old.passed.start.value, (g.K.Sink.faults old.passed.start.value, (old.origin.value, old.earlier.value.bytes)))) in
     let base' : Base = (sink.inner.ghost_name, (g.K.Sink.held new.passed.start.value, (g.K.Sink.faults new.passed.start.value, (new.origin.value, new.earlier.value.bytes)))) in
     let steps = c.in_default.ensures.goes left (Some []) (Some b.after) b.going in
-    let left' = g.S.Source.left c.carry_next.new.source in
-    let f = framed_step b.going base base' old.history.bytes new.history.bytes left' c.carry_next.new.reader c.carry_next.new.bus None steps (c.requires.waits ∙ b.read) in
+    let left' = g.S.Source.left c.carry_on.new.source in
+    let f = framed_step b.going base base' old.history.bytes new.history.bytes left' c.carry_on.new.reader c.carry_on.new.bus None steps (c.requires.waits ∙ b.read) in
     let none : new.lack ≡ None = lack_none old.lack new.lack c.requires.lack c.in_default.ensures.writes in
     let passed = passed_whole new.lack new.passed.failed (g.K.Sink.held new.passed.start.value) (g.K.Sink.held sink.inner.now) (g.K.Sink.faults new.passed.start.value)
     (g.K.Sink.faults sink.inner.now) new.passed.given.bytes none new.failed sink.passed in
@@ -105,7 +105,7 @@ returns-in-Err-clause-goes g c = λ left held line b.
 pub returns-in-Err-clause-writes : goal.returns-in-Err-clause-writes
 returns-in-Err-clause-writes g c =
     let old = c.args.telling.now.teller.now in
-    let sink = c.carry_next.new.sink in
+    let sink = c.carry_on.new.sink in
     let new = sink.teller.now in
     let base : Base = (c.args.telling.now.inner.ghost_name, (g.K.Sink.held old.passed.start.value, (g.K.Sink.faults old.passed.start.value, (old.origin.value, old.earlier.value.bytes)))) in
     let base' : Base = (sink.inner.ghost_name, (g.K.Sink.held new.passed.start.value, (g.K.Sink.faults new.passed.start.value, (new.origin.value, new.earlier.value.bytes)))) in
@@ -121,7 +121,7 @@ returns-in-Err-clause-writes g c =
 pub returns-in-Some-clause-writes : goal.returns-in-Some-clause-writes
 returns-in-Some-clause-writes g c =
     let old = c.args.telling.now.teller.now in
-    let sink = c.carry_next.new.sink in
+    let sink = c.carry_on.new.sink in
     let new = sink.teller.now in
     let base : Base = (c.args.telling.now.inner.ghost_name, (g.K.Sink.held old.passed.start.value, (g.K.Sink.faults old.passed.start.value, (old.origin.value, old.earlier.value.bytes)))) in
     let base' : Base = (sink.inner.ghost_name, (g.K.Sink.held new.passed.start.value, (g.K.Sink.faults new.passed.start.value, (new.origin.value, new.earlier.value.bytes)))) in
@@ -135,13 +135,13 @@ returns-in-Some-clause-writes g c =
 pub returns-in-Some-clause-goes : goal.returns-in-Some-clause-goes
 returns-in-Some-clause-goes g c = λ left held line b.
     let old = c.args.telling.now.teller.now in
-    let sink = c.carry_next.new.sink in
+    let sink = c.carry_on.new.sink in
     let new = sink.teller.now in
     let base : Base = (c.args.telling.now.inner.ghost_name, (g.K.Sink.held old.passed.start.value, (g.K.Sink.faults old.passed.start.value, (old.origin.value, old.earlier.value.bytes)))) in
     let base' : Base = (sink.inner.ghost_name, (g.K.Sink.held new.passed.start.value, (g.K.Sink.faults new.passed.start.value, (new.origin.value, new.earlier.value.bytes)))) in
     let steps = c.in-Some.ensures.goes left (Some []) (Some b.after) b.going in
-    let left' = g.S.Source.left c.carry_next.new.source in
-    let f = framed_step b.going base base' old.history.bytes new.history.bytes left' c.carry_next.new.reader c.carry_next.new.bus (Some c.in-Some.ending) steps (c.requires.waits ∙ b.read) in
+    let left' = g.S.Source.left c.carry_on.new.source in
+    let f = framed_step b.going base base' old.history.bytes new.history.bytes left' c.carry_on.new.reader c.carry_on.new.bus (Some c.in-Some.ending) steps (c.requires.waits ∙ b.read) in
     rw c.ending_of.ensures
     (ended_on line b c.args.telling.now.inner.ghost_name sink.inner.ghost_name (g.K.Sink.faults old.passed.start.value) (g.K.Sink.faults new.passed.start.value)
     (g.K.Sink.held new.passed.start.value) new.origin.value new.earlier.value.bytes old.history.bytes new.history.bytes c.in-Some.ending f c.requires.waits old.lack new.lack new.tracer new.reader

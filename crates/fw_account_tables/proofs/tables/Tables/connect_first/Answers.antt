@@ -1,4 +1,5 @@
-use Rattle.fw_account_tables.proofs.Common.{◌≡◌, ◌<◌, ℕ, true, false, sym, ◌∙◌, ap, subst, rules, true≢false, arith, with_item, SeatsFor, place, word_at, seats_at, allocation_of, charge_at, Tables, out_word}
+use Rattle.fw_account_tables.proofs.Common.{◌≡◌, ◌<◌, ℕ, true, false, sym, ◌∙◌, ap, subst, rules, true≢false}
+use Rattle.fw_account_tables.proofs.Common.{arith, with_item, SeatsFor, place, word_at, seats_at, allocation_of, charge_at, Tables, out_word}
 use Rattle.fw_account_tables.proofs.Common.{out_fields, units, Connected}
 use Rattle.std.specs.Vec.{vec_len}
 use Rattle.fw_model_account.specs.Decode.{is_held}

@@ -1,7 +1,8 @@
 use Rattle.fw_account_tables.proofs.Common.{◌≡◌, ◌+◌, true, false, sym, ◌∙◌, ap, subst, rules, true≢false, SeatsFor, word_at, seats_at}
 use Rattle.fw_account_tables.proofs.Swapping.{compared, differ}
 use Rattle.fw_account_tables.proofs.InputSwaps.{is_there_input, left_follows, left_refused}
-use Rattle.fw_account_tables.proofs.tables.Tables.disconnect_input.Goals.{then-not-has_connection_of-via-then-not-has_connection_of, then-not-has_connection_of-via-else-not-has_connection_of+then-not-exceeds}
+use Rattle.fw_account_tables.proofs.tables.Tables.disconnect_input.Goals.{then-not-has_connection_of-via-then-not-has_connection_of}
+use Rattle.fw_account_tables.proofs.tables.Tables.disconnect_input.Goals.{then-not-has_connection_of-via-else-not-has_connection_of+then-not-exceeds}
 use Rattle.fw_account_tables.proofs.tables.Tables.disconnect_input.Goals as goal
 
 pub returns-then-not-has_connection_of : goal.returns-then-not-has_connection_of

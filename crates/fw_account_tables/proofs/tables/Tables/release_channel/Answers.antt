@@ -1,4 +1,5 @@
-use Rattle.fw_account_tables.proofs.Common.{◌≡◌, ◌+◌, ◌-◌, ◌^◌, true, false, slice_set, sym, ◌∙◌, ap, subst, rules, true≢false, with_item, ChannelsAvailable, allowed, Follows, allocation_of, charge_at}
+use Rattle.fw_account_tables.proofs.Common.{◌≡◌, ◌+◌, ◌-◌, ◌^◌, true, false, slice_set, sym, ◌∙◌, ap}
+use Rattle.fw_account_tables.proofs.Common.{subst, rules, true≢false, with_item, ChannelsAvailable, allowed, Follows, allocation_of, charge_at}
 use Rattle.fw_account_tables.proofs.Common.{moved_by, Free, Tables}
 use Rattle.fw_model_account.specs.Moves.{ReleaseChannel}
 use Rattle.fw_model_account.specs.Decode.{at_addressed, held_for}

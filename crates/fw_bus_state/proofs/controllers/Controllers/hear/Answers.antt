@@ -1,8 +1,13 @@
-use Rattle.fw_bus_state.proofs.Common.{refl, ap, Listening}
-use Rattle.fw_cmp.specs.Losses.{after_answer}
+use Rattle.fw_bus_state.proofs.Common.{ap, sym, subst, ◌∙◌, IsAtRest, Listening}
+use Rattle.fw_cmp.specs.Controllers.{IsStanding}
+use Rattle.fw_cmp.specs.Losses.{Awaits, after_answer}
 use Rattle.fw_bus_state.proofs.Tables.{table_set}
-use Rattle.fw_bus_state.proofs.Touched.{same_losses, touched}
+use Rattle.fw_bus_state.proofs.Touched.{passes_busy, stays}
 use Rattle.fw_bus_state.proofs.controllers.Controllers.hear.Goals as goal
+
+-- one that awaits an answer has something to do
+awaits_busy : (x : Listening) → Awaits x → IsAtRest x.state → ⊥
+awaits_busy x awaits rest = subst IsStanding rest.no_job.current awaits.1
 
 pub returns-clause-state : goal.returns-clause-state
 returns-clause-state c =
@@ -11,6 +16,7 @@ returns-clause-state c =
 
 pub invariant_of-self : goal.invariant_of-self
 invariant_of-self c =
-    touched c.self.inside c.args.self.now c.self.inside.dead c.self.inside.deaf c.args.device c.from.result c.from-2.result c.from-3.result c.index_mut.result.now c.hear.new.self
-    c.self.view_is c.requires.device c.from.ensures c.from-2.ensures c.from-3.ensures c.index_mut.ensures.value refl
-    (same_losses c.self.inside.deaf c.index_mut.result.now c.hear.new.self (ap (λ (x : Listening). x.lost) c.hear.ensures.state)) c.self.invariant
+    let x : Listening = c.index_mut.result.now in
+    let y : Listening = c.hear.new.self in
+    stays c.self.inside c.args.self.now c.args.device c.from.result x y c.self.view_is c.requires.device c.from.ensures c.index_mut.ensures.value
+    (λ here. passes_busy x y (awaits_busy x (subst Awaits (sym here) c.requires.stands)) (λ none. ap (λ (z : Listening). z.lost) c.hear.ensures.state ∙ none)) c.self.invariant

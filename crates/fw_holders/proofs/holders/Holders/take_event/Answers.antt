@@ -33,7 +33,7 @@ returns-in-Err c = λ l h.
     let what = some_of (event_told l c.args.event.now) (c.requires.told l) in
     let stood = subst (λ (r : HolderState). StandsFor r.tables l) (sym c.self.view_is) h in
     let shown = subst (λ (t : Tables). StandsFor t l) (sym c.tables.ensures.same) stood in
-    let begun : c.put_cycle.new.text.items ≡ c.self.inside.text.items ++ (right 8 (decimal c.args.t.now.cycle) ++ codes " ") = c.in_ok-put_cycle.ensures in
+    let begun : c.put_cycle.new.text.items ≡ c.self.inside.text.items ++ (right 8 (decimal c.args.t.now.cycle) ++ codes " ") = c.in_ok-put_cycle.ensures.text in
     let put : c.put_event.new.text.items ≡ c.put_cycle.new.text.items ++ what.0 = c.in_ok-put_event.ensures l what.0 shown what.1 in (
       c.in-Err.ensures.judged l stood,
       c.truncate.ensures.items
@@ -48,7 +48,7 @@ returns c = λ l h.
     let what = some_of (event_told l c.args.event.now) (c.requires.told l) in
     let stood = subst (λ (r : HolderState). StandsFor r.tables l) (sym c.self.view_is) h in
     let shown = subst (λ (t : Tables). StandsFor t l) (sym c.tables.ensures.same) stood in
-    let begun : c.put_cycle.new.text.items ≡ c.self.inside.text.items ++ (right 8 (decimal c.args.t.now.cycle) ++ codes " ") = c.in_ok-put_cycle.ensures in
+    let begun : c.put_cycle.new.text.items ≡ c.self.inside.text.items ++ (right 8 (decimal c.args.t.now.cycle) ++ codes " ") = c.in_ok-put_cycle.ensures.text in
     let put : c.put_event.new.text.items ≡ c.put_cycle.new.text.items ++ what.0 = c.in_ok-put_event.ensures l what.0 shown what.1 in
     let taken = c.in_default.ensures.judged l stood in
     let k : Account = taken.1.0 in

@@ -1,0 +1,16 @@
+use Rattle.fw_holders.proofs.Common.{◌≤◌, ◌<◌, ◌+◌, ◌^◌, ℕ, arith, subst}
+use Rattle.std.proofs.Common.{◌-◌}
+use Rattle.fw_holders.proofs.OpenLaws.{last_open, few_open}
+use Rattle.fw_holders.proofs.holding.end_of_used.Goals as goal
+
+pub overflow_sub-result : goal.overflow_sub-result
+overflow_sub-result c =
+    let small : c.args.word + 1 < 2 ^ 64 = omega arith in
+    let few = few_open c.args.word small in
+    let is = c.trailing_ones.ensures in
+    omega arith
+
+pub returns-clause-ones : goal.returns-clause-ones
+returns-clause-ones c = λ ch from within.
+    let small : c.args.word + 1 < 2 ^ 64 = omega arith in
+    last_open c.args.word ch small (subst (λ (t : ℕ). 64 - t ≤ ch) c.trailing_ones.ensures from) within
