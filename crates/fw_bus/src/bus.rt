@@ -22,7 +22,8 @@ use std::marker::Model;
 pub struct Bus {
     pub(crate) machine: Machine,
     pub(crate) spent: bool,
-    pub(crate) room: WriteBuffers,
+    /// Not within the bus itself: some 100 KB, which would be copied with it.
+    pub(crate) room: Box<WriteBuffers>,
 }
 
 impl Model for Bus {
@@ -60,7 +61,7 @@ impl Bus {
         Ok(Bus {
             machine: Machine::new(alloc)?,
             spent: false,
-            room: WriteBuffers::new(alloc)?,
+            room: Box::new(alloc, WriteBuffers::new(alloc)?)?,
         })
     }
 
@@ -182,7 +183,7 @@ impl Bus {
             Ok(order) => order,
             Err(rule) => return Err(BusFault::Refused(rule)),
         };
-        match carry_out(&mut self.machine, &order, desk, &mut self.room, sink) {
+        match carry_out(&mut self.machine, &order, desk, &mut *self.room, sink) {
             Ok(()) => Ok(()),
             Err(Failed) => {
                 self.spent = true;

@@ -133,7 +133,7 @@ impl Bus {
             Ok(order) => order,
             Err(rule) => return Err(BusFault::Refused(rule)),
         };
-        match carry_out_told(&mut self.machine, &order, desk, &mut self.room, sink) {
+        match carry_out_told(&mut self.machine, &order, desk, &mut *self.room, sink) {
             Ok(changed) => Ok(changed),
             Err(Failed) => {
                 self.spent = true;

@@ -17,6 +17,7 @@ pub mod Places
 pub mod HalfNodes
 pub mod HalfTurns
 pub mod HalfWires
+pub mod OwnNumbers
 pub mod Exchanges
 pub mod Outstanding
 pub mod HalfHears

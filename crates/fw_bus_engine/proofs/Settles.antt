@@ -10,7 +10,7 @@ use Rattle.fw_model_run.specs.HalfSteps.{is_unsettled}
 use Rattle.fw_model_run.specs.Actions.{Rest, Unsettled}
 use Rattle.fw_model_run.specs.Carrying.{Rounds}
 use Rattle.fw_model_run.proofs.Runs.{rounds_steps}
-use Rattle.fw_bus_engine.specs.Performing.{TellsUnsettled, OneRound, RoundsFirst, SomeRounds}
+use Rattle.fw_bus_engine.specs.Performing.{Execution, TellsUnsettled, OneRound, RoundsFirst, SomeRounds}
 use Rattle.fw_bus_engine.proofs.Doings.{GoesOn, Follows, does_cut, does_then}
 use Rattle.fw_bus_engine.proofs.OneAction.{does_as, does_nothing, no_faults, one_step}
 use Rattle.fw_bus_engine.proofs.Halves.{halves_after, living_still, rounds_given}
@@ -58,14 +58,18 @@ rounds_all i n e d = does_as (λ s t xs out p.
 
 -- ---- if nobody has anything to do, all others are taken at once
 
+-- rounds after which no controller has anything to do, nor waits for an answer
+abbrev LastRounds : ℕ → Execution
+LastRounds n s ys out t = Rounds n s ys out t × IsFalse (is_unsettled t)
+
 -- the half steps of a rest
-rest_follows : {m : Machine} (i n : ℕ) → i ≤ n → Follows m (RoundsFirst i) (SomeRounds (n - i)) (SomeRounds n)
+rest_follows : {m : Machine} (i n : ℕ) → i ≤ n → Follows m (RoundsFirst i) (LastRounds (n - i)) (λ s. Carries s (Settle n))
 rest_follows i n le s mid t xs ys a b g st p f q h =
-    let all : i + (n - i) ≡ n = omega (arith, le) in subst (λ k. Rounds k s (xs ++ ys) (a ++ b) t) all (p.3 (n - i) ys b t q)
+    let all : i + (n - i) ≡ n = omega (arith, le) in Carries.settled (subst (λ k. Rounds k s (xs ++ ys) (a ++ b) t) all (p.3 (n - i) ys b t q.0)) q.1
 
 does_rest : {T E : Type 0} (n : ℕ) (m : Machine) (held : Option (List ℕ)) (k : ℕ) (u : T)
     → ((s : State) → IsGood s → StandsFor m s → IsFalse (is_unsettled s)) → m.half_steps + n * length (living_in m) ≤ MOST_HALF_STEPS
-    → Performed {T = T} {E = E} (SomeRounds n) m (record m { half_steps = m.half_steps + n * length (living_in m) }) (between held held k k) (Ok u)
+    → Performed {T = T} {E = E} (LastRounds n) m (record m { half_steps = m.half_steps + n * length (living_in m) }) (between held held k k) (Ok u)
 does_rest n m held k u calm few = record {
   faults = no_faults k u;
   shown = λ s g st.
@@ -85,17 +89,18 @@ does_rest n m held k u calm few = record {
         actions = Rest (n * length (living s)) ∷ [];
         out = [];
         state = t;
-        whole = Rounds.rest f;
+        whole = (Rounds.rest f, calm s g st);
         steps = f;
         stands = subst (λ j. StandsFor (record m { half_steps = m.half_steps + j }) t) (sym many) (counted_stands m s (n * length (living s)) st);
         grew = Grows-nothing held;
       };
 }
 
+-- so nothing is written after them
 pub rounds_rest : {T E : Type 0} (i n : ℕ) {m mid : Machine} {a b : Option (List ℕ)} {k l : ℕ} {u : T} → i ≤ n
     → ((s : State) → IsGood s → StandsFor mid s → IsFalse (is_unsettled s)) → mid.half_steps + (n - i) * length (living_in mid) ≤ MOST_HALF_STEPS
     → Performed {T = T} {E = E} (RoundsFirst i) m mid (between a b k l) (Ok u)
-    → Performed {T = T} {E = E} (SomeRounds n) m (record mid { half_steps = mid.half_steps + (n - i) * length (living_in mid) }) (between a b k l) (Ok u)
+    → Performed {T = T} {E = E} (λ s. Carries s (Settle n)) m (record mid { half_steps = mid.half_steps + (n - i) * length (living_in mid) }) (between a b k l) (Ok u)
 rounds_rest {E = E} i n {mid = mid} {b = b} {l = l} {u = u} le calm few d = does_then (Ok u) (rest_follows i n le) d (does_rest {E = E} (n - i) mid b l u calm few)
 
 -- ---- a round was cut off

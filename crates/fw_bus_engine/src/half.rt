@@ -1,6 +1,7 @@
 //! What controllers do in half steps, and the loss of a response.
 
-ghost use Rattle.std.specs.Prelude.{◌≡◌, ◌<◌, [], ◌∷◌, IsTrue, IsFalse};
+ghost use Rattle.std.specs.Prelude.{◌≡◌, ◌<◌, ◌≤◌, [], ◌∷◌, IsTrue, IsFalse, Some};
+ghost use Rattle.fw_devices.specs.Network.{node_at};
 ghost use Rattle.fw_cmp.specs.Losses.{Awaits};
 ghost use Rattle.fw_order.specs.declared.limits.TheConstants.{MOST_RESETS};
 ghost use Rattle.fw_model_run.specs.Actions.{Lose};
@@ -48,12 +49,12 @@ impl Requester for Controllers {
         room: &mut WriteBuffers,
         sink: &mut K,
     ) -> Result<(), Failed> {
+        let own = own_number(machine, device);
         match machine
             .controllers
             .ask(device, machine.cycle, &machine.directory)
         {
             Some((to, request)) => {
-                let own = machine.number(device);
                 send(
                     own,
                     to,
@@ -138,7 +139,7 @@ fn serve_request(machine: &mut Machine, device: u8, packet: &mut PacketRoom) -> 
     requires standing { Awaits (states_of machine.old.controllers device) }
     ensures { Serves machine.old machine.new device packet.new result }
 {
-    let own = machine.number(device);
+    let own = own_number(machine, device);
     let (target, reply) = serve(
         &mut machine.devices,
         machine.cycle,
@@ -148,4 +149,19 @@ fn serve_request(machine: &mut Machine, device: u8, packet: &mut PacketRoom) -> 
     );
     machine.streams.restart_if_silent(&machine.devices, target);
     reply
+}
+
+/// The node number of a device whose controller lives.
+// The directory has it at hand; the device's node is looked up.
+#[inline(always)]
+fn own_number(machine: &Machine, device: u8) -> u8
+    requires ready { IsReady machine.now }
+    requires living { IsTrue (is_living_in machine.now device) }
+    ensures value { (node_at machine.now.devices.nodes device).number ≡ Some result }
+    ensures range { result ≤ 62 }
+{
+    match machine.directory.node_of(device) {
+        Some(number) => number,
+        None => unreachable!(),
+    }
 }

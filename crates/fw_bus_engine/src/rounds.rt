@@ -1,4 +1,4 @@
-//! Rounds of half steps: each living controller takes one.
+//! Rounds of half steps, in each of which each living controller takes one, and what is written after them.
 
 ghost use Rattle.std.specs.Prelude.{◌≡◌, ◌≤◌, ◌<◌, ◌+◌, ◌*◌, ◌-◌, ℕ, IfOk, IsTrue, IsFalse, false, length, slice_index_or};
 ghost use Rattle.fw_cmp.specs.Causes.{IsAtRest};
@@ -6,12 +6,14 @@ ghost use Rattle.fw_order.specs.declared.limits.TheConstants.{MOST_HALF_STEPS};
 ghost use Rattle.fw_model_run.specs.Good.{IsGood};
 ghost use Rattle.fw_model_run.specs.HalfSteps.{is_unsettled};
 ghost use Rattle.fw_model_run.specs.State.{State};
-ghost use Rattle.fw_bus_engine.specs.Performing.{Performed, OneRound, SomeRounds};
+ghost use Rattle.fw_model_run.specs.Carrying.{Carries};
+ghost use Rattle.fw_order.specs.declared.order.Order.TheVariants.{Settle};
+ghost use Rattle.fw_bus_engine.specs.Performing.{Performed, OneRound};
 ghost use Rattle.fw_bus_state.specs.Giving.{sides_of};
 ghost use Rattle.fw_bus_state.specs.Stands.{EndsAt, IsReady, StandsFor, is_living_in, living_in};
 ghost use Rattle.fw_bus_state.specs.Tables.{states_of};
 
-use crate::steps::half_step;
+use crate::steps::{half_step, tell_unsettled};
 use fw_bus_state::{Machine, WriteBuffers};
 use fw_outside::{Failed, Sink};
 
@@ -54,8 +56,7 @@ fn round_end(machine: &Machine, living: &[bool; 63], end: u8) -> u8
 
 /// One round: each living controller, in order of declaration, takes one half step. `living` marks those, and `each` is
 /// how many they are. Those from `end` on have nothing to do, so that their half steps are only counted.
-// Not inlined: in `rounds` it would have fewer registers.
-#[inline(never)]
+#[inline(always)]
 fn round<K: Sink>(
     machine: &mut Machine,
     living: &[bool; 63],
@@ -121,8 +122,11 @@ fn is_unsettled(machine: &Machine, living: &[bool; 63], end: u8) -> bool
     machine.is_unsettled()
 }
 
-/// Rounds. If no controller has anything to do, all further ones are taken at once.
-pub(crate) fn rounds<K: Sink>(
+/// Rounds, and then the event that a controller is not settled, if one is not. If no controller has anything to do, all further
+/// rounds are taken at once, and none is asked again.
+// Not inlined, while a round is: so its loop has the registers for itself, and no round costs a call.
+#[inline(never)]
+pub(crate) fn settle<K: Sink>(
     machine: &mut Machine,
     count: u32,
     room: &mut WriteBuffers,
@@ -130,7 +134,7 @@ pub(crate) fn rounds<K: Sink>(
 ) -> Result<(), Failed>
     requires ready { IsReady machine.old }
     requires few { machine.old.half_steps + count * length (living_in machine.old) ≤ MOST_HALF_STEPS }
-    ensures does { Performed (SomeRounds count) machine.old machine.new (sides_of K.held K.faults sink.old sink.new) result }
+    ensures does { Performed (λ s. Carries s (Settle count)) machine.old machine.new (sides_of K.held K.faults sink.old sink.new) result }
 {
     let mut living = [false; 63];
     let each = machine.mark_living(&mut living);
@@ -143,5 +147,5 @@ pub(crate) fn rounds<K: Sink>(
         }
         round(machine, &living, each, end, room, sink)?;
     }
-    Ok(())
+    tell_unsettled(machine, room, sink)
 }

@@ -1,20 +1,18 @@
-//! Half steps, and what is written after a `settle`.
+//! Half steps, and what is written after the rounds of a `settle`.
 
-ghost use Rattle.std.specs.Prelude.{◌≡◌, ◌≢◌, ◌≤◌, ◌<◌, ◌+◌, ◌*◌, ℕ, [], ◌∷◌, IsTrue, IsFalse, OnOk, length};
+ghost use Rattle.std.specs.Prelude.{◌≡◌, ◌≢◌, ◌≤◌, ◌<◌, ◌+◌, ℕ, [], ◌∷◌, IsTrue, IsFalse, OnOk};
 ghost use Rattle.fw_order.specs.declared.limits.TheConstants.{MOST_HALF_STEPS};
 ghost use Rattle.fw_model_run.specs.Actions.{HalfStep};
-ghost use Rattle.fw_model_run.specs.Carrying.{times, Carries};
-ghost use Rattle.fw_order.specs.declared.order.Order.TheVariants.{Settle};
+ghost use Rattle.fw_model_run.specs.Carrying.{times};
 ghost use Rattle.fw_bus_engine.specs.Leaving.{LeavesHalf, WhereNothing};
 ghost use Rattle.fw_bus_engine.specs.Performing.{Performs, Performed, TellsUnsettled};
 ghost use Rattle.fw_bus_state.specs.Giving.{sides_of};
 ghost use Rattle.fw_bus_state.specs.Halves.{counted_in};
-ghost use Rattle.fw_bus_state.specs.Stands.{IsReady, is_living_in, living_in};
+ghost use Rattle.fw_bus_state.specs.Stands.{IsReady, is_living_in};
 ghost use Rattle.fw_bus_state.specs.Tables.{states_of};
 
 use crate::requester::turn;
 use crate::reset::give_reset;
-use crate::rounds::rounds;
 use fw_bus_state::entries::unsettled;
 use fw_bus_state::{Controllers, Machine, WriteBuffers, emit};
 use fw_cmp::Next;
@@ -109,7 +107,7 @@ pub(crate) fn steps<K: Sink>(
 }
 
 /// If a living controller has something to do, or waits for an answer, that is written.
-fn tell_unsettled<K: Sink>(
+pub(crate) fn tell_unsettled<K: Sink>(
     machine: &mut Machine,
     room: &mut WriteBuffers,
     sink: &mut K,
@@ -122,21 +120,6 @@ fn tell_unsettled<K: Sink>(
     } else {
         Ok(())
     }
-}
-
-/// Rounds, and then the event that a controller is not settled, if one is not.
-pub(crate) fn settle<K: Sink>(
-    machine: &mut Machine,
-    count: u32,
-    room: &mut WriteBuffers,
-    sink: &mut K,
-) -> Result<(), Failed>
-    requires ready { IsReady machine.old }
-    requires few { machine.old.half_steps + count * length (living_in machine.old) ≤ MOST_HALF_STEPS }
-    ensures does { Performed (λ s. Carries s (Settle count)) machine.old machine.new (sides_of K.held K.faults sink.old sink.new) result }
-{
-    rounds(machine, count, room, sink)?;
-    tell_unsettled(machine, room, sink)
 }
 
 /// Whether the controller forces a bus reset.

@@ -1,8 +1,8 @@
 -- What is kept of a machine after a half step: parts that stay have their numbers still.
-use Rattle.std.proofs.Common.{ℕ, suc, ◌≡◌, ◌<◌, ◌≤◌, ◌+◌, ◌++◌, List, [], ◌∷◌, inl, inr, Bool, Option, IsTrue}
-use Rattle.std.proofs.Common.{length, map, take, drop, get_or, set, slice_index, slice_index_or, refl, sym, ap, subst, ◌∙◌, arith, append_assoc}
+use Rattle.std.proofs.Common.{ℕ, ◌≡◌, ◌<◌, ◌≤◌, ◌+◌, ◌++◌, List, [], ◌∷◌, inl, inr, Bool, Option, IsTrue}
+use Rattle.std.proofs.Common.{length, map, drop, get_or, set, slice_index, slice_index_or, refl, sym, ap, subst, ◌∙◌, arith}
 use Rattle.std.proofs.lemmas.Bool.{cases_eq}
-use Rattle.std.proofs.lemmas.List.{append-nil, length-map, length-set, get_or-map, get_or-set_same, get_or-set_other, get_or_default, set_split}
+use Rattle.std.proofs.lemmas.List.{append-nil, length-map, length-set, get_or-map, get_or-set_same, get_or-set_other, get_or_default}
 use Rattle.fw_kept_parts.specs.Tables.{Keeps, KeepsAll}
 use Rattle.fw_async.specs.Wire.{Pairs}
 use Rattle.fw_async.specs.Letters.{HasLetters}
@@ -65,22 +65,17 @@ module _ {A : Type 0} (first : A) (old list : List A) (now : List ℕ) (within :
 
   pub one_kept : (kept : List A) (before after : List ℕ) (device number : ℕ) → device < length now → length list ≡ length now
       → ((d : ℕ) → (d ≡ device → ⊥) → get_or list d first ≡ get_or copies d first) → (x : A) → x ≡ get_or list device first → Keeps IsItself old kept x number
-      → after ≡ before ++ take device now ++ number ∷ [] ++ drop (device + 1) now → KeepsAll IsItself old kept list before after
+      → after ≡ before ++ set now device number → KeepsAll IsItself old kept list before after
   one_kept kept before after device number low size others x is k words = record {
     more = k.more;
     is = k.is;
     numbers = set now device number;
-    words = words ∙ (append_assoc (before ++ take device now) (number ∷ []) (drop (device + 1) now)
-        ∙ (append_assoc before (take device now) (number ∷ drop (device + 1) now)
-        ∙ (ap (λ j. before ++ (take device now ++ number ∷ drop j now)) one ∙ ap (λ l. before ++ l) (sym (set_split now device number low)))));
+    words = words;
     size = length-set now device number ∙ sym size;
     within = λ j here. within_all j (omega (arith, here, length-set now device number));
     at = λ j d w here. at_all j d w (omega (arith, here, length-set now device number));
   }
     where
-      one : device + 1 ≡ suc device
-      one = omega arith
-
       more : length old ≤ length kept
       more = longer old kept (more_of IsItself old kept x number k)
 

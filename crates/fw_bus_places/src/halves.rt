@@ -71,9 +71,9 @@ fn keep_controllers(
         return kept.keep_all(now, controllers.list(), out);
     }
     let number = keep_guessed(kept, turns, now[place], &controllers.list()[place])?;
-    out.extend_from_slice(&now[..place])?;
-    out.push(number)?;
-    out.extend_from_slice(&now[place + 1..])?;
+    let at = out.len() + place;
+    out.extend_from_slice(now)?;
+    out[at] = number;
     Ok(())
 }
 

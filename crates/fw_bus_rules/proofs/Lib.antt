@@ -5,3 +5,4 @@ pub mod DeckRules
 pub mod CandidateRules
 pub mod ConnectionRules
 pub mod Shown
+pub mod RoundRules

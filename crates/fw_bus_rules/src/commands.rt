@@ -144,7 +144,12 @@ fn decide_settle(machine: &Machine, rounds: u32) -> Result<Order<'static>, RuleF
     ensures may { IfOk result (MayCarry machine.now) }
 {
     let given = u64::from(machine.half_steps);
-    if given + u64::from(rounds) * u64::from(machine.living()) > MOST_HALF_STEPS {
+    let rounds_given = u64::from(rounds);
+    // Mostly there is room even if each device lives, and then those that live are not counted.
+    if given + rounds_given * u64::from(machine.devices.count()) <= MOST_HALF_STEPS {
+        return Ok(Order::Settle(rounds));
+    }
+    if given + rounds_given * u64::from(machine.living()) > MOST_HALF_STEPS {
         return Err(RuleFault::Limit);
     }
     Ok(Order::Settle(rounds))

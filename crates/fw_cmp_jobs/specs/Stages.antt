@@ -52,10 +52,14 @@ IsTakingUnits (ReadBandwidth ch w) = ⊤
 IsTakingUnits (SwapBandwidth ch u arg w) = ⊤
 IsTakingUnits _ = ⊥
 
--- the stages that join plugs
+-- the stage that adds a connection to an output plug
+abbrev pub IsOverlaying : Stage → Type 0
+IsOverlaying (OverlayOutput arg) = ⊤
+IsOverlaying _ = ⊥
+
+-- the stages that join plugs otherwise
 abbrev pub IsJoining : Stage → Type 0
 IsJoining (ConnectOutput ch u arg) = ⊤
-IsJoining (OverlayOutput arg) = ⊤
 IsJoining (ReadInput f) = ⊤
 IsJoining (ConnectInput f arg) = ⊤
 IsJoining _ = ⊥

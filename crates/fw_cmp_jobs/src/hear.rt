@@ -1,8 +1,9 @@
 //! What follows the answer to a stage's request.
 
 ghost use Rattle.std.specs.Prelude.{◌≡◌};
-ghost use Rattle.fw_cmp_jobs.specs.Stages.{hear, refuse, hear_reply, IsTakingUnits, IsJoining, IsLeaving, IsReleasing};
+ghost use Rattle.fw_cmp_jobs.specs.Stages.{hear, refuse, hear_reply, IsTakingUnits, IsOverlaying, IsJoining, IsLeaving, IsReleasing};
 ghost use Rattle.fw_cmp_jobs.specs.Fits.{JobFits, StageFits};
+ghost use Rattle.fw_cmp_jobs.specs.declared.stage.Stage.TheVariants.{OverlayOutput};
 
 use crate::output::overlaid_flow;
 use crate::release::{decide_raise, goes_on, leave_output};
@@ -60,10 +61,10 @@ impl Job {
                 }
             }
             Stage::ReadBandwidth(..) | Stage::SwapBandwidth(..) => self.heard_units(stage, word),
-            Stage::ConnectOutput(..)
-            | Stage::OverlayOutput(_)
-            | Stage::ReadInput(_)
-            | Stage::ConnectInput(..) => self.heard_joining(stage, word),
+            Stage::OverlayOutput(_) => self.heard_overlay(stage, word),
+            Stage::ConnectOutput(..) | Stage::ReadInput(_) | Stage::ConnectInput(..) => {
+                self.heard_joining(stage, word)
+            }
             Stage::ReadInputToLeave(..)
             | Stage::LeaveInput(..)
             | Stage::ReadOutputToLeave(..)
@@ -98,7 +99,41 @@ impl Job {
         }
     }
 
-    /// As `heard`, of a stage that joins plugs; any other stage stays as it is.
+    /// As `heard`, of a stage that adds a connection to an output plug. Where several controllers do, the word has mostly changed and
+    /// the next swap is made with it: then the word alone is written.
+    fn heard_overlay(&self, stage: &mut Stage, word: u32)
+        requires job { JobFits self.now }
+        requires fits { StageFits self.now stage.old }
+        ensures value { IsOverlaying stage.old → stage.new ≡ hear self.now stage.old word }
+        ensures fits { StageFits self.now stage.new }
+    {
+        match stage {
+            Stage::OverlayOutput(arg) => {
+                if word != *arg && self.overlays(word) {
+                    *arg = word;
+                } else {
+                    *stage = self.overlaid(*arg, word);
+                }
+            }
+            _ => {}
+        }
+    }
+
+    /// As `heard_overlay`, in each case.
+    fn overlaid(&self, arg: u32, word: u32) -> Stage
+        requires job { JobFits self.now }
+        requires fits { StageFits self.now (OverlayOutput arg) }
+        ensures value { result ≡ hear self.now (OverlayOutput arg) word }
+        ensures fits { StageFits self.now result }
+    {
+        if word == arg {
+            self.output_joined(overlaid_flow(arg))
+        } else {
+            self.decide_output(None, word)
+        }
+    }
+
+    /// As `heard`, of a stage that joins plugs otherwise; any other stage stays as it is.
     fn heard_joining(&self, stage: &mut Stage, word: u32)
         requires job { JobFits self.now }
         requires fits { StageFits self.now stage.old }
@@ -111,13 +146,6 @@ impl Job {
                     *stage = self.output_joined(self.first_flow(channel, units));
                 } else {
                     *stage = self.decide_output(Some(HeldResources { channel, units }), word);
-                }
-            }
-            Stage::OverlayOutput(arg) => {
-                if word == arg {
-                    *stage = self.output_joined(overlaid_flow(arg));
-                } else {
-                    *stage = self.decide_output(None, word);
                 }
             }
             Stage::ReadInput(flow) => *stage = self.decide_input(flow, word),

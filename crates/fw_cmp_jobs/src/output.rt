@@ -1,11 +1,12 @@
 //! What a word of the output plug's register means for a job that makes a connection there.
 
-ghost use Rattle.std.specs.Prelude.{◌≡◌, ◌<◌, IsFalse, IsTrue};
+ghost use Rattle.std.specs.Prelude.{◌≡◌, ◌<◌, IsFalse, IsTrue, None};
 ghost use Rattle.fw_plug.specs.Words.{is_connected};
 ghost use Rattle.fw_cmp_jobs.specs.Connections.{kind_of};
 ghost use Rattle.fw_cmp_jobs.specs.Plugs.{is_full};
 ghost use Rattle.fw_cmp_jobs.specs.Decisions.{restores, is_other, is_lost, decide_free, decide_connected, decide_out, first_flow, overlaid_flow, output_joined};
 ghost use Rattle.fw_cmp_jobs.specs.Fits.{JobFits, StageFits, HeldFits, HasOutput, FlowFits};
+ghost use Rattle.fw_cmp_jobs.specs.declared.stage.Stage.TheVariants.{OverlayOutput};
 
 use crate::release::give_back;
 use crate::words::half_of;
@@ -116,6 +117,18 @@ impl Job {
         } else {
             self.decide_free(held, word)
         }
+    }
+
+    /// Whether a word of the output plug means that a connection is added to those that the plug has.
+    #[inline(always)]
+    pub(crate) fn overlays(&self, word: u32) -> bool
+        ensures value { IsTrue result → decide_out self.now None word ≡ OverlayOutput word }
+        ensures connected { IsTrue result → IsTrue (is_connected word) }
+        ensures room { IsTrue result → IsFalse (is_full (kind_of self.now.connection) word) }
+    {
+        !is_full(self.connection.kind(), word)
+            && OutWord(word).is_connected()
+            && !self.is_lost(word)
     }
 
     /// The flow of a first connection on this channel.

@@ -3,7 +3,7 @@
 ghost use Rattle.std.specs.Prelude.{◌≡◌, ◌+◌, ◌<◌, ◌≤◌, ◌^◌, ℕ, List, Some, None, IfSome, IsTrue, true, false, length, slice_get};
 ghost use Rattle.fw_terms.specs.declared.device.DeviceKind.{DeviceKind as Kind};
 ghost use Rattle.fw_tree.specs.Topology.{Topology};
-ghost use Rattle.fw_tree.specs.Numbers.{AreNodes, has_number, number_at};
+ghost use Rattle.fw_tree.specs.Numbers.{AreNodes, device_at, has_number, number_at};
 ghost use Rattle.fw_devices.specs.Network.{AreKinds, kinds_of, kind_at, no_entry};
 ghost use Rattle.fw_devices.specs.Entries.{begun, row_of, number_of};
 ghost use Rattle.fw_devices.specs.Kept.{IsFound};
@@ -55,15 +55,16 @@ fn row_of(device: u8, kind: DeviceKind) -> NodeRow
     }
 }
 
-// What the entry of a bus reset says of each node, in order of node.
-fn rows_of(nodes: &[Node], numbering: &Numbering) -> NodeList
+// What the entry of a bus reset says of each node, in order of node. The list has the device of each.
+fn rows_of(nodes: &[Node], numbering: &Numbering, devices: &[u8; 63]) -> NodeList
     requires nodes { AreNodes numbering.now.number numbering.now.count }
     requires declared { (d n : ℕ) → number_at numbering.now.number d ≡ Some n → d < length nodes.now }
     requires few { numbering.now.count ≤ 63 }
+    requires devices { (n : ℕ) → n < numbering.now.count → number_at numbering.now.number (device_at devices.now n) ≡ Some n }
+    requires range { (n : ℕ) → n < numbering.now.count → device_at devices.now n < 63 }
     ensures size { length result ≡ numbering.now.count }
     ensures rows { (d n : ℕ) → number_at numbering.now.number d ≡ Some n → slice_get result n ≡ Some (row_of d (kind_at (kinds_of nodes.now) d)) }
 {
-    let devices = devices_of(&numbering.number, numbering.count);
     let mut rows = NodeList::new();
     for n in 0..numbering.count {
         let device = devices[n as usize];
@@ -81,11 +82,12 @@ fn identify(cabling: &Cabling, nodes: &[Node], bus: &mut Bus)
     ensures epoch { bus.new.entry.epoch ≡ bus.old.entry.epoch }
 {
     let numbering = cabling.identify();
-    let manager = cabling.manager(&numbering);
-    cabling.self_ids(&numbering, 0, &mut bus.entry.ids);
+    let devices = devices_of(&numbering.number, numbering.count);
+    let manager = cabling.manager(&numbering, &devices);
+    cabling.self_ids(&numbering, &devices, 0, &mut bus.entry.ids);
     bus.entry.root = number_of(&numbering, numbering.root);
     bus.entry.manager = number_where(&numbering, manager);
-    bus.entry.nodes = rows_of(nodes, &numbering);
+    bus.entry.nodes = rows_of(nodes, &numbering, &devices);
     bus.numbering = numbering;
     bus.manager = manager;
     bus.current = true;

@@ -1,6 +1,7 @@
 pub mod Common
 pub mod HoldingLaws
 pub mod HeldLaws
+pub mod ListedLaws
 pub mod OpenLaws
 pub mod EndsLaws
 pub mod TextLaws

@@ -1,5 +1,5 @@
 -- Channels that are open hold nothing, but in a reclaim second.
-use Rattle.fw_holders.proofs.Common.{◌≡◌, ◌≤◌, ◌<◌, ◌+◌, ◌∙◌, ℕ, Bool, true, false, Option, Some, None, ap, sym, refl, arith, Account}
+use Rattle.fw_holders.proofs.Common.{◌≡◌, ◌≤◌, ◌<◌, ◌+◌, ◌∙◌, ℕ, Bool, true, false, Option, Some, None, ap, refl, arith, Account}
 use Rattle.std.proofs.Common.{◌-◌, ◌^◌, ◌&&◌, not}
 use Rattle.std.specs.Int.{bit_at, w64, trailing_ones}
 use Rattle.std.proofs.lemmas.Nat.Bits.{bit_at-trailing_ones}

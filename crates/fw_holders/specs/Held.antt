@@ -1,5 +1,5 @@
 -- Which channels are held, how and by whom.
-use Rattle.std.specs.Prelude.{ℕ, zero, suc, Bool, List, [], ◌++◌, Option, Some, None, if◌then◌else◌}
+use Rattle.std.specs.Prelude.{ℕ, zero, suc, Bool, List, [], ◌∷◌, ◌++◌, codes, Option, Some, None, if◌then◌else◌}
 use Rattle.fw_terms.specs.declared.plug.PlugAt.{PlugAt}
 use Rattle.fw_log_entry.specs.declared.nodes.NodeRow.{NodeRow}
 use Rattle.fw_model_account.specs.Account.{Holder, Pending, Connected, Orphaned, Allocation, Flow, Account}
@@ -7,7 +7,6 @@ use Rattle.fw_holders_text.specs.declared.holding.How.{How}
 use Rattle.fw_holders_text.specs.declared.holding.How.TheVariants.{Pending as IsPending, Connected as IsConnected, Orphaned as IsOrphaned, Continues, Reclaimable}
 use Rattle.fw_holders_text.specs.declared.holding.Holding.{Holding}
 use Rattle.fw_holders_text.specs.Holdings.{holding_text}
-use Rattle.fw_holders_text.specs.Lists.{separator}
 use Rattle.fw_holders_text.specs.Names.{nodes_of}
 
 -- how an allocated channel is held
@@ -45,6 +44,15 @@ abbrev pub holding : Account → ℕ → Option Holding
 holding l ch = holding_of (l.allocations ch) (unallocated l.continues (l.reclaimable ch))
 
 -- ---- as text
+
+-- what stands before a channel, by what was told before it
+unfoldable pub separator : List ℕ → List ℕ
+separator [] = codes ": "
+separator (c ∷ cs) = codes ", "
+
+-- channels that were told, and what separates them from the next
+abbrev pub listed : List ℕ → List ℕ
+listed told = told ++ separator told
 
 -- one channel more, if it is held
 abbrev pub with_holding : List NodeRow → ℕ → Option Holding → List ℕ → List ℕ

@@ -1,59 +1,36 @@
-//! All that is held, as text.
+//! All that is held, as text: channel by channel, each with what separates it from the next, which is taken off the last again.
 
-ghost use Rattle.std.specs.Prelude.{◌≡◌, ◌<◌, ◌≤◌, ◌+◌, ◌++◌, List, OnOk};
-ghost use Rattle.fw_log_entry.specs.declared.nodes.NodeRow.{NodeRow as ANode};
+ghost use Rattle.std.specs.Prelude.{◌≡◌, ◌<◌, ◌++◌, List, ℕ, OnOk, codes};
 ghost use Rattle.fw_model_account.specs.Account.{Account};
 ghost use Rattle.fw_account_tables.specs.Stands.{Stands, StandsFor};
-ghost use Rattle.fw_holders_text.specs.Lists.{channels_text, channel_at};
-ghost use Rattle.fw_holders_text.specs.Names.{nodes_of};
-ghost use Rattle.fw_holders.specs.Held.{with_holding, held_text};
+ghost use Rattle.fw_holders.specs.Held.{with_holding, listed, held_text};
 
 use crate::holding::{end_of_taken, next_taken, taken_on};
 use fw_account_tables::Tables;
-use fw_holders_text::{CHANNELS, HeldChannel, HeldTexts, Holding, no_channels};
+use fw_holders_text::{CHANNELS, HeldTexts, Holding};
 use std::alloc::AllocError;
 
-// Takes a channel to the first `count` that are held, if it is held, and answers how many they are then.
-#[inline(always)]
-fn hold(
-    channels: &mut [HeldChannel; CHANNELS],
-    count: usize,
+/// How many bytes what separates a channel from the next has, as what stands before the first.
+const SEPARATOR: usize = 2;
+
+// Appends a channel, if it is held.
+fn put_channel(
+    text: &mut Vec<u8>,
+    texts: &mut HeldTexts,
     channel: usize,
     held: Option<Holding>,
-) -> usize
-    requires room { count < 64 }
+) -> Result<(), AllocError>
     requires within { channel < 64 }
-    ensures more { result ≤ count + 1 }
-    ensures text { (nodes : List ANode) → channels_text nodes (channel_at channels.new) result ≡ with_holding nodes channel held (channels_text nodes (channel_at channels.old) count) }
+    ensures same { texts.new ≡ texts.old }
+    ensures text { (before told : List ℕ) → text.old.items ≡ before ++ listed told → OnOk result (text.new.items ≡ before ++ listed (with_holding texts.old channel held told)) }
 {
-    let Some(held) = held else {
-        return count;
-    };
-    channels[count] = HeldChannel {
-        channel: channel as u8,
-        held,
-    };
-    count + 1
-}
-
-// The channels that are held, in order: how many they are.
-#[inline(always)]
-fn hold_all(channels: &mut [HeldChannel; CHANNELS], tables: &Tables) -> usize
-    requires stands { Stands tables.now }
-    ensures few { result ≤ 64 }
-    ensures text { (l : Account) → StandsFor tables.now l → channels_text (nodes_of l.latest) (channel_at channels.new) result ≡ held_text l }
-{
-    let mut count = 0;
-    let end = end_of_taken(tables);
-    let mut channel = next_taken(tables, 0, end);
-    while channel < CHANNELS {
-        count = hold(channels, count, channel, taken_on(tables, channel));
-        channel = next_taken(tables, channel + 1, end);
+    match held {
+        Some(held) => texts.put_channel(text, channel as u8, held),
+        None => Ok(()),
     }
-    count
 }
 
-/// Appends all channels that are held.
+/// Appends all channels that are held to a text that ends with what stands before the first, which is taken off if none is held.
 pub(crate) fn put_held(
     text: &mut Vec<u8>,
     tables: &Tables,
@@ -62,9 +39,14 @@ pub(crate) fn put_held(
     requires stands { Stands tables.now }
     requires nodes { texts.old ≡ tables.now.nodes }
     ensures same { texts.new ≡ texts.old }
-    ensures text { (l : Account) → StandsFor tables.now l → OnOk result (text.new.items ≡ text.old.items ++ held_text l) }
+    ensures text { (before : List ℕ) (l : Account) → text.old.items ≡ before ++ codes ": " → StandsFor tables.now l → OnOk result (text.new.items ≡ before ++ held_text l) }
 {
-    let mut channels = no_channels();
-    let count = hold_all(&mut channels, tables);
-    texts.put(text, &channels, count)
+    let end = end_of_taken(tables);
+    let mut channel = next_taken(tables, 0, end);
+    while channel < CHANNELS {
+        put_channel(text, texts, channel, taken_on(tables, channel))?;
+        channel = next_taken(tables, channel + 1, end);
+    }
+    text.truncate(text.len().saturating_sub(SEPARATOR));
+    Ok(())
 }

@@ -23,7 +23,7 @@ use crate::judged::Judged;
 use crate::lines::{is_told, put_answer, put_event, put_reset, put_rest};
 use crate::table::put_table;
 use fw_audit::{AuditFault, take_entry, take_packet};
-use fw_holders_text::HeldTexts;
+use fw_holders_text::{HeldTexts, Line};
 use fw_ledger::{Answer, Ledger};
 use fw_log_entry::{Entry, EventEntry, ResetEntry, Timed};
 use std::alloc::{AllocError, Global};
@@ -40,6 +40,8 @@ pub struct Holders {
     text: Vec<u8>,
     // Of the nodes of the latest bus reset.
     texts: HeldTexts,
+    // Room for one line, of which nothing is kept.
+    room: Line,
 }
 
 impl Model for Holders {
@@ -85,6 +87,7 @@ impl Holders {
             judged: Judged::nothing(),
             text: Vec::with_capacity(alloc, TEXT_ROOM)?,
             texts: HeldTexts::new(alloc)?,
+            room: Line::new(),
         })
     }
 
@@ -147,6 +150,7 @@ impl Holders {
             )?,
             (_, Some(answer)) => put_answer(
                 &mut self.text,
+                &mut self.room,
                 t.cycle,
                 &self.ledger,
                 &mut self.texts,
@@ -192,6 +196,7 @@ impl Holders {
                 self.judged.take_answer(&answer);
                 put_answer(
                     &mut self.text,
+                    &mut self.room,
                     cycle,
                     &self.ledger,
                     &mut self.texts,

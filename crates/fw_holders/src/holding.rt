@@ -59,8 +59,8 @@ fn unallocated(tables: &Tables, channel: usize) -> Option<Holding>
     reclaimed(tables, tables.reclaimable[channel])
 }
 
-// What an allocation holds.
-fn allocated(charge: Charge) -> Option<Holding>
+/// What an allocation holds.
+pub(crate) fn allocated(charge: Charge) -> Option<Holding>
     ensures { result ≡ holding_of (allocation_of charge) None }
 {
     let (how, plug, units) = match charge {

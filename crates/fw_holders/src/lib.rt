@@ -4,6 +4,7 @@
 
 mod death;
 mod held;
+mod held_line;
 mod holders;
 mod holding;
 mod judged;

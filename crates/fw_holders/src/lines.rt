@@ -1,32 +1,47 @@
 //! The lines of entries.
 
-ghost use Rattle.std.specs.Prelude.{◌≡◌, ◌++◌, ◌+◌, List, ℕ, OnOk, Some, is_some, length, slice_get, IsTrue};
-ghost use Rattle.fw_model_account.specs.Account.{Account};
+ghost use Rattle.std.specs.Prelude.{◌≡◌, ◌++◌, ◌+◌, List, ℕ, OnOk, Some, codes, decimal, is_some, length, slice_get, IsTrue};
+ghost use Rattle.fw_model_account.specs.Account.{Account, remainder};
 ghost use Rattle.fw_account_tables.specs.Stands.{Stands, StandsFor};
 ghost use Rattle.fw_log_entry.specs.Network.{device_of_id};
 ghost use Rattle.fw_model_account.specs.Packets.{answered};
 ghost use Rattle.fw_model_account.specs.Sound.{IsSound};
 ghost use Rattle.fw_model_audit.specs.Looked.{Response, Replies};
 ghost use Rattle.fw_ledger.specs.Refused.{IsAnswered};
-ghost use Rattle.fw_holders_text.specs.Names.{nodes_of};
+ghost use Rattle.fw_holders_text.specs.Names.{nodes_of, right};
 ghost use Rattle.fw_holders_text.specs.Deeds.{done_text};
 ghost use Rattle.fw_holders.specs.Found.{HasReply};
+ghost use Rattle.fw_holders.specs.Held.{held_text};
 ghost use Rattle.fw_holders.specs.Deeds.{event_told, initiator_text, manager_text, reset_text, packet_told};
 ghost use Rattle.fw_holders.specs.Told.{rest_of_line, line, line_of};
 
 use crate::death::put_death;
 use crate::held::put_held;
+use crate::held_line::pass_done_line;
 use crate::moves::deed_of;
 use fw_account_tables::Tables;
-use fw_holders_text::{Deed, HeldTexts, fill, put_count, put_done, put_who};
+use fw_holders_text::{Deed, HeldTexts, Line, WHAT_WIDTH, fill, put_count, put_who};
 use fw_ledger::{Answer, Ledger};
 use fw_log_entry::codes::event::{DIED, SECOND_OVER, WITHHELD};
 use fw_log_entry::{EventEntry, ResetEntry};
 use fw_log_names::{put_number, put_word};
 use std::alloc::AllocError;
 
-/// How many columns what is told has.
-const WHAT_WIDTH: usize = 40;
+// Appends the end of a line after what is told: what is left and held after its entry.
+fn put_standing(
+    text: &mut Vec<u8>,
+    tables: &Tables,
+    texts: &mut HeldTexts,
+) -> Result<(), AllocError>
+    requires stands { Stands tables.now }
+    requires nodes { texts.old ≡ tables.now.nodes }
+    ensures same { texts.new ≡ texts.old }
+    ensures text { (l : Account) → StandsFor tables.now l → OnOk result (text.new.items ≡ text.old.items ++ (right 4 (decimal (remainder l)) ++ codes " left" ++ held_text l ++ codes "\n")) }
+{
+    texts.put_left(text, u64::from(tables.left))?;
+    put_held(text, tables, texts)?;
+    put_word(text, "\n")
+}
 
 /// Appends the end of a line in which what is told begins at this byte: what is left and held after its entry.
 pub(crate) fn put_rest(
@@ -43,9 +58,7 @@ pub(crate) fn put_rest(
 {
     fill(text, from, WHAT_WIDTH)?;
     put_word(text, " ")?;
-    texts.put_left(text, u64::from(tables.left))?;
-    put_held(text, tables, texts)?;
-    put_word(text, "\n")
+    put_standing(text, tables, texts)
 }
 
 // Appends the device that began a bus reset.
@@ -127,9 +140,9 @@ pub(crate) fn put_event(
     }
 }
 
-// Appends the line of what the controller of a device did.
+// Appends the line of what the controller of a device did, of which not all texts are at hand.
 #[inline(never)]
-fn put_done_line(
+fn put_new_line(
     text: &mut Vec<u8>,
     cycle: u64,
     tables: &Tables,
@@ -143,9 +156,31 @@ fn put_done_line(
     ensures text { (k : Account) → StandsFor tables.now k → OnOk result (text.new.items ≡ text.old.items ++ line cycle (done_text (nodes_of k.latest) k.reclaiming controller deed) k) }
 {
     texts.put_cycle(text, cycle)?;
-    let from = text.len();
-    put_done(text, texts.nodes(), tables.reclaiming, controller, deed)?;
-    put_rest(text, from, tables, texts)
+    texts.put_done(text, tables.reclaiming, controller, deed)?;
+    put_standing(text, tables, texts)
+}
+
+// Appends the line of what the controller of a device did.
+#[inline(never)]
+fn put_done_line(
+    text: &mut Vec<u8>,
+    room: &mut Line,
+    cycle: u64,
+    tables: &Tables,
+    texts: &mut HeldTexts,
+    controller: u8,
+    deed: Deed,
+) -> Result<(), AllocError>
+    requires stands { Stands tables.now }
+    requires nodes { texts.old ≡ tables.now.nodes }
+    ensures same { texts.new ≡ texts.old }
+    ensures text { (k : Account) → StandsFor tables.now k → OnOk result (text.new.items ≡ text.old.items ++ line cycle (done_text (nodes_of k.latest) k.reclaiming controller deed) k) }
+{
+    texts.keep_numbers(cycle, u64::from(tables.left))?;
+    if pass_done_line(room, cycle, tables, texts, controller, deed) {
+        return text.extend_from_slice(room.as_slice());
+    }
+    put_new_line(text, cycle, tables, texts, controller, deed)
 }
 
 /// Appends the line of a response that made a move; of another nothing.
@@ -153,6 +188,7 @@ fn put_done_line(
 #[inline(always)]
 pub(crate) fn put_answer(
     text: &mut Vec<u8>,
+    room: &mut Line,
     cycle: u64,
     ledger: &Ledger,
     texts: &mut HeldTexts,
@@ -169,7 +205,7 @@ pub(crate) fn put_answer(
         return Ok(());
     };
     match ledger.device(answer.requester) {
-        Some(controller) => put_done_line(text, cycle, tables, texts, controller, deed),
+        Some(controller) => put_done_line(text, room, cycle, tables, texts, controller, deed),
         None => Ok(()),
     }
 }

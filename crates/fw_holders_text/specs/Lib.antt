@@ -1,5 +1,4 @@
 pub mod Deeds
 pub mod Holdings
 pub mod Kept
-pub mod Lists
 pub mod Names

@@ -15,7 +15,7 @@ const DEVICES: usize = 256;
 
 /// The nodes of a bus reset, and the kind of each device by its number, so that none is looked for. Contracts see them as the nodes.
 #[derive(Drop)]
-pub struct BusNodes {
+pub(crate) struct BusNodes {
     nodes: NodeList,
     kinds: [Option<u8>; DEVICES],
 }
@@ -68,7 +68,7 @@ fn same_nodes(nodes: &[NodeRow]) -> NodeList
 
 impl BusNodes {
     /// These nodes.
-    pub fn of(nodes: &[NodeRow]) -> BusNodes
+    pub(crate) fn of(nodes: &[NodeRow]) -> BusNodes
         requires { length nodes.now ≤ 63 }
         ensures { result ≡ nodes.now }
     {
@@ -79,7 +79,7 @@ impl BusNodes {
     }
 
     /// All nodes, in order of their numbers.
-    pub fn as_slice(&self) -> &[NodeRow]
+    pub(crate) fn as_slice(&self) -> &[NodeRow]
         ensures { result.now ≡ self.now }
     {
         self.nodes.as_slice()
@@ -95,7 +95,7 @@ impl BusNodes {
 
     /// Appends a device: what it is, and its number.
     #[tactic(auto, unfolding(crate::specs::Names::who))]
-    pub fn put_who(&self, text: &mut Vec<u8>, device: u8) -> Result<(), AllocError>
+    pub(crate) fn put_who(&self, text: &mut Vec<u8>, device: u8) -> Result<(), AllocError>
         ensures { OnOk result (text.new.items ≡ text.old.items ++ who self.now device) }
     {
         put_device(text, self.kind_of(device), device)
@@ -103,7 +103,12 @@ impl BusNodes {
 
     /// Appends a plug: its device, and its register.
     #[tactic(auto, unfolding(crate::specs::Names::plug_text))]
-    pub fn put_plug(&self, text: &mut Vec<u8>, side: Side, p: PlugAt) -> Result<(), AllocError>
+    pub(crate) fn put_plug(
+        &self,
+        text: &mut Vec<u8>,
+        side: Side,
+        p: PlugAt,
+    ) -> Result<(), AllocError>
         ensures { OnOk result (text.new.items ≡ text.old.items ++ plug_text self.now side p) }
     {
         self.put_who(text, p.device)?;

@@ -99,7 +99,7 @@ fn put_deed(
 
 /// Appends what the controller of a device does.
 #[tactic(auto, unfolding(crate::specs::Deeds::done_text))]
-pub fn put_done(
+pub(crate) fn put_done(
     text: &mut Vec<u8>,
     nodes: &BusNodes,
     reclaiming: bool,

@@ -1,16 +1,21 @@
-//! The latest texts of the channels that are held.
+//! The latest texts of what was done and is held.
 
-ghost use Rattle.std.specs.Prelude.{◌≡◌, ◌≤◌, ◌++◌, IsTrue, IfOk, OnOk, Some, [], length, codes, decimal};
+ghost use Rattle.std.specs.Prelude.{◌≡◌, ◌≤◌, ◌++◌, IfOk, IfSome, OnOk, [], length, codes, decimal};
+ghost use Rattle.fw_holders_text.specs.Deeds.{done_text};
 ghost use Rattle.fw_holders_text.specs.Holdings.{holding_text};
-ghost use Rattle.fw_holders_text.specs.Kept.{IsKept, NoneKept};
-ghost use Rattle.fw_holders_text.specs.Lists.{channels_text, channel_at};
-ghost use Rattle.fw_holders_text.specs.Names.{right};
+ghost use Rattle.fw_holders_text.specs.Kept.{NoneDone, NoneTold};
+ghost use Rattle.fw_holders_text.specs.Names.{left, right};
 
 use crate::bus_nodes::BusNodes;
-use crate::holding::{Holding, How, put_holding};
-use crate::kept_number::KeptNumber;
-use crate::told_list::{CHANNELS, HeldChannel, ToldList};
+use crate::deed::Deed;
+use crate::holding::Holding;
+use crate::kept_channel::{CHANNEL_ROWS, HeldChannel, KeptChannel, channel_row, put_channel};
+use crate::kept_done::{DONE_ROWS, Done, KeptDone, done_row, put_done_column};
+use crate::kept_number::{KeptNumber, keep_number, number_row, number_rows};
+use crate::names::put_right;
+use crate::text_row::TextRow;
 use fw_log_entry::NodeRow;
+use fw_log_names::put_word;
 use std::alloc::{AllocError, Global};
 use std::marker::Model;
 
@@ -19,115 +24,70 @@ const CYCLE_WIDTH: usize = 8;
 
 const UNITS_WIDTH: usize = 4;
 
-/// What was last held with a channel, if its text is kept, and the text.
-#[derive(Drop)]
-pub(crate) struct KeptText {
-    pub held: Option<Holding>,
-    pub text: Vec<u8>,
-}
-
-/// The latest text of each channel, and of all that were told last, over the nodes of one bus reset: what is held with a channel mostly
-/// stays from line to line, as do the cycle and the units that are left. Contracts see it as these nodes.
+/// The latest texts of what was done and of the channels that were held, over the nodes of one bus reset: most of a line was told in
+/// an earlier one. Contracts see it as these nodes.
 #[derive(Drop)]
 pub struct HeldTexts {
     nodes: BusNodes,
-    rows: Vec<KeptText>,
-    list: ToldList,
+    channels: Vec<KeptChannel>,
+    done: Vec<KeptDone>,
     cycle: KeptNumber,
-    left: KeptNumber,
+    left: Vec<KeptNumber>,
+    scratch: Vec<u8>,
 }
 
 impl Model for HeldTexts {
-    ghost use Rattle.std.specs.Prelude.{◌≡◌, List, length, codes};
+    ghost use Rattle.std.specs.Prelude.{List, codes};
     ghost use Rattle.fw_log_entry.specs.declared.nodes.NodeRow.{NodeRow};
-    ghost use Rattle.fw_holders_text.specs.Kept.{AreKept, IsNumber};
-    ghost use Rattle.fw_holders_text.specs.Lists.{IsTold};
+    ghost use Rattle.fw_holders_text.specs.Kept.{AreChannels, AreDone, AreNumbers, IsNumber};
 
     ghost Value = { List NodeRow };
 
     ghost view = { λ t. t.nodes };
 
-    ghost invariant = { λ t. (length t.rows.items ≡ 64) × AreKept t.nodes t.rows.items × IsTold t.nodes t.list × IsNumber 8 (codes " ") t.cycle × IsNumber 4 (codes " left") t.left };
+    ghost invariant = { λ t. AreChannels t.nodes t.channels.items × AreDone t.nodes t.done.items × IsNumber 8 (codes " ") t.cycle × AreNumbers 4 (codes " left: ") t.left.items };
 }
 
-// They are held in the same way.
-#[inline(always)]
-fn is_how(how: How, other: How) -> bool
-    ensures { IsTrue result → how ≡ other }
-{
-    match (how, other) {
-        (How::Pending(controller), How::Pending(another)) => controller == another,
-        (How::Connected, How::Connected) => true,
-        (How::Orphaned, How::Orphaned) => true,
-        (How::Continues, How::Continues) => true,
-        (How::Reclaimable, How::Reclaimable) => true,
-        _ => false,
-    }
-}
-
-/// The same is held.
-#[inline(always)]
-pub(crate) fn is_same(other: Holding, held: Holding) -> bool
-    ensures { IsTrue result → other ≡ held }
-{
-    other.units == held.units
-        && other.plug.device == held.plug.device
-        && other.plug.plug == held.plug.plug
-        && is_how(other.how, held.how)
-}
-
-// It is what was held.
-#[inline(always)]
-fn is_kept(kept: &Option<Holding>, held: Holding) -> bool
-    ensures { IsTrue result → kept.now ≡ Some held }
-{
-    match kept {
-        Some(other) => is_same(*other, held),
-        None => false,
-    }
-}
-
-impl KeptText {
-    // Makes the text of what is held.
-    #[inline(never)]
-    fn make(&mut self, nodes: &BusNodes, channel: usize, held: Holding) -> Result<(), AllocError>
-        ensures kept { IsKept nodes.now channel self.new }
-        ensures text { OnOk result (self.new.text.items ≡ holding_text nodes.now channel held) }
-    {
-        self.held = None;
-        self.text.clear();
-        put_holding(&mut self.text, nodes, channel, held)?;
-        self.held = Some(held);
-        Ok(())
-    }
-
-    /// Goes on to what is held, whose text is mostly at hand.
-    #[inline(always)]
-    pub(crate) fn set(
-        &mut self,
-        nodes: &BusNodes,
-        channel: usize,
-        held: Holding,
-    ) -> Result<(), AllocError>
-        requires kept { IsKept nodes.now channel self.old }
-        ensures kept { IsKept nodes.now channel self.new }
-        ensures text { OnOk result (self.new.text.items ≡ holding_text nodes.now channel held) }
-    {
-        if is_kept(&self.held, held) {
-            return Ok(());
-        }
-        self.make(nodes, channel, held)
-    }
-}
-
-// No text is at hand.
-fn forget(rows: &mut [KeptText])
+// No text of a channel is at hand.
+fn forget_channels(rows: &mut [KeptChannel])
     ensures size { length rows.new ≡ length rows.old }
-    ensures none { NoneKept rows.new }
+    ensures none { NoneTold rows.new }
 {
     for row in rows.iter_mut() {
-        row.held = None;
+        row.told = None;
     }
+}
+
+// No text of what was done is at hand.
+fn forget_done(rows: &mut [KeptDone])
+    ensures size { length rows.new ≡ length rows.old }
+    ensures none { NoneDone rows.new }
+{
+    for row in rows.iter_mut() {
+        row.done = None;
+    }
+}
+
+// Rows for channels.
+fn channel_rows(alloc: Global) -> Result<Vec<KeptChannel>, AllocError>
+    ensures { IfOk result (λ rows. NoneTold rows.items) }
+{
+    let mut rows = Vec::with_capacity(alloc, CHANNEL_ROWS)?;
+    for _ in 0..CHANNEL_ROWS {
+        rows.push(KeptChannel::new())?;
+    }
+    Ok(rows)
+}
+
+// Rows for what is done.
+fn done_rows(alloc: Global) -> Result<Vec<KeptDone>, AllocError>
+    ensures { IfOk result (λ rows. NoneDone rows.items) }
+{
+    let mut rows = Vec::with_capacity(alloc, DONE_ROWS)?;
+    for _ in 0..DONE_ROWS {
+        rows.push(KeptDone::new())?;
+    }
+    Ok(rows)
 }
 
 impl HeldTexts {
@@ -135,19 +95,13 @@ impl HeldTexts {
     pub fn new(alloc: Global) -> Result<HeldTexts, AllocError>
         ensures { IfOk result (λ t. t ≡ []) }
     {
-        let mut rows = Vec::with_capacity(alloc, CHANNELS)?;
-        for _ in 0..CHANNELS {
-            rows.push(KeptText {
-                held: None,
-                text: Vec::new(alloc),
-            })?;
-        }
         Ok(HeldTexts {
             nodes: BusNodes::of(&[]),
-            rows,
-            list: ToldList::new(alloc)?,
-            cycle: KeptNumber::new(alloc),
-            left: KeptNumber::new(alloc),
+            channels: channel_rows(alloc)?,
+            done: done_rows(alloc)?,
+            cycle: KeptNumber::new(),
+            left: number_rows(alloc)?,
+            scratch: Vec::new(alloc),
         })
     }
 
@@ -160,16 +114,9 @@ impl HeldTexts {
         if self.nodes.as_slice() == nodes {
             return;
         }
-        forget(&mut self.rows);
-        self.list.forget();
+        forget_channels(&mut self.channels);
+        forget_done(&mut self.done);
         self.nodes = BusNodes::of(nodes);
-    }
-
-    /// The nodes.
-    pub fn nodes(&self) -> &BusNodes
-        ensures { result.now ≡ self.now }
-    {
-        &self.nodes
     }
 
     /// Appends what a line begins with: its cycle, in eight columns or more, and a space.
@@ -181,30 +128,103 @@ impl HeldTexts {
         self.cycle.put(text, cycle, CYCLE_WIDTH, " ")
     }
 
-    /// Appends the bandwidth units that are left, in four columns or more, and that they are.
+    /// Appends what the controller of a device does, in 40 columns or more, and a space.
     #[inline(always)]
-    pub fn put_left(&mut self, text: &mut Vec<u8>, units: u64) -> Result<(), AllocError>
-        ensures same { self.new ≡ self.old }
-        ensures text { OnOk result (text.new.items ≡ text.old.items ++ (right 4 (decimal units) ++ codes " left")) }
-    {
-        self.left.put(text, units, UNITS_WIDTH, " left")
-    }
-
-    /// Appends the first `count` of these channels: the first after a colon, each other after a comma.
-    pub fn put(
+    pub fn put_done(
         &mut self,
         text: &mut Vec<u8>,
-        held: &[HeldChannel; CHANNELS],
-        count: usize,
+        reclaiming: bool,
+        controller: u8,
+        deed: Deed,
     ) -> Result<(), AllocError>
-        requires few { count ≤ 64 }
         ensures same { self.new ≡ self.old }
-        ensures text { OnOk result (text.new.items ≡ text.old.items ++ channels_text self.old (channel_at held.now) count) }
+        ensures text { OnOk result (text.new.items ≡ text.old.items ++ (left 40 (done_text self.old reclaiming controller deed) ++ codes " ")) }
     {
-        if let Err(error) = self.list.tell(&self.nodes, &mut self.rows, held, count) {
-            self.list.forget();
-            return Err(error);
-        }
-        text.extend_from_slice(&self.list.text)
+        let done = Done {
+            reclaiming,
+            controller,
+            deed,
+        };
+        put_done_column(&mut self.done, text, &self.nodes, done)
+    }
+
+    /// Appends the bandwidth units that are left, in four columns or more, that they are, and what stands before a channel.
+    #[inline(always)]
+    pub fn put_left(&self, text: &mut Vec<u8>, units: u64) -> Result<(), AllocError>
+        ensures text { OnOk result (text.new.items ≡ text.old.items ++ (right 4 (decimal units) ++ codes " left: ")) }
+    {
+        put_right(text, units, UNITS_WIDTH)?;
+        put_word(text, " left: ")
+    }
+
+    /// Appends a channel that is held, and what separates it from the next.
+    #[inline(always)]
+    pub fn put_channel(
+        &mut self,
+        text: &mut Vec<u8>,
+        channel: u8,
+        held: Holding,
+    ) -> Result<(), AllocError>
+        ensures same { self.new ≡ self.old }
+        ensures text { OnOk result (text.new.items ≡ text.old.items ++ (holding_text self.old channel held ++ codes ", ")) }
+    {
+        put_channel(
+            &mut self.channels,
+            text,
+            &self.nodes,
+            HeldChannel { channel, held },
+        )
+    }
+
+    /// Goes on to this cycle, and to these units that are left.
+    #[inline(always)]
+    pub fn keep_numbers(&mut self, cycle: u64, left: u64) -> Result<(), AllocError>
+        ensures { self.new ≡ self.old }
+    {
+        self.cycle.keep(&mut self.scratch, cycle, CYCLE_WIDTH, " ")?;
+        keep_number(
+            &mut self.left,
+            &mut self.scratch,
+            left,
+            UNITS_WIDTH,
+            " left: ",
+        )
+    }
+
+    /// What `put_cycle` appends, if it is at hand.
+    #[inline(always)]
+    pub fn cycle_row(&self, cycle: u64) -> Option<&TextRow>
+        ensures { IfSome result (λ row. row.now ≡ right 8 (decimal cycle) ++ codes " ") }
+    {
+        self.cycle.row(cycle)
+    }
+
+    /// What `put_done` appends, if it is at hand.
+    #[inline(always)]
+    pub fn done_row(&self, reclaiming: bool, controller: u8, deed: Deed) -> Option<&TextRow>
+        ensures { IfSome result (λ row. row.now ≡ left 40 (done_text self.now reclaiming controller deed) ++ codes " ") }
+    {
+        let done = Done {
+            reclaiming,
+            controller,
+            deed,
+        };
+        done_row(&self.done, done)
+    }
+
+    /// What `put_left` appends, if it is at hand.
+    #[inline(always)]
+    pub fn left_row(&self, units: u64) -> Option<&TextRow>
+        ensures { IfSome result (λ row. row.now ≡ right 4 (decimal units) ++ codes " left: ") }
+    {
+        number_row(&self.left, units)
+    }
+
+    /// What `put_channel` appends, if it is at hand.
+    #[inline(always)]
+    pub fn channel_row(&self, channel: u8, held: Holding) -> Option<&TextRow>
+        ensures { IfSome result (λ row. row.now ≡ holding_text self.now channel held ++ codes ", ") }
+    {
+        channel_row(&self.channels, HeldChannel { channel, held })
     }
 }

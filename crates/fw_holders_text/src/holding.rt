@@ -8,6 +8,9 @@ use fw_log_names::{put_number, put_word};
 use fw_terms::PlugAt;
 use std::alloc::AllocError;
 
+/// How many channels there are.
+pub const CHANNELS: usize = 64;
+
 /// How a channel is held.
 #[derive(Clone, Copy)]
 pub enum How {

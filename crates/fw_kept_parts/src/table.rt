@@ -81,18 +81,12 @@ impl<T: Part> Table<T> {
         }
     }
 
-    /// The number of the part of a whole, which is kept if none is found. One number is looked at before all others.
-    pub fn keep(&mut self, likely: u32, whole: &T::Whole) -> Result<u32, Full>
+    // Keeps the part of a whole in a chain. It stands alone, since few wholes come here and the part that it makes is large.
+    #[inline(never)]
+    fn add(&mut self, chain: usize, whole: &T::Whole) -> Result<u32, Full>
         ensures ok { IfOk result (λ n. Keeps T.IsOf self.old self.new whole.now n) }
         ensures err { OnErr result (self.new ≡ self.old) }
     {
-        if self.has(likely, whole) {
-            return Ok(likely);
-        }
-        let chain = chain_of(T::mark(whole));
-        if let Some(n) = self.find(chain, whole) {
-            return Ok(n);
-        }
         let n = self.parts.len();
         if n >= 0xFFFF_FFFF {
             return Err(Full::TooLarge);
@@ -106,6 +100,30 @@ impl<T: Part> Table<T> {
             *head = n as u32 + 1;
         }
         Ok(n as u32)
+    }
+
+    // The number of the part of a whole, which is kept if none is found.
+    #[inline(never)]
+    fn keep_marked(&mut self, whole: &T::Whole) -> Result<u32, Full>
+        ensures ok { IfOk result (λ n. Keeps T.IsOf self.old self.new whole.now n) }
+        ensures err { OnErr result (self.new ≡ self.old) }
+    {
+        let chain = chain_of(T::mark(whole));
+        match self.find(chain, whole) {
+            Some(n) => Ok(n),
+            None => self.add(chain, whole),
+        }
+    }
+
+    /// The number of the part of a whole, which is kept if none is found. One number is looked at before all others.
+    pub fn keep(&mut self, likely: u32, whole: &T::Whole) -> Result<u32, Full>
+        ensures ok { IfOk result (λ n. Keeps T.IsOf self.old self.new whole.now n) }
+        ensures err { OnErr result (self.new ≡ self.old) }
+    {
+        if self.has(likely, whole) {
+            return Ok(likely);
+        }
+        self.keep_marked(whole)
     }
 
     /// Appends the numbers of the parts of wholes, in their order. Of each the number at its place in `near` is looked at before all others.

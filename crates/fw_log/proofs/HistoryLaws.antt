@@ -180,7 +180,7 @@ entry_more entries bytes piece r new used t h e is =
       pending = let P : State → Type 0 = λ n. IsPending n.stand n.taken in subst P (sym is) (nothing_pending (after r.stand (r.taken ++ take used piece) t).stand);
     }
 
-all_read : (entries : List Timed) (bytes piece : List ℕ) (r new : State) → HasRead entries bytes r → new ≡ with_bytes r.stand (r.taken ++ piece) → IsPending r.stand (r.taken ++ piece)
+pub all_read : (entries : List Timed) (bytes piece : List ℕ) (r new : State) → HasRead entries bytes r → new ≡ with_bytes r.stand (r.taken ++ piece) → IsPending r.stand (r.taken ++ piece)
     → HasRead entries (bytes ++ piece) new
 all_read entries bytes piece r new h is pending = record {
   version = h.version;

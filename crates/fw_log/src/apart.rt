@@ -7,18 +7,19 @@ ghost use Rattle.fw_log.specs.Reader.{total, with_bytes, Remembers, Feeds, Count
 ghost use Rattle.fw_log.specs.History.{HasRead, ReadsOn, Names};
 
 use crate::extent::is_part;
-use crate::first::{at_hand, first_entry};
+use crate::first::at_hand;
+use crate::first_look::annotation_found;
 use crate::{LogFault, LogFed, LogReader, ReadBuffers};
-use fw_words::Data;
 
 impl LogReader {
-    // Takes all of a piece, if nothing is kept and the piece is a part of one entry with its head, all parts of which are right, as
-    // most entries begin that a piece's end cuts.
+    /// Takes all of a piece and answers that it did, if no byte is kept and the piece is a part of one entry with its head, all parts of
+    /// which are right, as most entries begin that a piece's end cuts. Else `feed` says what comes.
     #[inline(never)]
-    fn keep_part(&mut self, piece: &[u8]) -> bool
-        requires fresh { self.old.fault ≡ None }
+    pub fn keep_part(&mut self, piece: &[u8]) -> bool
+        requires { self.old.fault ≡ None }
         ensures kept { IsFalse result → self.new ≡ self.old }
         ensures part { IsTrue result → (self.new ≡ with_bytes self.old.stand (self.old.taken ++ piece.now)) × IsPending self.old.stand (self.old.taken ++ piece.now) }
+        ensures history { IsTrue result → (entries : List Timed) → (bytes : List ℕ) → HasRead entries bytes self.old → HasRead entries (bytes ++ piece.now) self.new }
     {
         if !self.taken.as_slice().is_empty() || !is_part(self.stand, piece) {
             return false;
@@ -27,7 +28,7 @@ impl LogReader {
         true
     }
 
-    // As `feed_any`, of any entry or part of one.
+    // As `feed_fresh`, if most entries are annotations, and no packet of a usual form is looked for.
     #[inline(never)]
     fn feed_first<'a>(
         &mut self,
@@ -41,35 +42,14 @@ impl LogReader {
         ensures remembers { IfErr result (λ f. Remembers self.old.stand self.old.taken piece.now self.new) }
     {
         let bytes = at_hand(self.stand, self.taken.as_slice(), piece, &mut room.bytes);
-        let found = first_entry(self.stand, bytes, &mut room.reset);
-        self.keep(found, piece)
-    }
-
-    // As `feed_fresh`, if no packet of a usual form is looked for.
-    #[inline(always)]
-    fn feed_any<'a>(
-        &mut self,
-        piece: &'a [u8],
-        room: &'a mut ReadBuffers,
-    ) -> Result<LogFed<'a>, LogFault>
-        requires fresh { self.old.fault ≡ None }
-        requires pending { IsPending self.old.stand self.old.taken }
-        requires room { self.old.stand.start + length self.old.taken + length piece.now < 2 ^ 64 }
-        ensures fed { Feeds self.old.stand self.old.taken piece.now result self.new }
-        ensures remembers { IfErr result (λ f. Remembers self.old.stand self.old.taken piece.now self.new) }
-    {
-        if self.keep_part(piece) {
-            return Ok(LogFed {
-                used: piece.len(),
-                entry: None,
-                body: Data::new(&[]),
-            });
+        match annotation_found(self.stand, bytes) {
+            Some(found) => self.keep(Ok(Some(found)), piece),
+            None => self.feed_other(bytes, piece, &mut room.reset),
         }
-        self.feed_first(piece, room)
     }
 
-    /// Takes bytes as `feed` does, in more instructions if a packet comes, and in fewer if another entry does or if the
-    /// piece has only a part of one: for those that take packets by `pass_body`. What it reads is no part of the caller's loop.
+    /// Takes bytes as `feed` does, in more instructions if a packet comes, and in fewer if another entry does: for those that take
+    /// packets by `pass_body`, and parts of entries by `keep_part`. What it reads is no part of the caller's loop.
     #[inline(always)]
     pub fn feed_apart<'a>(
         &mut self,
@@ -86,7 +66,7 @@ impl LogReader {
     {
         match self.fault {
             Some(fault) => Err(fault),
-            None => self.feed_any(piece, room),
+            None => self.feed_first(piece, room),
         }
     }
 }

@@ -8,7 +8,7 @@ ghost use Rattle.fw_log.specs.Passing.{BodyFirst, HeadFirst, IsPlainEpoch, Annot
 
 use crate::first::Found;
 use crate::log_position::{EPOCH_AT, LogPosition, cycle_of, rest, skip, version_at};
-use crate::plain::{PlainBody, is_annotation_body, is_plain_body, plain_body};
+use crate::plain::{PlainBody, annotation_of, is_annotation_body, is_plain_body, plain_body};
 use crate::read_head::whole_end;
 use crate::right_body::RightBody;
 use crate::{Entry, Timed, Version};
@@ -94,6 +94,30 @@ pub(crate) fn plain_found<'a>(stand: LogPosition, bytes: &'a [u8]) -> Option<Fou
     let entry = Timed {
         cycle: passed.cycle,
         what: Entry::Async(whole_packet(packet)),
+    };
+    Some(Found {
+        end: passed.end,
+        version: passed.version,
+        body: content,
+        entry,
+    })
+}
+
+/// The event, the outcome or the register that was shown that the bytes begin with, if it is whole and right at the first look, as nearly
+/// all are.
+#[inline(always)]
+pub(crate) fn annotation_found<'a>(stand: LogPosition, bytes: &'a [u8]) -> Option<Found<'a>>
+    ensures { IfSome result (λ found. Finds (position stand) bytes.now (Ok (Some found))) }
+{
+    let PlainHead {
+        passed,
+        kind,
+        content,
+    } = plain_head(stand, bytes)?;
+    let what = annotation_of(kind, content.as_slice())?;
+    let entry = Timed {
+        cycle: passed.cycle,
+        what,
     };
     Some(Found {
         end: passed.end,

@@ -5,8 +5,10 @@
 
 ghost use Rattle.std.specs.Prelude.{ℕ, ◌≡◌, ◌*◌, IsTrue, IfSome, length, true};
 ghost use Rattle.fw_log.specs.Reading.{is_kind, is_length};
-ghost use Rattle.fw_log.specs.Passing.{IsPlain, IsPlainBody, IsAnnotationBody};
+ghost use Rattle.fw_log.specs.Bodies.{IsBody};
+ghost use Rattle.fw_log.specs.Passing.{IsPlain, IsPlainBody, IsAnnotation, IsAnnotationBody};
 
+use crate::Entry;
 use crate::read_body::{event_of, outcome_of, shown_of};
 use crate::right_body::RightBody;
 use fw_async::is_plain_packet;
@@ -53,6 +55,30 @@ pub(crate) fn plain_body<'a>(
             Ok(_) => Some(PlainBody::Iso(Data::new(bytes))),
             Err(_) => None,
         },
+        _ => None,
+    }
+}
+
+/// The event, the outcome or the register that was shown whose body these bytes are, if the body is right at the first look.
+#[inline(always)]
+pub(crate) fn annotation_of<'a>(kind: u8, body: &[u8]) -> Option<Entry<'a>>
+    requires kind { is_kind kind 0 ≡ true }
+    requires size { (n : ℕ) × (length body.now ≡ 4 * n) × (is_length kind n ≡ true) }
+    ensures { IfSome result (λ e. IsBody kind body.now e × IsAnnotation e) }
+{
+    match kind {
+        kind::EVENT => {
+            let event = event_of(body)?;
+            Some(Entry::Event(event))
+        }
+        kind::OUTCOME => {
+            let outcome = outcome_of(body)?;
+            Some(Entry::Outcome(outcome))
+        }
+        kind::SHOWN => {
+            let shown = shown_of(body)?;
+            Some(Entry::Shown(shown))
+        }
         _ => None,
     }
 }

@@ -143,7 +143,7 @@ impl LogReader {
 
     // Takes an entry of another form than that of most packets, or a part of one, from the bytes at hand.
     #[inline(never)]
-    fn feed_other<'a>(
+    pub(crate) fn feed_other<'a>(
         &mut self,
         bytes: &'a [u8],
         piece: &[u8],

@@ -166,6 +166,18 @@ gathered_rest {text} e {Took} {old} {now} {entries} {bytes} {piece} {rest} {r} n
     let all : fed.used ≡ length rest = used_all r.stand r.taken rest new fed.used fed.entry is f.0 in
     gathered_all (gathered_none e new fed p f h is) (omega (arith, all, length-drop fed.used rest))
 
+-- all of the rest is a part of an entry
+pub gathered_part : {text : Text} {Took : List Timed → Type 0} {old now : List ℕ} {entries : List Timed} {bytes piece rest : List ℕ} {r : State} (new : State)
+    (p : GatheredTo text Took old now entries bytes piece rest r) → HasRead (entries ++ p.gathers.more) ((bytes ++ p.done) ++ rest) new → Gathers text Took old now entries (bytes ++ piece) new
+gathered_part {text} {Took} {old} {now} {entries} {bytes} {piece} {rest} new p h =
+    let P : List ℕ → Type 0 = λ b. HasRead (entries ++ p.gathers.more) b new in
+    record {
+      more = p.gathers.more;
+      read = subst P (append_assoc bytes p.done rest ∙ ap (λ (x : List ℕ). bytes ++ x) p.parts) h;
+      took = p.gathers.took;
+      gathered = p.gathers.gathered;
+    }
+
 -- an entry that was passed over
 pub gathered_passed : {text : Text} (e : IsEach text) {Took Took' : List Timed → Type 0} {old now now' : List ℕ} {entries : List Timed}
     {bytes piece rest : List ℕ} {r : State} (new : State) (used : ℕ) (p : GatheredTo text Took old now entries bytes piece rest r)

@@ -1,12 +1,11 @@
 -- What a piece of a log does to a reader, to what takes the entries, and to a sink.
-use Rattle.std.specs.Prelude.{◌≡◌, ℕ, ◌+◌, ◌≤◌, ◌⊎◌, List, [], ◌∷◌, ◌++◌, length, nat_le, if◌then◌else◌, Option, Some, None, Result, Ok, Err, IfOk}
+use Rattle.std.specs.Prelude.{◌≡◌, ℕ, ◌+◌, ◌≤◌, ◌⊎◌, List, [], ◌∷◌, ◌++◌, length, nat_le, if◌then◌else◌, Option, Some, None, Result, Ok, Err}
 use Rattle.std.specs.declared.alloc.AllocError.{AllocError}
 use Rattle.fw_outside.specs.Outside.{Takes, Grows, AppendsPrefix}
 use Rattle.fw_outside.specs.declared.stop.Stop.TheVariants.{ReadFault, WriteFault, TooLong, NoMemory}
 use Rattle.fw_log_entry.specs.declared.entry.Timed.{Timed}
-use Rattle.fw_log.specs.History.{bytes_of, HasRead, ReadsOn, Finishes}
-use Rattle.fw_log.specs.Reader.{State, Feeds, Counts, body_given, finish_of}
-use Rattle.fw_log.specs.declared.read.LogFed.{LogFed}
+use Rattle.fw_log.specs.History.{bytes_of, HasRead, Finishes}
+use Rattle.fw_log.specs.Reader.{State, finish_of}
 use Rattle.fw_log.specs.declared.LogFault.{LogFault}
 use Rattle.fw_log_loop.specs.Readings.{Text, Form, Rules}
 use Rattle.fw_log_loop.specs.Endings.{limit, Begins, Refuses, opened, Decoded, Faulted, Rejected, RefusedWhole, Interrupted, PartRead, PartClosed, PassedLimit}
@@ -19,13 +18,6 @@ pub record IsUnderWay (Took : List Timed → Type 0) (reader : State) : Type 0 w
   pub bytes : List ℕ
   pub read : HasRead entries bytes reader
   pub took : Took entries
-
--- what a reader answers of a piece, as its `feed` says
-pub record FeedsOn (old : State) (piece : List ℕ) (result : Result LogFed LogFault) (new : State) : Type 0 where
-  pub fed : Feeds old.stand old.taken piece result new
-  pub counts : Counts old piece result new
-  pub body : IfOk result (λ f. f.body ≡ body_given f.entry)
-  pub history : (entries : List Timed) → (bytes : List ℕ) → HasRead entries bytes old → ReadsOn entries bytes piece result new
 
 -- ---- what is gathered
 

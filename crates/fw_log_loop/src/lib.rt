@@ -6,7 +6,6 @@
 #![tactic(auto)]
 
 mod ending;
-mod feeding;
 mod framing;
 mod log;
 mod piece;

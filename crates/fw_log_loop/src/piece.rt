@@ -9,7 +9,6 @@ ghost use Rattle.fw_log.specs.Reader.{total};
 ghost use Rattle.fw_log_loop.specs.Endings.{stop_of};
 ghost use Rattle.fw_log_loop.specs.Pieces.{IsUnderWay, TakesPiece, PrintsPiece, PrintsBytes};
 
-use crate::feeding::feed;
 use crate::{LogEnding, Reading};
 use fw_log::{LogFed, LogReader, ReadBuffers};
 use fw_outside::{Failed, Sink, Stop};
@@ -35,7 +34,10 @@ fn take_entries<O: Reading>(
             rest = &rest[used..];
             continue;
         }
-        let LogFed { used, entry, body } = match feed::<O>(reader, rest, room) {
+        if reader.keep_part(rest) {
+            return Ok(None);
+        }
+        let LogFed { used, entry, body } = match reader.feed_apart(rest, room) {
             Ok(fed) => fed,
             Err(fault) => return Ok(Some(LogEnding::NoLog(fault))),
         };

@@ -65,12 +65,6 @@ pub trait Reading: Drop {
         Ok(None)
     }
 
-    /// Whether it has most entries read as values, and passes few: then they are read within the loop over the entries, which is
-    /// slower for a word that passes most of them. Nothing else depends on it.
-    fn reads_most() -> bool {
-        false
-    }
-
     /// The text that was gathered.
     fn gathered(&self) -> &[u8]
         ensures { result.now ≡ gathered self.now };

@@ -11,6 +11,7 @@ use fw_log::Version;
 use fw_outside::{Sink, Source};
 use std::alloc::Global;
 
+mod entry_room;
 mod explanation;
 mod laws;
 mod lines;

@@ -3,7 +3,6 @@
 ghost use Rattle.std.specs.Prelude.{◌≡◌, ◌≤◌, ◌<◌, ◌+◌, ◌/◌, ◌^◌, ◌++◌, ℕ, [], List, length, take, None, IfNone, IfOk, IfSome, OnOk};
 ghost use Rattle.fw_log_entry.specs.Log.{Fits, body, epoch_after, latest_epoch, entry_bytes, entry_head};
 ghost use Rattle.fw_log_entry.specs.declared.entry.Entry.{Entry};
-ghost use Rattle.fw_log_entry.specs.declared.version.Version.TheVariants.{One, Two};
 ghost use Rattle.fw_log_entry.specs.declared.entry.Timed.{Timed as TimedEntry};
 ghost use Rattle.fw_log.specs.History.{HasRead};
 ghost use Rattle.fw_log.specs.Passing.{CountsUp, HasBody};
@@ -15,6 +14,7 @@ ghost use Rattle.fw_log_words.specs.Texts.{log_form};
 ghost use Rattle.fw_log_reports.specs.Silences.{never_refused};
 
 use crate::LogRefusal;
+use crate::entry_room::{EntryRoom, long_head, short_head};
 use fw_log::{LogReader, PlainBody, ReadBuffers, Timed, Version, write_header};
 use fw_log_entry::codes::kind;
 use fw_log_entry::{epoch_after, head_of};
@@ -24,35 +24,15 @@ use fw_words::quadlet_at;
 use std::alloc::{AllocError, Global};
 use std::marker::Model;
 
-/// How many bytes there is room for at first: more than the entries have of 4,096 bytes of a log and of the longest entry after
-/// them, in the longer version.
-const ROOM: usize = 12_288;
-
-// The head of an entry in version 1.
-fn short_head(kind: u8, quadlets: u16, cycle: u64) -> [u8; 12]
-    ensures { result ≡ entry_head One 0 kind quadlets cycle }
-{
-    let mut head = [kind, 0, 0, 0, 0, 0, 0, 0, 0, 0, 0, 0];
-    head[2..4].copy_from_slice(&quadlets.to_be_bytes());
-    head[4..].copy_from_slice(&cycle.to_be_bytes());
-    head
-}
-
-// The head of an entry in version 2.
-fn long_head(kind: u8, quadlets: u16, epoch: u32, cycle: u64) -> [u8; 16]
-    ensures { result ≡ entry_head Two epoch kind quadlets cycle }
-{
-    let mut head = [kind, 0, 0, 0, 0, 0, 0, 0, 0, 0, 0, 0, 0, 0, 0, 0];
-    head[2..4].copy_from_slice(&quadlets.to_be_bytes());
-    head[4..8].copy_from_slice(&epoch.to_be_bytes());
-    head[8..].copy_from_slice(&cycle.to_be_bytes());
-    head
+// Whether an entry of this kind is an annotation.
+fn is_annotation(kind: u8) -> bool {
+    kind == kind::EVENT || kind == kind::OUTCOME || kind == kind::SHOWN
 }
 
 // The entries that were gathered, in a version, and the epoch of the latest bus reset up to there.
 #[derive(Drop)]
 struct Rewriting {
-    bytes: Vec<u8>,
+    entries: EntryRoom,
     version: Version,
     epoch: u32,
 }
@@ -62,7 +42,7 @@ impl Model for Rewriting {
 
     ghost Value = { Rewritten };
 
-    ghost view = { λ r. record { bytes = r.bytes.items; version = r.version; epoch = r.epoch } };
+    ghost view = { λ r. record { bytes = r.entries; version = r.version; epoch = r.epoch } };
 }
 
 impl Rewriting {
@@ -71,7 +51,7 @@ impl Rewriting {
         ensures { IfOk result (λ r. r ≡ record { bytes = []; version = version; epoch = 0 }) }
     {
         Ok(Rewriting {
-            bytes: Vec::with_capacity(alloc, ROOM)?,
+            entries: EntryRoom::new(alloc)?,
             version,
             epoch: 0,
         })
@@ -87,8 +67,8 @@ impl Rewriting {
     {
         self.epoch = epoch_after(self.epoch, &entry.what);
         let head = head_of(self.version, self.epoch, entry);
-        self.bytes.extend_from_slice(head.as_slice())?;
-        self.bytes.extend_from_slice(bytes)
+        self.entries.put([], head.as_slice())?;
+        self.entries.put([], bytes)
     }
 
     // Appends an entry of this kind and cycle, whose body these bytes are, in the epoch of the latest bus reset.
@@ -101,16 +81,12 @@ impl Rewriting {
     {
         let quadlets = (bytes.len() / 4) as u16;
         match self.version {
-            Version::One => {
-                let head = short_head(kind, quadlets, cycle);
-                self.bytes.extend_from_slice(&head)?;
-            }
+            Version::One => self.entries.put(short_head(kind, quadlets, cycle), bytes),
             Version::Two => {
-                let head = long_head(kind, quadlets, self.epoch, cycle);
-                self.bytes.extend_from_slice(&head)?;
+                self.entries
+                    .put(long_head(kind, quadlets, self.epoch, cycle), bytes)
             }
         }
-        self.bytes.extend_from_slice(bytes)
     }
 
     // Appends the entry of this cycle that has this body. An error says that memory ran out.
@@ -132,9 +108,34 @@ impl Rewriting {
         }
     }
 
-    // Copies the annotation that ends in a piece, as `Reading::take_raw` says. Not in line: such entries are few beside packets.
+    // Copies the annotation of this kind that ends in a piece, as `Reading::take_raw` says. Not in line: such entries are few beside
+    // packets.
     #[inline(never)]
     fn copy_annotation(
+        &mut self,
+        kind: u8,
+        reader: &mut LogReader,
+        room: &mut ReadBuffers,
+        piece: &[u8],
+    ) -> Result<Option<usize>, AllocError>
+        requires { total reader.old + length piece.now < 2 ^ 64 }
+        ensures version { self.new.version ≡ self.old.version }
+        ensures kept { IfOk result (λ used. IfNone used ((reader.new ≡ reader.old) × (self.new ≡ self.old))) }
+        ensures fresh { IfOk result (λ used. IfSome used (λ n. reader.new.fault ≡ None)) }
+        ensures counts { IfOk result (λ used. IfSome used (CountsUp reader.old piece.now reader.new)) }
+        ensures history { (entries : List TimedEntry) → (bytes : List ℕ) → HasRead entries bytes reader.old → self.old.epoch ≡ latest_epoch 0 entries
+            → IfOk result (λ used. IfSome used (λ n. Passes (log_form self.old.version).text (λ es. self.new.epoch ≡ latest_epoch 0 es) self.old.bytes self.new.bytes entries (bytes ++ take n piece.now) reader.new)) }
+    {
+        let Some(annotation) = reader.pass_annotation(kind, piece, room) else {
+            return Ok(None);
+        };
+        self.copy(kind, annotation.cycle, annotation.body.as_slice())?;
+        Ok(Some(annotation.used))
+    }
+
+    // Copies the entry that ends in a piece, if it is an annotation, as `Reading::take_raw` says.
+    #[inline(always)]
+    fn copy_other(
         &mut self,
         reader: &mut LogReader,
         room: &mut ReadBuffers,
@@ -151,11 +152,10 @@ impl Rewriting {
         let Some(kind) = reader.next_kind(piece) else {
             return Ok(None);
         };
-        let Some(annotation) = reader.pass_annotation(kind, piece, room) else {
+        if !is_annotation(kind) {
             return Ok(None);
-        };
-        self.copy(kind, annotation.cycle, annotation.body.as_slice())?;
-        Ok(Some(annotation.used))
+        }
+        self.copy_annotation(kind, reader, room, piece)
     }
 }
 
@@ -191,18 +191,18 @@ impl Reading for Rewriting {
         piece: &[u8],
     ) -> Result<Option<usize>, AllocError> {
         let Some(passed) = reader.pass_body(piece, room) else {
-            return self.copy_annotation(reader, room, piece);
+            return self.copy_other(reader, room, piece);
         };
         self.put_body(passed.cycle, &passed.body)?;
         Ok(Some(passed.used))
     }
 
     fn gathered(&self) -> &[u8] {
-        &self.bytes
+        self.entries.as_slice()
     }
 
     fn clear(&mut self) {
-        self.bytes.clear();
+        self.entries.clear();
     }
 
     fn close(&self, alloc: Global) -> Result<Closing<LogRefusal>, AllocError> {

@@ -80,11 +80,11 @@ impl Node {
     {
         self.number = Some(number);
         self.plugs.reset();
-        self.manager = if manager {
-            Some(Manager::new(self.withhold))
-        } else {
-            None
-        };
+        if manager {
+            self.manager = Some(Manager::new(self.withhold));
+        } else if self.manager.is_some() {
+            self.manager = None;
+        }
         self.waiting.clear();
         if let Some(unit) = &mut self.unit {
             unit.reset();

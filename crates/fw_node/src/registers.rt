@@ -107,9 +107,12 @@ impl Node {
     {
         let offset = r.offset();
         match offset {
-            BUS_MANAGER_ID..=CHANNELS_AVAILABLE_LO => manager_reply(&mut self.manager, r),
             OMPR..=LAST_PLUG_REGISTER => self.plugs.answer(r),
-            _ => self.core_reply(number, now, offset, r),
+            // Told apart for themselves, since most requests are at a plug.
+            _ => match offset {
+                BUS_MANAGER_ID..=CHANNELS_AVAILABLE_LO => manager_reply(&mut self.manager, r),
+                _ => self.core_reply(number, now, offset, r),
+            },
         }
     }
 

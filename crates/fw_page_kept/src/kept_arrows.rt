@@ -11,7 +11,7 @@ use std::alloc::{AllocError, Global};
 use std::marker::Model;
 
 /// How many arrows are kept at most, each in the row that it belongs to.
-const ROWS: usize = 1024;
+const ROWS: usize = 4096;
 
 /// The longest text that is kept: an arrow has 81 bytes at most.
 const LONGEST: usize = 96;
@@ -49,17 +49,18 @@ fn is_same(kept: &Option<Way>, way: &Way) -> bool
 // The row that an arrow belongs to: any would do.
 #[inline(always)]
 fn row_of(way: &Way) -> usize {
-    let kind = match way.shape {
-        Shape::Arrow(Line::Whole) => 0,
-        Shape::Turn => 1,
-        Shape::Arrow(Line::Dashed) => match way.told {
-            SwapResult::Nothing => 2,
-            _ => 3,
-        },
+    let shape = match way.shape {
+        Shape::Arrow(Line::Whole) | Shape::Turn => 0,
+        Shape::Arrow(Line::Dashed) => 2080,
     };
-    // Places of one page differ by 8 or more.
-    let mixed = (way.from / 8) ^ (way.to / 8).wrapping_mul(23);
-    mixed as usize % (ROWS / 4) + kind * (ROWS / 4)
+    let told = match way.told {
+        SwapResult::Nothing => 0,
+        SwapResult::Made => 1365,
+        SwapResult::NotMade => 2730,
+    };
+    // Places of one page differ by 16 or more, but for the one right of the columns.
+    let mixed = (way.from / 16) ^ (way.to / 16).wrapping_mul(64);
+    (mixed as usize % ROWS + shape + told) % ROWS
 }
 
 impl Row {

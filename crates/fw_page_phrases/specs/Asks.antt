@@ -23,6 +23,10 @@ end_text id = if id == 0xffff then codes "all" else if nat_le first_id id then d
 abbrev pub label_text : ℕ → List ℕ
 label_text label = if label == 0 then [] else codes " label " ++ decimal label
 
+-- who sends a packet to whom, of the local bus, by their numbers
+abbrev pub local_text : ℕ → List ℕ → ℕ → ℕ → List ℕ
+local_text source sign destination label = codes "<i>" ++ decimal source ++ sign ++ decimal destination ++ label_text label ++ codes "</i> "
+
 -- who sends a packet to whom, with this sign between
 unfoldable pub who : ℕ → List ℕ → ℕ → ℕ → List ℕ
 who source sign destination label = codes "<i>" ++ end_text source ++ sign ++ end_text destination ++ label_text label ++ codes "</i> "

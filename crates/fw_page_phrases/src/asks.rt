@@ -39,8 +39,9 @@ fn put_label(text: &mut Vec<u8>, label: u8) -> Result<(), AllocError>
     put_part(text, " label ", u64::from(label))
 }
 
-/// Appends who sends a packet to whom, with this sign between, and its label if that is not 0.
-pub fn put_who(
+/// Appends who sends a packet to whom, with this sign between, and its label if that is not 0: piece by piece.
+#[inline(never)]
+pub(crate) fn put_long_who(
     text: &mut Vec<u8>,
     pairs: &Pairs,
     source: u16,
@@ -136,10 +137,16 @@ fn put_brought(
 {
     match p {
         Packet::WriteQuadlet { value, .. } => {
-            put_quadlet_written(text, pairs, RegisterPlace::of(offset), *value)
+            put_quadlet_written(text, pairs, memo, RegisterPlace::of(offset), *value)
         }
         Packet::WriteBlock { bytes, .. } => {
-            put_block_written(text, pairs, RegisterPlace::of(offset), bytes.as_slice())
+            put_block_written(
+                text,
+                pairs,
+                memo,
+                RegisterPlace::of(offset),
+                bytes.as_slice(),
+            )
         }
         Packet::ReadBlock { length, .. } => put_part(text, ", data_length ", u64::from(*length)),
         Packet::Lock {

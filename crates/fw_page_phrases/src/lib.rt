@@ -11,13 +11,15 @@ mod request;
 mod run;
 mod standing;
 mod tells;
+mod who;
 mod written;
 
 pub use answer::{put_answer, put_got};
-pub use asks::{put_ask, put_who};
+pub use asks::put_ask;
 pub use cycles::{put_cycles, put_flow};
 pub use note::{AccountStop, Break, put_break, put_stop};
 pub use request::{Kind, Request};
 pub use run::{Flow, Run};
 pub use standing::{BROADCAST, OutstandingRequest, Requests};
 pub use tells::{answer_of, answers, made, told_of};
+pub use who::put_who;

@@ -3,6 +3,7 @@
 ghost use Rattle.std.specs.Prelude.{◌≡◌, ◌≤◌, ◌++◌, IsTrue, OnOk, Some, take};
 ghost use Rattle.fw_page_registers.specs.Phrases.{phrase_text};
 
+use crate::frames::KeptFrames;
 use crate::phrase::{Phrase, Words, put_phrase};
 use fw_log_names::Pairs;
 use fw_words::Swap;
@@ -71,7 +72,8 @@ fn row_of(phrase: &Phrase) -> usize {
         Words::Change(s) => (5, s.argument ^ (s.new >> 3)),
         Words::Changed(s) => (6, s.argument ^ (s.new >> 3)),
     };
-    let mixed = (phrase.offset % 4096) as u32 ^ words ^ (words >> 11) ^ (words >> 21) ^ (kind << 6);
+    let place = (phrase.offset % 4096) as u32;
+    let mixed = place ^ (place >> 9) ^ words ^ (words >> 11) ^ (words >> 21) ^ (kind << 6);
     mixed as usize % ROWS
 }
 
@@ -129,11 +131,13 @@ impl Row {
 #[derive(Drop)]
 pub struct Memo {
     rows: Vec<Row>,
+    frames: KeptFrames,
 }
 
 #[tactic(auto, unfolding(crate::specs::Phrases::words_text))]
 impl Memo {
     ghost use Rattle.std.specs.Prelude.{codes};
+    ghost use Rattle.fw_log_frames.specs.Frames.{frame_text};
     ghost use Rattle.fw_log_registers.specs.Places.{place_of};
     ghost use Rattle.fw_log_registers.specs.Words.{told_text};
     ghost use Rattle.fw_page_registers.specs.Words.{code_word, swap_asked, told, wrapped};
@@ -142,6 +146,7 @@ impl Memo {
     pub fn new(alloc: Global) -> Memo {
         Memo {
             rows: Vec::new(alloc),
+            frames: KeptFrames::new(alloc),
         }
     }
 
@@ -178,6 +183,18 @@ impl Memo {
                 put_phrase(text, pairs, phrase)
             }
         }
+    }
+
+    /// Appends the bytes that are written to FCP_COMMAND or FCP_RESPONSE in words. An error says that memory ran out.
+    pub fn put_frame(
+        &mut self,
+        text: &mut Vec<u8>,
+        pairs: &Pairs,
+        frame: &[u8],
+    ) -> Result<(), AllocError>
+        ensures { OnOk result (text.new.items ≡ text.old.items ++ frame_text frame.now) }
+    {
+        self.frames.put(text, pairs, frame)
     }
 
     /// Appends a word that stands at an offset, and what it says there.

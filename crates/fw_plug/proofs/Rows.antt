@@ -1,14 +1,15 @@
 -- A row of plugs, seen as the list of its words and as the list of what lingers.
-use Rattle.std.proofs.Common.{◌≡◌, ℕ, zero, suc, ◌<◌, ◌==◌, ◌&&◌, false, List, [], ◌∷◌, length, map, replicate, slice_index, slice_index_or, slice_set, Option, Some, refl, sym, ◌∙◌, ap, arith}
+use Rattle.std.proofs.Common.{◌≡◌, ℕ, zero, suc, ◌<◌, ◌==◌, ◌&&◌, ◌||◌, false, List, [], ◌∷◌, length, map, replicate, slice_index, slice_index_or, slice_set, Option, Some, refl, sym, ◌∙◌, ap, arith}
 use Rattle.std.specs.List.{refill}
 use Rattle.std.proofs.lemmas.Grind.{common_steps}
-use Rattle.std.proofs.lemmas.Bool.Decides.{nat_tests}
 use Rattle.std.proofs.lemmas.List.{map-set, get_or-map, length-map}
-use Rattle.fw_csr.specs.Requests.{offset_of}
 use Rattle.fw_csr.specs.declared.request.Request.{Request}
 use Rattle.fw_csr.specs.Replies.{word_after}
 use Rattle.fw_plug.specs.declared.plug.Plug.{Plug}
-use Rattle.fw_plug.specs.Plugs.{words_of, lingering_of, active, is_active, after_at, lingering_after, disconnected, plug_at, plug_after_reset, plug_after_second}
+use Rattle.fw_words.specs.Quadlet.{field}
+use Rattle.fw_plug.specs.Words.{is_connected}
+use Rattle.fw_plug.specs.Kept.{AreReset}
+use Rattle.fw_plug.specs.Plugs.{words_of, lingering_of, active, is_active, after_at, lingering_after, disconnected, plug_after_reset, plug_after_second}
 
 pub words_of_copies : (n : ℕ) (p : Plug) → words_of (replicate n p) ≡ replicate n p.word
 words_of_copies zero p = refl
@@ -25,6 +26,29 @@ words_after_reset (p ∷ ps) = ap (λ xs. disconnected p.word ∷ xs) (words_aft
 pub lingering_after_reset : (ps : List Plug) → lingering_of (map plug_after_reset ps) ≡ active (words_of ps) (lingering_of ps)
 lingering_after_reset [] = refl
 lingering_after_reset (p ∷ ps) = ap (λ xs. is_active p.word p.lingers ∷ xs) (lingering_after_reset ps)
+
+-- ---- a bus reset that comes after another
+
+disconnected_twice : (w : ℕ) → disconnected (disconnected w) ≡ disconnected w
+disconnected_twice w = omega arith
+
+not_connected : (w : ℕ) → is_connected (disconnected w) ≡ false
+not_connected w =
+    let broadcast : field (disconnected w) 1 1 ≡ 0 = omega arith in
+    let counter : field (disconnected w) 2 7 ≡ 0 = omega arith in
+    rw broadcast (rw counter refl)
+
+pub reset_twice : (ps : List Plug) → AreReset (map plug_after_reset ps)
+reset_twice [] = refl
+reset_twice (p ∷ ps) =
+    let lingers : is_active (disconnected p.word) (is_active p.word p.lingers) ≡ is_active p.word p.lingers = ap (λ c. c || is_active p.word p.lingers) (not_connected p.word) in
+    λ i. (record { word = disconnected_twice p.word i; lingers = lingers i }) ∷ reset_twice ps i
+
+pub words_kept : (ps : List Plug) → AreReset ps → words_of ps ≡ map disconnected (words_of ps)
+words_kept ps e = ap (λ xs. words_of xs) (sym e) ∙ words_after_reset ps
+
+pub lingering_kept : (ps : List Plug) → AreReset ps → lingering_of ps ≡ active (words_of ps) (lingering_of ps)
+lingering_kept ps e = ap (λ xs. lingering_of xs) (sym e) ∙ lingering_after_reset ps
 
 pub words_after_second : (ps : List Plug) → words_of (map plug_after_second ps) ≡ words_of ps
 words_after_second [] = refl
@@ -45,18 +69,13 @@ changed f items old new is e =
     let made : new ≡ map f items = e ∙ ap (λ xs. map f xs) is in
     whole items new (ap (λ xs. length xs) made ∙ length-map items f) ∙ made
 
-pub answered : (items old new : List Plug) (words : List ℕ) (first : ℕ) (r : Request) → old ≡ items → words_of items ≡ words → length new ≡ length old
-    → words_of new ≡ after_at (plug_at first (length old) (offset_of r)) r (words_of old)
-    → words_of (refill (length items) items new) ≡ after_at (plug_at first (length words) (offset_of r)) r words
-answered items old new words first r is seen size e =
+pub answered : (items old new : List Plug) (words : List ℕ) (n : ℕ) (r : Request) → old ≡ items → words_of items ≡ words → length new ≡ length old
+    → words_of new ≡ after_at (Some n) r (words_of old) → words_of (refill (length items) items new) ≡ after_at (Some n) r words
+answered items old new words n r is seen size e =
     let same : words_of old ≡ words = ap (λ xs. words_of xs) is ∙ seen in
-    let count : length old ≡ length words = sym (length-map old (λ (p : Plug). p.word)) ∙ ap (λ xs. length xs) same in
-    ap (λ xs. words_of xs) (whole items new (size ∙ ap (λ xs. length xs) is)) ∙ e ∙ (λ i. after_at (plug_at first (count i) (offset_of r)) r (same i))
+    ap (λ xs. words_of xs) (whole items new (size ∙ ap (λ xs. length xs) is)) ∙ e ∙ ap (λ xs. after_at (Some n) r xs) same
 
 -- ---- a request at plug n, which is then p
-
-pub found_below : (first plugs offset n : ℕ) → plug_at first plugs offset ≡ Some n → n < plugs
-found_below first plugs offset n e = grind (arith, nat_tests)
 
 word_at : (ps : List Plug) (n : ℕ) (d : Plug) → n < length ps → (slice_index_or ps n d).word ≡ slice_index (words_of ps) n
 word_at ps n d lt = sym (get_or-map (λ (p : Plug). p.word) ps n d 0 lt)

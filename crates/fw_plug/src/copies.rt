@@ -20,6 +20,7 @@ impl Row {
     {
         self.plugs.clear();
         let _ = self.plugs.try_extend_from_slice(other.plugs.as_slice());
+        self.is_reset = other.is_reset;
     }
 
     /// Two rows that are found the same are the same.

@@ -59,11 +59,18 @@ impl Plugs {
         ensures reply { result ≡ reply (register_at (table_of self.old) (offset_of (R.request r.now))) (R.request r.now) }
         ensures words { self.new ≡ words_after self.old (R.request r.now) }
     {
-        match r.offset() {
+        // Most requests are at a plug: a master register is looked for last.
+        let offset = r.offset();
+        if let Some(n) = self.outputs.place(OPCR, offset) {
+            return self.outputs.answer_at(n, r);
+        }
+        if let Some(n) = self.inputs.place(IPCR, offset) {
+            return self.inputs.answer_at(n, r);
+        }
+        match offset {
             OMPR => r.reply_at(self.output_master()),
             IMPR => r.reply_at(self.input_master()),
-            offset if offset < IMPR => self.outputs.answer(OPCR, r),
-            _ => self.inputs.answer(IPCR, r),
+            _ => Reply::address_error(),
         }
     }
 

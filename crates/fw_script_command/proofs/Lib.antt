@@ -3,6 +3,7 @@ pub mod DigitLaws
 pub mod FormLaws
 pub mod NumberLaws
 pub mod PiecesLaws
+pub mod PlaceLaws
 pub mod TableLaws
 pub mod WordLaws
 pub mod NameLaws

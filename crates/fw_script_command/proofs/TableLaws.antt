@@ -2,13 +2,11 @@
 use Rattle.std.proofs.Common.{◌≡◌, ◌↔◌, ℕ, List, [], ◌∷◌, ◌&&◌, Bool, true, false, Option, Some, None, is_some, inl, inr, refl, sym, ◌∙◌, ap, subst}
 use Rattle.std.proofs.lemmas.Bool.{and_parts}
 use Rattle.fw_script_command.specs.Form.{HasArguments, Word, Words1, Words2, Words3, Words4, Words5, first_by, after_first}
-use Rattle.fw_script_command.specs.Keyword.{keyword_in}
 use Rattle.fw_script_command.specs.Laws.{FormsAreOneTable, KeywordsAreTheirWords}
-use Rattle.fw_script_command.specs.Types.{are_fitting, fits, may_lack, types_of, word_of}
+use Rattle.fw_script_command.specs.Types.{are_fitting, fits, may_lack}
 use Rattle.fw_script_command.specs.Words.{name_in, number_in, place_in, kind_in, speed_in, channel_in, system_in, shown_in, offset_in, word_in, frame_in, late_in}
 use Rattle.fw_script_command.specs.declared.command.Command.{Command}
 use Rattle.fw_script_command.specs.declared.command.Command.TheVariants as Commands
-use Rattle.fw_script_command.specs.declared.keyword.Keyword.{Keyword}
 use Rattle.fw_script_command.specs.declared.keyword.Keyword.TheVariants as Keywords
 use Rattle.fw_script_command.specs.declared.word_type.WordType.{WordType}
 use Rattle.fw_script_command.specs.declared.word_type.WordType.TheVariants.{Name, Shown, Kind, Speed, System, End, Plug, Channel, Offset, Quadlet, Frame, Late, Number}

@@ -46,7 +46,7 @@ pub(crate) fn system(word: &[u8]) -> Option<u16>
 pub(crate) fn channel(word: &[u8]) -> Option<Option<u8>>
     ensures { result ≡ channel_in word.now }
 {
-    if is(word, b"any") {
+    if matches!(word, b"any") {
         Some(None)
     } else {
         Some(Some(small(word, 0, 63)?))

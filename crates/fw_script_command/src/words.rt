@@ -7,7 +7,7 @@ ghost use Rattle.std.specs.Str.Parse.{digits_value};
 ghost use Rattle.fw_script_command.specs.Words.{is, is_name_byte, is_taken, name_in, is_decimal, number_in, place_in};
 
 use crate::Name;
-use crate::cut::{Pieces, Separator};
+use crate::cut::cut;
 
 /// The word is this text.
 #[inline(always)]
@@ -52,6 +52,10 @@ fn decimal(word: &[u8]) -> Option<u32>
     ensures some { IfSome result (λ n. (is_decimal word.now ≡ true) × (digits_value 10 word.now ≡ n)) }
     ensures none { IfNone result (is_decimal word.now ≡ true → 2 ^ 32 ≤ digits_value 10 word.now) }
 {
+    // Most numbers of a script are one digit, which is not worth a text that is parsed.
+    if let [only] = word {
+        return char::from(*only).to_digit(10);
+    }
     if word.is_empty() || !are_digits(word) {
         return None;
     }
@@ -89,9 +93,7 @@ pub(crate) fn small(word: &[u8], low: u8, high: u8) -> Option<u8>
 pub(crate) fn place(word: &[u8], high: u8) -> Option<(Name, u8)>
     ensures { result ≡ place_in high word.now }
 {
-    let mut parts = Pieces::new(word, Separator::FullStop);
-    let name = name(parts.next()?)?;
-    let number = small(parts.next()?, 0, high)?;
-    parts.end()?;
-    Some((name, number))
+    // The digits are not searched for another full stop: with it, they are no number.
+    let (prefix, digits) = cut(word, b'.')?;
+    Some((name(prefix)?, small(digits, 0, high)?))
 }

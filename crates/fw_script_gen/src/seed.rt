@@ -30,20 +30,15 @@ impl Draws {
     }
 }
 
-fn kind_text(kind: u32) -> &'static str
-    ensures { result.now ≡ kind_text kind }
+// A device of the kind that was drawn.
+fn put_device(text: &mut String, i: u32, kind: u32) -> Result<(), AllocError>
+    ensures { OnOk result (string_bytes text.new ≡ string_bytes text.old ++ device_line i (kind_text kind)) }
 {
     match kind {
-        0 => "deck",
-        1 => "camcorder",
-        _ => "computer",
+        0 => write!(text, "device d{i} deck 3 400\n"),
+        1 => write!(text, "device d{i} camcorder 3 400\n"),
+        _ => write!(text, "device d{i} computer 3 400\n"),
     }
-}
-
-fn put_device(text: &mut String, i: u32, kind: &str) -> Result<(), AllocError>
-    ensures { OnOk result (string_bytes text.new ≡ string_bytes text.old ++ device_line i kind.now) }
-{
-    write!(text, "device d{i} {kind} 3 400\n")
 }
 
 fn put_cable(text: &mut String, i: u32) -> Result<(), AllocError>
@@ -67,9 +62,9 @@ fn put_devices(text: &mut String, draws: &mut Draws) -> Result<(), AllocError>
     ensures text { (seed : ℕ) → draws.old.state ≡ state_of seed 0 → OnOk result (string_bytes text.new ≡ string_bytes text.old ++ devices_text seed 59) }
     ensures drawn { (seed : ℕ) → draws.old.state ≡ state_of seed 0 → OnOk result (draws.new.state ≡ state_of seed 59) }
 {
-    put_device(text, 0, "deck")?;
+    put_device(text, 0, 0)?;
     for i in 0..FURTHER_DEVICES {
-        let kind = kind_text(draws.below(3));
+        let kind = draws.below(3);
         put_device(text, i + 1, kind)?;
         put_cable(text, i + 1)?;
     }

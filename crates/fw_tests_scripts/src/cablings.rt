@@ -4,7 +4,7 @@ ghost use Rattle.std.specs.Prelude.{◌≡◌, ◌+◌, ◌<◌, ◌≤◌, leng
 ghost use Rattle.fw_tree.specs.Numbering.{IsNumbering};
 
 use fw_phy::{SelfIds, read_phy};
-use fw_tree::{Cabling, End, Numbering, PhyFacts, TreeFault};
+use fw_tree::{Cabling, End, Numbering, PhyFacts, TreeFault, devices_of};
 use std::process::Abort;
 
 /// What a device is: its ports, speed code, whether its link is active, and whether it contends.
@@ -77,7 +77,8 @@ pub fn identified(rt: &impl Abort, cabling: &Cabling, root: u8, manager: Option<
 {
     let numbering = cabling.identify();
     assert!(rt; numbering.root == root, "root");
-    assert!(rt; cabling.manager(&numbering) == manager, "manager");
+    let devices = devices_of(&numbering.number, numbering.count);
+    assert!(rt; cabling.manager(&numbering, &devices) == manager, "manager");
     for d in 0..63 {
         let number = if d < numbers.len() && numbers[d] < 63 {
             Some(numbers[d])
@@ -93,7 +94,8 @@ fn packets(rt: &impl Abort, cabling: &Cabling, numbering: &Numbering, initiator:
 {
     assert!(rt; initiator < 63 && numbering.number[initiator as usize].is_some());
     let mut out = SelfIds::new();
-    cabling.self_ids(numbering, initiator, &mut out);
+    let devices = devices_of(&numbering.number, numbering.count);
+    cabling.self_ids(numbering, &devices, initiator, &mut out);
     out
 }
 

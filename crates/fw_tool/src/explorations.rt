@@ -39,6 +39,8 @@ fn ending_of_exploration(ending: ExploreEnding) -> Ending
 }
 
 /// Explores the script that is read by the words after the first. If one of them is refused, or none is a mover, nothing is read.
+// Not inlined: what it keeps on the stack is not taken by the other words.
+#[inline(never)]
 pub(crate) fn explore_as<
     S: Source,
     K: Sink,

@@ -18,7 +18,9 @@ use Rattle.fw_log_registers.specs.Places.{place_of}
 use Rattle.fw_log_requests.specs.declared.asked.Answer.TheVariants.{Lock as LockResponse}
 use Rattle.fw_log_requests.specs.declared.asked.Asked.{Asked}
 use Rattle.fw_log_requests.specs.Requests.{asked_by}
+use Rattle.fw_trace_requests.specs.declared.carried.Carried.{Carried}
 use Rattle.fw_trace_requests.specs.declared.packets.Reply.{Reply}
+use Rattle.fw_trace_requests.specs.Carried.{frame_told}
 use Rattle.fw_trace_requests.specs.Requests.{with_asked, latest_asked}
 use Rattle.fw_trace_names.specs.Names.{Naming, id_text}
 use Rattle.fw_trace_requests.specs.Answers.{asked_text, carried_text, changes_asked, rcode_or, swapped_text, answer_text, response_text}
@@ -153,11 +155,11 @@ with_told t cycle q x = record {
   cycle = cycle;
 }
 
-request_keeps : (t : Telling) (cycle : ℕ) (p : Packet) (q : Asked) → asked_by p ≡ Some q → carried_text p ≡ [] → with_request cycle q t ≡ telling_after t (record { cycle = cycle; what = Async p })
+request_keeps : (t : Telling) (cycle : ℕ) (p : Packet) (q : Asked) (carried : Carried) → asked_by p ≡ Some q → carried_text p ≡ frame_told carried
+    → with_request cycle q carried t ≡ telling_after t (record { cycle = cycle; what = Async p })
 unfolding held_by
-request_keeps t cycle p q e none =
-    let bare = id_text t.naming q.destination ++ codes " " ++ asked_text q in
-    let told : bare ++ carried_text p ≡ bare = ap (λ (x : List ℕ). bare ++ x) none ∙ append-nil bare in
+request_keeps t cycle p q carried e same =
+    let told = ap (λ (x : List ℕ). id_text t.naming q.destination ++ codes " " ++ asked_text q ++ x) same in
     sym ((λ i. record { naming = t.naming; requests = with_asked (e i) t.requests; jobs = t.jobs; held = held_by t.naming cycle p (e i); streams = t.streams; cycle = cycle })
     ∙ ap (λ (x : List ℕ). with_told t cycle q x) told)
 
@@ -165,9 +167,10 @@ pub response_kept : {X E : Type 0} (result : Result X E) (t t' : Traced) (cycle 
     → OnOk result (t'.telling ≡ telling_after t.telling (record { cycle = cycle; what = Async p }))
 response_kept result t t' cycle p e put = kept_same result t' _ _ (response_keeps t.telling cycle p e) put
 
-pub request_kept : {X E : Type 0} (result : Result X E) (t t' : Traced) (cycle : ℕ) (p : Packet) (q : Asked) → asked_by p ≡ Some q → carried_text p ≡ []
-    → OnOk result (t'.telling ≡ with_request cycle q t.telling) → OnOk result (t'.telling ≡ telling_after t.telling (record { cycle = cycle; what = Async p }))
-request_kept result t t' cycle p q e none put = kept_same result t' _ _ (request_keeps t.telling cycle p q e none) put
+pub request_kept : {X E : Type 0} (result : Result X E) (t t' : Traced) (cycle : ℕ) (p : Packet) (q : Asked) (carried : Carried) → asked_by p ≡ Some q
+    → carried_text p ≡ frame_told carried → OnOk result (t'.telling ≡ with_request cycle q carried t.telling)
+    → OnOk result (t'.telling ≡ telling_after t.telling (record { cycle = cycle; what = Async p }))
+request_kept result t t' cycle p q carried e same put = kept_same result t' _ _ (request_keeps t.telling cycle p q carried e same) put
 
 -- ---- swaps, from their bytes
 

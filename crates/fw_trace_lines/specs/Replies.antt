@@ -1,6 +1,7 @@
 -- The lines that a response brings, and what is kept after a request or a response.
 use Rattle.std.specs.Prelude.{ℕ, List, ◌++◌, codes, Option, Some, None, if◌then◌else◌}
 use Rattle.fw_log_requests.specs.declared.asked.Asked.{Asked}
+use Rattle.fw_trace_requests.specs.declared.carried.Carried.{Carried}
 use Rattle.fw_trace_requests.specs.declared.packets.Reply.{Reply}
 use Rattle.fw_trace_lines.specs.Caused.{Telling, one}
 use Rattle.fw_trace_names.specs.Names.{id_text}
@@ -27,13 +28,13 @@ said_lines t cycle (Some r) = reply_lines t cycle r
 
 -- ---- what is kept
 
--- what is kept after such a request
-abbrev pub with_request : ℕ → Asked → Telling → Telling
-with_request cycle q t = record {
+-- what is kept after a request that carries this
+abbrev pub with_request : ℕ → Asked → Carried → Telling → Telling
+with_request cycle q carried t = record {
   naming = t.naming;
   requests = with_latest q t.requests;
   jobs = t.jobs;
-  held = Some (held_bare t.naming cycle q);
+  held = Some (held_bare t.naming cycle q carried);
   streams = t.streams;
   cycle = cycle;
 }

@@ -11,7 +11,7 @@ use Rattle.fw_trace_requests.specs.Answers.{asked_at, swap_asked, if_made, made_
 use Rattle.fw_trace_names.specs.Registers.{named_told, named_word}
 use Rattle.fw_trace_requests.specs.Phrases.{words_text}
 use Rattle.fw_trace_requests.specs.declared.phrase.Words.{Words}
-use Rattle.fw_trace_requests.specs.declared.phrase.Words.TheVariants.{Write, Read, Lock, Word, Change, Brought, Proposed, Swapped}
+use Rattle.fw_trace_requests.specs.declared.phrase.Words.TheVariants.{Write, Read, Lock, Word, Change, Brought, Proposed, Swapped, Written}
 
 pub words_same : (n m : Naming) (place : RegisterPlace) → ((told : RegisterValue) → named_told n place told ≡ named_told m place told) → (words : Words)
     → words_text n place words ≡ words_text m place words
@@ -27,3 +27,4 @@ words_same n m place same (Proposed s) = ap (λ (x : List ℕ). swap_asked place
 words_same n m place same (Swapped s word) =
     λ i. swap_asked place (Some s)
     ++ (if word == s.argument then codes ": made" ++ same (TheSwap s.argument s.new) i else codes ": not made," ++ (quadlet_text word ++ same (TheWord word) i))
+words_same n m place same (Written carried) = refl

@@ -38,3 +38,8 @@ of_parts q f t c = record { asked = q; prefix = f; told = t; changes = c }
 
 pub held_same : (q : Asked) (f f' t t' c c' : List ℕ) → f ≡ f' → t ≡ t' → c ≡ c' → Some (of_parts q f t c) ≡ Some (of_parts q f' t' c')
 held_same q f f' t t' c c' e g h = λ i. Some (of_parts q (e i) (g i) (h i))
+
+-- a line with its arrow, put part by part
+pub line_put : (text cycle left arrow right blank asked frame more feed : List ℕ)
+    → text ++ (cycle ++ left ++ arrow ++ right ++ blank) ++ (asked ++ (frame ++ more)) ++ feed ≡ text ++ (cycle ++ left ++ arrow ++ (right ++ blank ++ asked ++ frame) ++ more ++ feed)
+line_put text cycle left arrow right blank asked frame more feed = simp append_assoc

@@ -3,14 +3,15 @@
 ghost use Rattle.std.specs.Prelude.{◌≡◌, ◌++◌, [], OnOk};
 ghost use Rattle.fw_log_registers.specs.Places.{place_of};
 ghost use Rattle.fw_trace_names.specs.Registers.{named_word, changes_of};
-ghost use Rattle.fw_trace_requests.specs.Answers.{asked_text, carried_text, changes_by, changes_asked, if_made, rcode_or, not_made_text, made_text};
+ghost use Rattle.fw_trace_requests.specs.Answers.{asked_text, changes_by, changes_asked, if_made, rcode_or, not_made_text, made_text};
+ghost use Rattle.fw_trace_requests.specs.Carried.{frame_told};
 ghost use Rattle.fw_trace_requests.specs.Replies.{found_text, word_told, reply_text};
 
+use crate::carried::{Carried, put_frame_of};
 use crate::memo::Memo;
 use crate::packets::{COMPLETE, Reply};
 use crate::phrase::{Phrase, Words};
 use crate::words::put_if_made;
-use fw_async::Packet;
 use fw_log_names::{Pairs, put_word, rcode_name};
 use fw_log_registers::RegisterPlace;
 use fw_log_requests::{Answer, Asked};
@@ -29,23 +30,6 @@ pub(crate) fn put_asked(
     ensures { OnOk result (text.new.items ≡ text.old.items ++ asked_text q.now) }
 {
     memo.put(text, pairs, names, &Phrase::asked(q))
-}
-
-// Appends the frame that a request carries.
-#[tactic(auto, unfolding(crate::specs::Answers::carried_text))]
-pub(crate) fn put_carried(
-    text: &mut Vec<u8>,
-    pairs: &Pairs,
-    memo: &mut Memo,
-    p: &Packet,
-) -> Result<(), AllocError>
-    ensures { OnOk result (text.new.items ≡ text.old.items ++ carried_text p.now) }
-{
-    match p {
-        Packet::WriteQuadlet { value, .. } => memo.put_frame(text, pairs, &value.to_be_bytes()),
-        Packet::WriteBlock { bytes, .. } => memo.put_frame(text, pairs, bytes.as_slice()),
-        _ => Ok(()),
-    }
 }
 
 // Appends what a swap at an offset changes.
@@ -113,22 +97,38 @@ fn put_changes_if_made(
     }
 }
 
-// Appends what a request asks, and what it would change.
+// Appends what a request asks, carries and would change, one after the other.
+#[inline(never)]
+fn put_apart(
+    text: &mut Vec<u8>,
+    pairs: &Pairs,
+    memo: &mut Memo,
+    names: &Names,
+    q: &Asked,
+    carried: Carried,
+) -> Result<(), AllocError>
+    ensures { OnOk result (text.new.items ≡ text.old.items ++ (asked_text q.now ++ (frame_told carried ++ if_made (changes_asked names.now q.now)))) }
+{
+    put_asked(text, pairs, memo, names, q)?;
+    put_frame_of(text, pairs, carried)?;
+    put_changes_if_made(text, pairs, names, q)
+}
+
+// Appends what a request asks, carries and would change.
+#[inline(always)]
 pub(crate) fn put_proposed(
     text: &mut Vec<u8>,
     pairs: &Pairs,
     memo: &mut Memo,
     names: &Names,
     q: &Asked,
+    carried: Carried,
 ) -> Result<(), AllocError>
-    ensures { OnOk result (text.new.items ≡ text.old.items ++ (asked_text q.now ++ if_made (changes_asked names.now q.now))) }
+    ensures { OnOk result (text.new.items ≡ text.old.items ++ (asked_text q.now ++ (frame_told carried ++ if_made (changes_asked names.now q.now)))) }
 {
-    match Phrase::proposed(q) {
+    match Phrase::proposed(q, carried) {
         Some(phrase) => memo.put(text, pairs, names, &phrase),
-        None => {
-            put_asked(text, pairs, memo, names, q)?;
-            put_changes_if_made(text, pairs, names, q)
-        }
+        None => put_apart(text, pairs, memo, names, q, carried),
     }
 }
 

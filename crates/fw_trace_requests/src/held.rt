@@ -6,6 +6,7 @@ ghost use Rattle.fw_trace_requests.specs.Held.{held_of, is_joined, lone_lines, h
 ghost use Rattle.fw_trace_names.specs.Names.{Naming};
 
 use crate::answers::put_proposed;
+use crate::carried::Carried;
 use crate::made::MadeLine;
 use crate::memo::Memo;
 use crate::packets::{Reply, is_answered};
@@ -16,16 +17,18 @@ use fw_log_requests::Asked;
 use fw_trace_names::{Names, put_ends};
 use std::alloc::{AllocError, Global};
 
-/// A request that carries nothing, and its cycle.
+/// A request that carries nothing or a usual frame, and its cycle.
 #[derive(Clone, Copy)]
 pub struct Bare {
     /// The cycle of its entry.
     pub cycle: u64,
     /// What is kept of it.
     pub asked: Asked,
+    /// What it carries.
+    pub carried: Carried,
 }
 
-/// The request that is held back, if any. Of one that carries nothing no line is made before its turn comes: most are such.
+/// The request that is held back, if any. Of one that carries nothing or a usual frame no line is made before its turn comes: most are such.
 #[derive(Drop)]
 pub struct HeldBack {
     /// One whose line is not made: it comes before the other.
@@ -45,7 +48,7 @@ impl Bare {
         memo: &mut Memo,
         names: &Names,
     ) -> Result<(), AllocError>
-        ensures { OnOk result (text.new.items ≡ text.old.items ++ caused_text (lone_lines (Some (held_bare names.now self.now.cycle self.now.asked)))) }
+        ensures { OnOk result (text.new.items ≡ text.old.items ++ caused_text (lone_lines (Some (held_bare names.now self.now.cycle self.now.asked self.now.carried)))) }
     {
         let q = &self.asked;
         put_ends(
@@ -57,7 +60,7 @@ impl Bare {
             b" -> ",
             q.destination,
         )?;
-        put_proposed(text, pairs, memo, names, q)?;
+        put_proposed(text, pairs, memo, names, q, self.carried)?;
         put_word(text, "\n")
     }
 
@@ -72,7 +75,7 @@ impl Bare {
         names: &Names,
         r: &Reply,
     ) -> Result<(), AllocError>
-        ensures { OnOk result (text.new.items ≡ text.old.items ++ caused_text (joined_with names.now r.now (Some (held_bare names.now self.now.cycle self.now.asked)))) }
+        ensures { OnOk result (text.new.items ≡ text.old.items ++ caused_text (joined_with names.now r.now (Some (held_bare names.now self.now.cycle self.now.asked self.now.carried)))) }
     {
         let q = &self.asked;
         put_ends(
@@ -84,7 +87,7 @@ impl Bare {
             b" <-> ",
             q.destination,
         )?;
-        put_replied(text, pairs, memo, names, q, r)?;
+        put_replied(text, pairs, memo, names, q, self.carried, r)?;
         put_word(text, "\n")
     }
 }
@@ -118,12 +121,16 @@ impl HeldBack {
         self.made.hold(digits, cycle, pairs, memo, names, p, q)
     }
 
-    /// Holds a request back, of this cycle, which carries nothing, in place of the one before: its line is made when its turn comes.
+    /// Holds a request back, of this cycle, which carries this, in place of the one before: its line is made when its turn comes.
     #[inline(always)]
-    pub fn hold_bare(&mut self, cycle: u64, q: Asked)
-        ensures { self.new ≡ record self.old { bare = Some (record { cycle = cycle; asked = q }) } }
+    pub fn hold_bare(&mut self, cycle: u64, q: Asked, carried: Carried)
+        ensures { self.new ≡ record self.old { bare = Some (record { cycle = cycle; asked = q; carried = carried }) } }
     {
-        self.bare = Some(Bare { cycle, asked: q });
+        self.bare = Some(Bare {
+            cycle,
+            asked: q,
+            carried,
+        });
     }
 
     /// Makes the line of the request that is held back, since the names are about to change. An error says that memory ran out, and comes for
@@ -137,12 +144,19 @@ impl HeldBack {
     ) -> Result<(), AllocError>
         ensures { OnOk result (self.new ≡ record { bare = None; made = held_by_names names.now self.old.bare self.old.made }) }
     {
-        let Some(Bare { cycle, asked }) = self.bare else {
+        let Some(bare) = self.bare else {
             return Ok(());
         };
         self.bare = None;
-        self.made
-            .hold_bare(digits, cycle, pairs, memo, names, asked)
+        self.made.hold_bare(
+            digits,
+            bare.cycle,
+            pairs,
+            memo,
+            names,
+            bare.asked,
+            bare.carried,
+        )
     }
 
     /// Holds none back.
@@ -150,7 +164,10 @@ impl HeldBack {
     pub fn release(&mut self)
         ensures { self.new ≡ record { bare = None; made = None } }
     {
-        self.bare = None;
+        // Mostly none is held back, and then nothing is written.
+        if let Some(_) = &self.bare {
+            self.bare = None;
+        }
         self.made.release();
     }
 

@@ -3,7 +3,7 @@
 #![tactic(auto)]
 
 mod answers;
-mod frames;
+mod carried;
 mod held;
 mod made;
 mod memo;
@@ -13,6 +13,7 @@ mod replies;
 mod requests;
 mod words;
 
+pub use carried::Carried;
 pub use held::{Bare, HeldBack};
 pub use made::MadeLine;
 pub use memo::Memo;

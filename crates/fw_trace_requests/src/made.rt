@@ -2,11 +2,13 @@
 
 ghost use Rattle.std.specs.Prelude.{◌≡◌, ◌++◌, None, Some, OnOk, codes};
 ghost use Rattle.fw_trace_names.specs.CausedLines.{at_cycle, caused_text};
+ghost use Rattle.fw_trace_requests.specs.Carried.{frame_told};
 ghost use Rattle.fw_trace_requests.specs.Held.{held_of, lone_lines, is_joined, held_bare, joined_with};
 ghost use Rattle.fw_trace_names.specs.Names.{id_text};
 ghost use Rattle.fw_trace_requests.specs.Answers.{asked_text, carried_text, changes_asked, if_made};
 
-use crate::answers::{put_answer, put_asked, put_carried, put_changes};
+use crate::answers::{put_answer, put_asked, put_changes};
+use crate::carried::{Carried, put_carried, put_frame_of};
 use crate::memo::Memo;
 use crate::packets::{Reply, is_answered};
 use fw_async::Packet;
@@ -82,7 +84,22 @@ fn put_carrying(
     ensures { OnOk result (line.new.items ≡ line.old.items ++ (id_text names.now q.now.destination ++ codes " " ++ asked_text q.now ++ carried_text p.now)) }
 {
     put_told(line, pairs, memo, names, q)?;
-    put_carried(line, pairs, memo, p)
+    put_carried(line, pairs, p)
+}
+
+// Appends who is asked, and what, and the frame that is carried.
+fn put_bare(
+    line: &mut Vec<u8>,
+    pairs: &Pairs,
+    memo: &mut Memo,
+    names: &Names,
+    q: &Asked,
+    carried: Carried,
+) -> Result<(), AllocError>
+    ensures { OnOk result (line.new.items ≡ line.old.items ++ (id_text names.now q.now.destination ++ codes " " ++ asked_text q.now ++ frame_told carried)) }
+{
+    put_told(line, pairs, memo, names, q)?;
+    put_frame_of(line, pairs, carried)
 }
 
 // Puts what a request would change in place of what was there.
@@ -148,7 +165,7 @@ impl MadeLine {
         Ok(())
     }
 
-    // Makes the line of a request, of this cycle, which carries nothing.
+    // Makes the line of a request, of this cycle, which carries this.
     pub(crate) fn hold_bare(
         &mut self,
         digits: &mut CycleRow,
@@ -157,14 +174,15 @@ impl MadeLine {
         memo: &mut Memo,
         names: &Names,
         q: Asked,
+        carried: Carried,
     ) -> Result<(), AllocError>
-        ensures { OnOk result (self.new ≡ Some (held_bare names.now cycle q)) }
+        ensures { OnOk result (self.new ≡ Some (held_bare names.now cycle q carried)) }
     {
         self.asked = None;
         set_prefix(&mut self.line, digits, cycle, names, q.source)?;
         let arrow = self.line.len();
         put_word(&mut self.line, ARROW)?;
-        put_told(&mut self.line, pairs, memo, names, &q)?;
+        put_bare(&mut self.line, pairs, memo, names, &q, carried)?;
         set_changes(&mut self.changes, pairs, memo, names, &q)?;
         self.arrow = arrow;
         self.asked = Some(q);
@@ -175,7 +193,9 @@ impl MadeLine {
     pub(crate) fn release(&mut self)
         ensures { self.new ≡ None }
     {
-        self.asked = None;
+        if let Some(_) = &self.asked {
+            self.asked = None;
+        }
     }
 
     // A response answers the request.

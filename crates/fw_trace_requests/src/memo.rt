@@ -1,11 +1,10 @@
 //! The latest phrases, as text.
 
 ghost use Rattle.std.specs.Prelude.{◌≡◌, ◌++◌, IsTrue, OnOk, Some};
-ghost use Rattle.fw_log_frames.specs.Frames.{frame_text};
 ghost use Rattle.fw_trace_names.specs.Names.{Naming};
 ghost use Rattle.fw_trace_requests.specs.Phrases.{phrase_text};
 
-use crate::frames::Frames;
+use crate::carried::Carried;
 use crate::phrase::{Phrase, Words, is_nameless};
 use crate::words::put_words;
 use fw_log_names::Pairs;
@@ -41,7 +40,21 @@ impl Model for Row {
     ghost invariant = { λ r. (r.size ≤ 128) × IfSome r.phrase (λ p. (n : Naming) → take r.size r.text ≡ phrase_text n p) };
 }
 
+// The same is carried.
+#[inline(always)]
+fn is_same_frame(carried: Carried, other: Carried) -> bool
+    ensures { IsTrue result → carried ≡ other }
+{
+    match (carried, other) {
+        (Carried::Nothing, Carried::Nothing) => true,
+        (Carried::Quadlet(q), Carried::Quadlet(r)) => q == r,
+        (Carried::Pair(a, b), Carried::Pair(c, d)) => a == c && b == d,
+        _ => false,
+    }
+}
+
 // The words are of one kind, and the same.
+#[inline(always)]
 fn are_same(words: Words, others: Words) -> bool
     ensures { IsTrue result → words ≡ others }
 {
@@ -52,6 +65,7 @@ fn are_same(words: Words, others: Words) -> bool
         (Words::Change(s), Words::Change(t)) | (Words::Proposed(s), Words::Proposed(t)) => s == t,
         (Words::Brought(word), Words::Brought(other)) => word == other,
         (Words::Swapped(s, word), Words::Swapped(t, other)) => s == t && word == other,
+        (Words::Written(carried), Words::Written(other)) => is_same_frame(carried, other),
         _ => false,
     }
 }
@@ -76,6 +90,16 @@ fn mixed(s: Swap) -> u32 {
     s.argument.wrapping_add(s.new.wrapping_mul(3))
 }
 
+// A number of what is carried: any would do.
+#[inline(always)]
+fn mixed_frame(carried: Carried) -> u32 {
+    match carried {
+        Carried::Nothing => 0,
+        Carried::Quadlet(quadlet) => quadlet,
+        Carried::Pair(first, second) => first.wrapping_add(second.wrapping_mul(3)),
+    }
+}
+
 // The row that a phrase belongs to: any would do.
 #[inline(always)]
 fn row_of(phrase: &Phrase) -> usize {
@@ -88,6 +112,7 @@ fn row_of(phrase: &Phrase) -> usize {
         Words::Brought(word) => (5, word),
         Words::Proposed(s) => (6, mixed(s)),
         Words::Swapped(s, word) => (7, mixed(s).wrapping_add(word.wrapping_mul(5))),
+        Words::Written(carried) => (8, mixed_frame(carried)),
     };
     let key = words.wrapping_add((phrase.offset % 4096) as u32 ^ (kind << 12));
     (key.wrapping_mul(SPREAD) >> 21) as usize
@@ -136,32 +161,18 @@ impl Row {
     }
 }
 
-/// The latest phrases and frames, as text that is at hand. What is put does not depend on it.
+/// The latest phrases, as text that is at hand. What is put does not depend on it.
 #[derive(Drop)]
 pub struct Memo {
     rows: Vec<Row>,
-    frames: Frames,
 }
 
 impl Memo {
-    /// None so far, and no memory yet: it takes some 350,000 bytes when the first phrase is put, and 40,000 when the first frame is.
+    /// None so far, and no memory yet: it takes some 350,000 bytes when the first phrase is put.
     pub fn new(alloc: Global) -> Memo {
         Memo {
             rows: Vec::new(alloc),
-            frames: Frames::new(alloc),
         }
-    }
-
-    /// Appends the text of a frame. An error says that memory ran out.
-    pub(crate) fn put_frame(
-        &mut self,
-        text: &mut Vec<u8>,
-        pairs: &Pairs,
-        frame: &[u8],
-    ) -> Result<(), AllocError>
-        ensures { OnOk result (text.new.items ≡ text.old.items ++ frame_text frame.now) }
-    {
-        self.frames.put(text, pairs, frame)
     }
 
     // Makes the rows. An error says that memory ran out.

@@ -7,8 +7,10 @@ ghost use Rattle.fw_trace_names.specs.Names.{Naming};
 ghost use Rattle.fw_trace_requests.specs.Phrases.{phrase_text, words_text};
 ghost use Rattle.fw_trace_requests.specs.Replies.{reply_text};
 ghost use Rattle.fw_trace_requests.specs.Answers.{asked_text, changes_asked, if_made};
+ghost use Rattle.fw_trace_requests.specs.Carried.{frame_told};
 ghost use Rattle.fw_trace_names.specs.Registers.{named_told};
 
+use crate::carried::Carried;
 use crate::packets::{COMPLETE, Reply};
 use fw_log_registers::{NamedRegister, RegisterPlace};
 use fw_log_requests::{Answer, Asked};
@@ -41,6 +43,8 @@ pub(crate) enum Words {
     Proposed(Swap),
     /// A swap is asked, and finds this word.
     Swapped(Swap, u32),
+    /// A write is asked, which carries this.
+    Written(Carried),
 }
 
 impl Phrase {
@@ -60,32 +64,41 @@ impl Phrase {
         }
     }
 
-    // What a request asks, and would change, if the two are told as one.
-    #[tactic(auto, unfolding(crate::specs::Phrases::words_text, crate::specs::Answers::asked_text, crate::specs::Answers::changes_by, crate::specs::Answers::if_made))]
-    pub(crate) fn proposed(q: &Asked) -> Option<Phrase>
-        ensures { IfSome result (λ p. (n : Naming) → phrase_text n p ≡ asked_text q.now ++ if_made (changes_asked n q.now)) }
+    // What a request asks, carries and would change, if these are told as one.
+    #[inline(always)]
+    #[tactic(auto, unfolding(crate::specs::Phrases::words_text, crate::specs::Answers::asked_text, crate::specs::Answers::changes_by, crate::specs::Answers::if_made, crate::specs::Carried::frame_told))]
+    pub(crate) fn proposed(q: &Asked, carried: Carried) -> Option<Phrase>
+        ensures { IfSome result (λ p. (n : Naming) → phrase_text n p ≡ asked_text q.now ++ (frame_told carried ++ if_made (changes_asked n q.now))) }
     {
-        match (q.answer, q.swap) {
-            (_, None) => Some(Phrase::asked(q)),
-            (Answer::Lock, Some(swap)) => Some(Phrase {
-                offset: q.offset,
-                words: Words::Proposed(swap),
-            }),
-            _ => None,
-        }
+        let words = match (q.answer, q.swap, carried) {
+            (Answer::ReadQuadlet, None, Carried::Nothing) => Words::Read,
+            (Answer::Lock, Some(swap), Carried::Nothing) => Words::Proposed(swap),
+            (Answer::Write, None, carried) => Words::Written(carried),
+            _ => return None,
+        };
+        Some(Phrase {
+            offset: q.offset,
+            words,
+        })
     }
 
-    // What a request asks, and the response brings that answers it, if the two are told as one.
-    #[tactic(auto, unfolding(crate::specs::Phrases::words_text, crate::specs::Answers::asked_text, crate::specs::Answers::rcode_or, crate::specs::Replies::reply_text, crate::specs::Replies::brought_text, crate::specs::Replies::word_told, crate::specs::Replies::found_text))]
-    pub(crate) fn replied(q: &Asked, r: &Reply) -> Option<Phrase>
-        ensures { IfSome result (λ p. (n : Naming) → phrase_text n p ≡ asked_text q.now ++ reply_text n q.now r.now) }
+    // What a request asks and carries, and the response brings that answers it, if these are told as one.
+    #[inline(always)]
+    #[tactic(auto, unfolding(crate::specs::Phrases::words_text, crate::specs::Answers::asked_text, crate::specs::Answers::rcode_or, crate::specs::Replies::reply_text, crate::specs::Replies::brought_text, crate::specs::Replies::word_told, crate::specs::Replies::found_text, crate::specs::Carried::frame_told))]
+    pub(crate) fn replied(q: &Asked, carried: Carried, r: &Reply) -> Option<Phrase>
+        ensures { IfSome result (λ p. (n : Naming) → phrase_text n p ≡ asked_text q.now ++ (frame_told carried ++ reply_text n q.now r.now)) }
     {
         if r.rcode != COMPLETE {
             return None;
         }
-        let words = match (q.answer, r.kind, r.word, q.swap) {
-            (Answer::ReadQuadlet, Answer::ReadQuadlet, Some(word), _) => Words::Brought(word),
-            (Answer::Lock, Answer::Lock, Some(word), Some(swap)) => Words::Swapped(swap, word),
+        let words = match (q.answer, r.kind, r.word, q.swap, carried) {
+            (Answer::ReadQuadlet, Answer::ReadQuadlet, Some(word), _, Carried::Nothing) => {
+                Words::Brought(word)
+            }
+            (Answer::Lock, Answer::Lock, Some(word), Some(swap), Carried::Nothing) => {
+                Words::Swapped(swap, word)
+            }
+            (Answer::Write, Answer::Write, None, _, carried) => Words::Written(carried),
             _ => return None,
         };
         Some(Phrase {

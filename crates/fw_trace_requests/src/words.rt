@@ -4,8 +4,10 @@ ghost use Rattle.std.specs.Prelude.{◌≡◌, ◌++◌, OnOk, Some, codes};
 ghost use Rattle.fw_log_registers.specs.Words.{place_text};
 ghost use Rattle.fw_trace_names.specs.Registers.{changes_of, named_word};
 ghost use Rattle.fw_trace_requests.specs.Answers.{if_made, made_text, not_made_text, swap_asked};
+ghost use Rattle.fw_trace_requests.specs.Carried.{frame_told};
 ghost use Rattle.fw_trace_requests.specs.Phrases.{words_text};
 
+use crate::carried::{Carried, put_frame_of};
 use crate::phrase::Words;
 use fw_log_names::{Pairs, put_quadlet, put_word};
 use fw_log_registers::{RegisterPlace, RegisterValue, put_place};
@@ -161,6 +163,19 @@ fn put_swapped(
     put_made(text, pairs, names, place, swap, word)
 }
 
+// Appends a write that is asked, and the frame that it carries.
+fn put_written(
+    text: &mut Vec<u8>,
+    pairs: &Pairs,
+    place: RegisterPlace,
+    carried: Carried,
+) -> Result<(), AllocError>
+    ensures { OnOk result (text.new.items ≡ text.old.items ++ (codes "write " ++ place_text place ++ frame_told carried)) }
+{
+    put_at(text, pairs, "write ", place)?;
+    put_frame_of(text, pairs, carried)
+}
+
 // Appends what is told of a place.
 #[tactic(auto, unfolding(crate::specs::Phrases::words_text))]
 pub(crate) fn put_words(
@@ -181,5 +196,6 @@ pub(crate) fn put_words(
         Words::Brought(word) => put_read(text, pairs, names, place, word),
         Words::Proposed(swap) => put_proposed(text, pairs, names, place, swap),
         Words::Swapped(swap, word) => put_swapped(text, pairs, names, place, swap, word),
+        Words::Written(carried) => put_written(text, pairs, place, carried),
     }
 }

@@ -1,8 +1,8 @@
 -- The one open port of a device.
 use Rattle.fw_tree.proofs.Common.{◌≡◌, inl, inr, ℕ, zero, suc, ◌+◌, List, [], ◌∷◌, Option, Some, None, Bool, true, false, slice_index_or, arith, refl, sym, ap, ◌∙◌, End, Peers, peer, is_open}
 use Rattle.fw_tree.proofs.Common.{open_count}
-use Rattle.std.proofs.Common.{count_by, cond}
-use Rattle.std.proofs.lemmas.List.Sums.{sum_by-cons}
+use Rattle.std.proofs.Common.{◌<◌, ◌≤◌, count_by, cond, length, take}
+use Rattle.std.proofs.lemmas.List.Sums.{sum_by-cons, sum_by-take-le, count_by_more_yes}
 use Rattle.fw_tree.proofs.ForestLaws.{truth}
 
 -- the device at the other end
@@ -74,3 +74,11 @@ is_one s (o ∷ ports) (suc p) h f = elim (truth (is_open s o)) [
 -- two open ports of a device that has one are the same
 pub same_port : (g : Peers) (s : ℕ → Bool) (d p q : ℕ) → open_count g s d ≡ 1 → is_open s (peer g d p) ≡ true → is_open s (peer g d q) ≡ true → p ≡ q
 same_port g s d p q h i j = let w = one_of s (slice_index_or g d []) h in w.only p i ∙ sym (w.only q j)
+
+-- a port is open, and one of those before it is: the device has more than one open port
+pub more_than_one : (s : ℕ → Bool) (ports : List (Option End)) (p : ℕ) → p < length ports → is_open s (slice_index_or ports p None) ≡ true → count_by (is_open s) (take p ports) ≡ 1
+    → count_by (is_open s) ports ≡ 1 → ⊥
+more_than_one s ports p low shown one all =
+    let more : count_by (is_open s) (take (p + 1) ports) ≡ count_by (is_open s) (take p ports) + 1 = count_by_more_yes (is_open s) ports p None low shown in
+    let least : count_by (is_open s) (take (p + 1) ports) ≤ count_by (is_open s) ports = sum_by-take-le (λ x. cond (is_open s x) 1 0) ports (p + 1) in
+    omega arith

@@ -3,13 +3,14 @@ use Rattle.fw_tree.proofs.Common.{replicate, ◌≡◌, inl, inr, ℕ, zero, suc
 use Rattle.fw_tree.proofs.Common.{here}
 use Rattle.fw_tree.proofs.Common.{◌∙◌, cases_eq, cases_lt, get_or_past, Parent, Peers, peer, Walk, InRange, is_seen, along, AreCables, HasNoLoop, IsOn, IsParent, Settled, parent_at, rank, counted}
 use Rattle.fw_tree.proofs.Common.{number_at, is_there, has_number, AreNodes, Ports, PhyFacts, IsSound}
+use Rattle.std.proofs.Common.{add-one}
 use Rattle.fw_tree.specs.Parents.{IsTheRoot}
 use Rattle.fw_tree.specs.Paths.{comes_before, is_left, is_prefix}
 use Rattle.fw_tree.specs.Numbers.{LeadsDown, at_root, IsChild, AreNumbers, AreParents, IsParentPort, shown}
 use Rattle.fw_tree.specs.Branch.{Tree, ArePaths, Done, Branch}
 use Rattle.fw_tree.proofs.TopologyLaws.{ports_within}
 use Rattle.fw_tree.proofs.ForestLaws.{both}
-use Rattle.fw_tree.proofs.RoundLaws.{bus_splits, led}
+use Rattle.fw_tree.proofs.RoundLaws.{bus_splits, in_range, led}
 use Rattle.fw_tree.proofs.RootLaws.{ended}
 use Rattle.fw_tree.proofs.PathLaws.{one_path, one_device, later}
 use Rattle.fw_tree.proofs.CountLaws.{counted_same, set_there, set_else, there, nodes_blank, nodes_set}
@@ -107,6 +108,21 @@ child_lower g par d p c cables parents low also h =
     round_low : (g : Peers) (c : ℕ) (o : Option Parent) (p : Parent) → o ≡ Some p → IsParent g c o → p.round < 63
     round_low g c None p e w = absurd (let z : ⊥ = cc in z)
     round_low g c (Some q) p e w = let k : q ≡ p = cc in rw (← k) w.0
+
+-- a device that leaves in the first round has no child
+pub childless : (g : Peers) (par : List (Option Parent)) (d : ℕ) → InRange g → AreCables g → ((k : ℕ) → k < 63 → IsParent g k (parent_at par k)) → d < 63 → rank (parent_at par d) ≡ 0
+    → (p c : ℕ) → IsChild g par d p c → ⊥
+childless g par d range cables parents low first p c h =
+    let far : h.end.device < 63 = in_range g range d p h.end h.is in
+    let falls = child_lower g par d p c cables parents low (omega (arith, far, h.device)) h in
+    omega (arith, falls, first)
+
+pub ports_childless : (g : Peers) (par : List (Option Parent)) (root : ℕ) (on : ℕ → Bool) (paths : ℕ → List ℕ) (d n : ℕ) (number : List (Option ℕ)) → ((p c : ℕ) → IsChild g par d p c → ⊥)
+    → Ports g par root on paths d n number number
+ports_childless g par root on paths d zero number none = ports_first g par root on paths d number
+ports_childless g par root on paths d (suc n) number none =
+    let P : ℕ → Type 0 = λ k. Ports g par root on paths d k number number in
+    subst P (add-one n) (ports_none g par root on paths d n number number (none n) (ports_childless g par root on paths d n number none))
 
 pub tree_of : (g : Peers) (par : List (Option Parent)) (root r : ℕ) (on : List Bool) → InRange g → AreCables g → HasNoLoop g → IsOn g on → Settled g r
     → ((k : ℕ) → k < 63 → IsParent g k (parent_at par k)) → IsTheRoot g root → Tree g par root (is_seen on)

@@ -1,15 +1,16 @@
-ghost use Rattle.std.specs.Prelude.{◌≡◌, ◌<◌, ◌≤◌, [], length, IfErr, IfOk, OnOk};
+ghost use Rattle.std.specs.Prelude.{◌≡◌, ◌<◌, ◌≤◌, ℕ, [], Some, length, IfErr, IfOk, OnOk};
 ghost use Rattle.std.specs.List.{All};
 ghost use Rattle.fw_phy.specs.Phy.{Fits};
 ghost use Rattle.fw_tree.specs.declared.TreeFault.{TreeFault};
 ghost use Rattle.fw_tree.specs.declared.numbering.Numbering.{Numbering};
 ghost use Rattle.fw_tree.specs.Cables.{IsOnBus, peer};
 ghost use Rattle.fw_tree.specs.Numbering.{IsNumbering, IsSame, IsManager};
+ghost use Rattle.fw_tree.specs.Numbers.{device_at, number_at};
 ghost use Rattle.fw_tree.specs.SelfIds.{ArePackets};
 ghost use Rattle.fw_tree.specs.Topology.{IsExtended, IsFault, IsJoined, Made, no_cables, ports_of};
 
 use crate::facts::AllCables;
-use crate::numbering::{contends, devices_of};
+use crate::numbering::contends;
 use crate::numbers::{numbered, numbers_from, parent_ports};
 use crate::ports::{are_used, have_ports, peer_at, plug, ports_at};
 use crate::root::find_root;
@@ -157,12 +158,13 @@ impl Cabling {
     }
 
     /// The isochronous resource manager: the device with link and contender whose number is greatest, or None.
-    /// `n` is this cabling's numbering.
-    pub fn manager(&self, n: &Numbering) -> Option<u8>
-        requires { IsNumbering self.now n.now }
+    /// `n` is this cabling's numbering, and `devices` has the device of each of its nodes (`devices_of`).
+    pub fn manager(&self, n: &Numbering, devices: &[u8; 63]) -> Option<u8>
+        requires numbering { IsNumbering self.now n.now }
+        requires devices { (k : ℕ) → k < n.now.count → number_at n.now.number (device_at devices.now k) ≡ Some k }
+        requires range { (k : ℕ) → k < n.now.count → device_at devices.now k < 63 }
         ensures { IsManager self.now.devices n.now.number result }
     {
-        let devices = devices_of(&n.number, n.count);
         let mut manager = None;
         for node in 0..n.count {
             let device = devices[node as usize];
@@ -174,14 +176,16 @@ impl Cabling {
     }
 
     /// Replaces `out` by the self-ID packets of all nodes, in order of node: for each the fewest that hold its
-    /// ports. `n` is this cabling's numbering, and the initiator, the device that began the bus reset, is on the bus.
-    pub fn self_ids(&self, n: &Numbering, initiator: u8, out: &mut SelfIds)
+    /// ports. `n` is this cabling's numbering, `devices` has the device of each of its nodes (`devices_of`), and the initiator,
+    /// the device that began the bus reset, is on the bus.
+    pub fn self_ids(&self, n: &Numbering, devices: &[u8; 63], initiator: u8, out: &mut SelfIds)
         requires numbering { IsNumbering self.now n.now }
+        requires devices { (k : ℕ) → k < n.now.count → number_at n.now.number (device_at devices.now k) ≡ Some k }
+        requires range { (k : ℕ) → k < n.now.count → device_at devices.now k < 63 }
         requires initiator { IsOnBus self.now.cables initiator }
         ensures packets { ArePackets self.now.devices self.now.cables n.now.number n.now.parent_port initiator n.now.count out.new }
         ensures fit { All Fits out.new }
     {
-        let devices = devices_of(&n.number, n.count);
         out.clear();
         for node in 0..n.count {
             let device = devices[node as usize];

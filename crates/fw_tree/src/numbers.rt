@@ -1,9 +1,10 @@
-ghost use Rattle.std.specs.Prelude.{◌≡◌, ◌<◌, ◌≤◌, ℕ, Bool, List, length, IfSome, IfNone, None, replicate};
-ghost use Rattle.fw_tree.specs.Cables.{InRange};
+ghost use Rattle.std.specs.Prelude.{◌≡◌, ◌<◌, ◌≤◌, ℕ, Bool, List, Option, length, IfSome, IfNone, None, replicate, true};
+ghost use Rattle.fw_tree.specs.declared.rounds.Parent.{Parent as Left};
+ghost use Rattle.fw_tree.specs.Cables.{InRange, Peers};
 ghost use Rattle.fw_tree.specs.Forest.{AreCables};
 ghost use Rattle.fw_tree.specs.Parents.{IsParent, parent_at};
-ghost use Rattle.fw_tree.specs.Numbers.{IsChild, counted, has_number, number_at, shown};
-ghost use Rattle.fw_tree.specs.Branch.{Branch};
+ghost use Rattle.fw_tree.specs.Numbers.{IsChild, counted, has_number, number_at, rank, shown};
+ghost use Rattle.fw_tree.specs.Branch.{Branch, Ports};
 ghost use Rattle.fw_tree.specs.Topology.{ArePlaced};
 
 use crate::PhyFacts;
@@ -46,6 +47,31 @@ pub fn numbered(number: &[Option<u8>; 63]) -> u8
     count
 }
 
+// The device left in the first round: it has no children.
+fn is_leaf(parent: &Option<Parent>) -> bool
+    ensures { result ≡ true → rank parent.now ≡ 0 }
+{
+    match parent {
+        Some(parent) => parent.round == 0,
+        None => false,
+    }
+}
+
+// Gives a device this number, if it has none, and says which is the next. The branch that hangs on it has its numbers.
+fn number_one(d: u8, next: u8, number: &mut [Option<u8>; 63]) -> u8
+    requires device { d < 63 }
+    requires next { next ≡ counted (has_number number.old) 63 }
+    ensures branch { (g : Peers) (par : List (Option Left)) (root : ℕ) (on : ℕ → Bool) (paths : ℕ → List ℕ) (before : List (Option ℕ)) → Ports g par root on paths d 27 before number.old
+        → Branch g par root on paths d before number.new }
+    ensures next { result ≡ counted (has_number number.new) 63 }
+{
+    if number[d as usize].is_some() {
+        return next;
+    }
+    number[d as usize] = Some(next);
+    next + 1
+}
+
 // Numbers the branch that hangs on a device, and then the device, from this number on, and says which is the next.
 fn number_branch(
     g: &AllCables,
@@ -67,15 +93,17 @@ fn number_branch(
     let mut next = next;
     for p in 0..cables_of(g, facts, usize::from(d)).len() {
         match child_at(g, parents, d, p) {
-            Some(child) => next = number_branch(g, facts, parents, child, next, number),
+            Some(child) => {
+                next = if is_leaf(&parents[child as usize]) {
+                    number_one(child, next, number)
+                } else {
+                    number_branch(g, facts, parents, child, next, number)
+                };
+            }
             None => {}
         }
     }
-    if number[d as usize].is_some() {
-        return next;
-    }
-    number[d as usize] = Some(next);
-    next + 1
+    number_one(d, next, number)
 }
 
 /// The numbers of all devices that hang together with the root.

@@ -44,17 +44,18 @@ fn only_open(ports: &[Option<End>], stays: &[bool; 63]) -> Option<Cable>
     ensures end { IfSome result (λ c. slice_index_or ports.now c.port None ≡ Some c.end) }
     ensures stays { IfSome result (λ c. is_seen stays.now c.end.device ≡ true) }
 {
-    let mut count: usize = 0;
     let mut open = None;
     for p in 0..ports.len() {
         if let Some(end) = ports[p] {
             if stays[end.device as usize] {
-                count += 1;
+                if open.is_some() {
+                    return None;
+                }
                 open = Some(Cable { port: p as u8, end });
             }
         }
     }
-    if count == 1 { open } else { None }
+    open
 }
 
 // The cable by which a device leaves in a round at whose start these stay, if it leaves.

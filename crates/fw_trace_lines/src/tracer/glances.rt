@@ -4,7 +4,7 @@ ghost use Rattle.std.specs.Prelude.{◌≡◌, ◌++◌, OnOk};
 ghost use Rattle.std.specs.Int.{to_be_bytes, w32};
 ghost use Rattle.fw_async.specs.Reader.{Spells, IsPacket};
 ghost use Rattle.fw_async.specs.declared.packet.Packet.{Packet as APacket};
-ghost use Rattle.fw_async.specs.declared.packet.Packet.TheVariants.{Lock, LockReply};
+ghost use Rattle.fw_async.specs.declared.packet.Packet.TheVariants.{Lock, LockReply, WriteBlock, WriteQuadlet};
 ghost use Rattle.fw_log_entry.specs.declared.entry.Entry.TheVariants.{Async};
 ghost use Rattle.fw_trace_names.specs.CausedLines.{caused_text};
 ghost use Rattle.fw_trace_lines.specs.Caused.{entry_lines, telling_after};
@@ -15,18 +15,18 @@ use super::Tracer;
 use fw_async::{Head, whole_packet};
 use fw_async_glance::{Glance, glance_at};
 use fw_log_requests::{Answer, Asked};
-use fw_trace_requests::{Reply, asked};
+use fw_trace_requests::{Carried, Reply, asked};
 use fw_words::Swap;
 use std::alloc::AllocError;
 
 impl Tracer {
-    // Appends the lines that a request brings which carries nothing.
-    fn put_request(&mut self, cycle: u64, q: Asked) -> Result<(), AllocError>
+    // Appends the lines that a request brings which carries this.
+    fn put_request(&mut self, cycle: u64, q: Asked, carried: Carried) -> Result<(), AllocError>
         ensures text { OnOk result (self.new.text ≡ self.old.text ++ caused_text (lone_lines self.old.telling.held)) }
-        ensures kept { OnOk result (self.new.telling ≡ with_request cycle q self.old.telling) }
+        ensures kept { OnOk result (self.new.telling ≡ with_request cycle q carried self.old.telling) }
     {
         self.put_held()?;
-        self.take_request(cycle, q)?;
+        self.take_request(cycle, q, carried)?;
         self.cycle = cycle;
         Ok(())
     }
@@ -37,6 +37,18 @@ impl Tracer {
         ensures kept { OnOk result (self.new.telling ≡ with_response cycle self.old.telling) }
     {
         self.put_reply(cycle, r)?;
+        self.held.release();
+        self.cycle = cycle;
+        Ok(())
+    }
+
+    // Appends the lines that a packet brings which neither asks nor answers.
+    #[inline(always)]
+    pub(super) fn put_silent(&mut self, cycle: u64) -> Result<(), AllocError>
+        ensures text { OnOk result (self.new.text ≡ self.old.text ++ caused_text (lone_lines self.old.telling.held)) }
+        ensures kept { OnOk result (self.new.telling ≡ with_response cycle self.old.telling) }
+    {
+        self.put_held()?;
         self.held.release();
         self.cycle = cycle;
         Ok(())
@@ -55,7 +67,48 @@ impl Tracer {
         ensures kept { OnOk result (self.new.telling ≡ telling_after self.old.telling (record { cycle = cycle; what = Async (Lock head.now offset 2 (to_be_bytes w32 argument ++ to_be_bytes w32 new)) })) }
     {
         let swap = Some(Swap { argument, new });
-        self.put_request(cycle, asked(head, Answer::Lock, offset, swap))
+        self.put_request(
+            cycle,
+            asked(head, Answer::Lock, offset, swap),
+            Carried::Nothing,
+        )
+    }
+
+    // Appends the lines that a write of a quadlet brings.
+    fn put_write(
+        &mut self,
+        cycle: u64,
+        head: &Head,
+        offset: u64,
+        value: u32,
+    ) -> Result<(), AllocError>
+        ensures text { OnOk result (self.new.text ≡ self.old.text ++ caused_text (entry_lines self.old.telling (record { cycle = cycle; what = Async (WriteQuadlet head.now offset value) }))) }
+        ensures kept { OnOk result (self.new.telling ≡ telling_after self.old.telling (record { cycle = cycle; what = Async (WriteQuadlet head.now offset value) })) }
+    {
+        self.put_request(
+            cycle,
+            asked(head, Answer::Write, offset, None),
+            Carried::Quadlet(value),
+        )
+    }
+
+    // Appends the lines that a write of a block of two quadlets brings.
+    fn put_pair(
+        &mut self,
+        cycle: u64,
+        head: &Head,
+        offset: u64,
+        first: u32,
+        second: u32,
+    ) -> Result<(), AllocError>
+        ensures text { OnOk result (self.new.text ≡ self.old.text ++ caused_text (entry_lines self.old.telling (record { cycle = cycle; what = Async (WriteBlock head.now offset (to_be_bytes w32 first ++ to_be_bytes w32 second)) }))) }
+        ensures kept { OnOk result (self.new.telling ≡ telling_after self.old.telling (record { cycle = cycle; what = Async (WriteBlock head.now offset (to_be_bytes w32 first ++ to_be_bytes w32 second)) })) }
+    {
+        self.put_request(
+            cycle,
+            asked(head, Answer::Write, offset, None),
+            Carried::Pair(first, second),
+        )
     }
 
     // Appends the lines that the response to a compare_swap of a quadlet brings.
@@ -85,9 +138,11 @@ impl Tracer {
         ensures kept { (p : APacket) → Spells p bytes.now → OnOk result (self.new.telling ≡ telling_after self.old.telling (record { cycle = cycle; what = Async p })) }
     {
         match glance_at(bytes) {
-            Glance::Read { head, offset } => {
-                self.put_request(cycle, asked(&head, Answer::ReadQuadlet, offset, None))
-            }
+            Glance::Read { head, offset } => self.put_request(
+                cycle,
+                asked(&head, Answer::ReadQuadlet, offset, None),
+                Carried::Nothing,
+            ),
             Glance::ReadReply { head, rcode, value } => {
                 let reply = Reply {
                     head,
@@ -112,7 +167,19 @@ impl Tracer {
                 };
                 self.put_answer(cycle, &reply)
             }
-            _ => self.put_async(cycle, &whole_packet(bytes)),
+            Glance::Write {
+                head,
+                offset,
+                value,
+            } => self.put_write(cycle, &head, offset, value),
+            Glance::WritePair {
+                head,
+                offset,
+                first,
+                second,
+            } => self.put_pair(cycle, &head, offset, first, second),
+            Glance::CycleStart { .. } => self.put_silent(cycle),
+            Glance::Other => self.put_async(cycle, &whole_packet(bytes)),
         }
     }
 }

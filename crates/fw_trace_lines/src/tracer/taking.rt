@@ -10,7 +10,7 @@ use fw_async::Packet;
 use fw_log_entry::codes::event;
 use fw_log_entry::{Entry, Timed};
 use fw_log_requests::Asked;
-use fw_trace_requests::asked_by;
+use fw_trace_requests::{Carried, asked_by};
 use std::alloc::AllocError;
 
 impl Tracer {
@@ -97,18 +97,23 @@ impl Tracer {
         )
     }
 
-    // Takes a request that carries nothing.
+    // Takes a request that carries this.
     #[inline(always)]
-    pub(super) fn take_request(&mut self, cycle: u64, q: Asked) -> Result<(), AllocError>
+    pub(super) fn take_request(
+        &mut self,
+        cycle: u64,
+        q: Asked,
+        carried: Carried,
+    ) -> Result<(), AllocError>
         ensures { OnOk result (self.new ≡ record self.old {
           telling = record self.old.telling {
             requests = with_latest q self.old.telling.requests;
-            held = Some (held_bare self.old.telling.naming cycle q);
+            held = Some (held_bare self.old.telling.naming cycle q carried);
           };
         }) }
     {
         self.requests.ask(q)?;
-        self.held.hold_bare(cycle, q);
+        self.held.hold_bare(cycle, q, carried);
         Ok(())
     }
 

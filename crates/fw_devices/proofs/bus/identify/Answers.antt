@@ -17,3 +17,6 @@ rows_of-bus-requires-clause-declared c = λ d n at.
 
 pub rows_of-bus-requires-clause-few : goal.rows_of-bus-requires-clause-few
 rows_of-bus-requires-clause-few c = count_most c.args.cabling.now c.identify-numbering.result c.identify-numbering.ensures.numbering
+
+pub devices_of-devices-requires-clause-few : goal.devices_of-devices-requires-clause-few
+devices_of-devices-requires-clause-few c = count_most c.args.cabling.now c.identify-numbering.result c.identify-numbering.ensures.numbering

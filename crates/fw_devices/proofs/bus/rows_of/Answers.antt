@@ -29,8 +29,8 @@ pub loop-n-preserved : goal.loop-n-preserved
 loop-n-preserved c =
     let nodes = c.args.nodes.now in
     let number = c.args.numbering.now.number in
-    let device = device_at c.devices_of-devices.result c.loop-n.n in
-    let at = c.devices_of-devices.ensures.devices c.loop-n.n c.loop-n-test.true in
+    let device = device_at c.args.devices.now c.loop-n.n in
+    let at = c.requires.devices c.loop-n.n c.loop-n-test.true in
     let low = c.requires.declared device c.loop-n.n at in
     let kind : c.kind.result ≡ kind_at (kinds_of nodes) device =
     c.kind.ensures ∙ ap kind_of (get_or_read nodes device c.index-nodes-device.result low c.index-nodes-device.is (first_state Relay 0 0 false)) ∙ sym (kind_of_node nodes device) in

@@ -5,10 +5,10 @@ use Rattle.fw_log.specs.Passing.{CountsUp}
 use Rattle.fw_log.specs.Reader.{State, Feeds, total}
 use Rattle.fw_log_loop.specs.Readings.{Form, Passes}
 use Rattle.fw_log_loop.specs.Pieces.{GatheredTo}
-use Rattle.fw_log_loop.proofs.Gatherings.{gathered_first, gathered_passed, gathered_some, gathered_rest, gathered_all, few_read}
+use Rattle.fw_log_loop.proofs.Gatherings.{gathered_first, gathered_passed, gathered_some, gathered_rest, gathered_part, gathered_all, few_read}
 use Rattle.fw_log_loop.proofs.RefusedGatherings.{gathered_fault, gathered_last}
 use Rattle.fw_log_loop.proofs.Gatherings.{rest_from, none_else, takes_none, takes_some, when_none, when_some, by_both}
-use Rattle.fw_log_loop.proofs.Gatherings.{stays_fresh, given_body, none_given}
+use Rattle.fw_log_loop.proofs.Gatherings.{stays_fresh, when_fresh, given_body, none_given}
 use Rattle.fw_log_loop.proofs.piece.take_entries.Goals as goal
 
 pub loop-rest-init : goal.loop-rest-init
@@ -49,16 +49,26 @@ loop-rest-preserved-in-Some g c =
       same = passed.same ∙ i.same;
     }
 
+pub returns-then-keep_part-clause-text : goal.returns-then-keep_part-clause-text
+returns-then-keep_part-clause-text g c entries bytes h t0 =
+    let i = c.loop-rest.invariant in
+    let kept = when_none c.in_ok-used.field-0 (none_else c.in_ok-used.field-0 c.in_default.not-Some) c.in_ok-used.ensures.kept in
+    let p = by_both (λ x o. GatheredTo (g.O.Reading.form c.args.output.now).text (g.O.Reading.took o) (g.O.Reading.gathered c.args.output.now)
+    (g.O.Reading.gathered o) entries bytes c.args.piece.now c.loop-rest.rest.now x) kept.0 kept.1 (i.text entries bytes h t0) in
+    gathered_part c.keep_part.new.self p (c.keep_part.ensures.history c.if-keep_part.true (entries ++ p.gathers.more) (bytes ++ p.done) p.gathers.read)
+
 pub returns-in-Err-clause-text : goal.returns-in-Err-clause-text
 returns-in-Err-clause-text g c entries bytes h t =
     let i = c.loop-rest.invariant in
-    let r = c.take_raw.new.reader in
+    let r = c.keep_part.new.self in
     let rest : List ℕ = c.loop-rest.rest.now in
     let kept = when_none c.in_ok-used.field-0 (none_else c.in_ok-used.field-0 c.in_default.not-Some) c.in_ok-used.ensures.kept in
-    let f : Feeds r.stand r.taken rest (Err c.in-Err.fault) c.feed.new.reader = c.in-Err.ensures.fed in
+    let stays : r ≡ c.loop-rest.reader = c.keep_part.ensures.kept c.if-keep_part.false ∙ kept.0 in
+    let f : Feeds r.stand r.taken rest (Err c.in-Err.fault) c.feed_apart.new.self =
+    when_fresh (Feeds r.stand r.taken rest (Err c.in-Err.fault) c.feed_apart.new.self) r.fault (ap (λ (s : State). s.fault) stays ∙ i.fresh) c.in-Err.ensures.fresh in
     let p = by_both (λ x o. GatheredTo (g.O.Reading.form c.args.output.now).text (g.O.Reading.took o) (g.O.Reading.gathered c.args.output.now)
-    (g.O.Reading.gathered o) entries bytes c.args.piece.now rest x) kept.0 kept.1 (i.text entries bytes h t) in
-    gathered_fault (g.O.Reading.took c.take_raw.new.self) c.feed.new.reader c.in-Err.fault p f (λ es t. t)
+    (g.O.Reading.gathered o) entries bytes c.args.piece.now rest x) stays kept.1 (i.text entries bytes h t) in
+    gathered_fault (g.O.Reading.took c.take_raw.new.self) c.feed_apart.new.self c.in-Err.fault p f (λ es t. t)
 
 pub take-requires-clause-body : goal.take-requires-clause-body
 take-requires-clause-body g c = c.as_slice.ensures ∙ given_body c.in-Ok.fed c.in-Some-entry.entry c.in-Some-entry.is c.in-Ok.ensures.body
@@ -66,14 +76,15 @@ take-requires-clause-body g c = c.as_slice.ensures ∙ given_body c.in-Ok.fed c.
 pub loop-rest-preserved : goal.loop-rest-preserved
 loop-rest-preserved g c =
     let i = c.loop-rest.invariant in
-    let r = c.take_raw.new.reader in
+    let r = c.keep_part.new.self in
     let rest : List ℕ = c.loop-rest.rest.now in
     let fed = c.in-Ok.fed in
     let t = c.in-Some-entry.entry in
-    let new = c.feed.new.reader in
+    let new = c.feed_apart.new.self in
     let kept = when_none c.in_ok-used.field-0 (none_else c.in_ok-used.field-0 c.in_default.not-Some) c.in_ok-used.ensures.kept in
-    let at : total r ≡ total c.loop-rest.reader = ap total kept.0 in
-    let f : Feeds r.stand r.taken rest (Ok fed) new = c.in-Ok.ensures.fed in
+    let stays : r ≡ c.loop-rest.reader = c.keep_part.ensures.kept c.if-keep_part.false ∙ kept.0 in
+    let at : total r ≡ total c.loop-rest.reader = ap total stays in
+    let f : Feeds r.stand r.taken rest (Ok fed) new = when_fresh (Feeds r.stand r.taken rest (Ok fed) new) r.fault (ap (λ (s : State). s.fault) stays ∙ i.fresh) c.in-Ok.ensures.fresh in
     let from = sym (rest_from rest fed.used) in
     let small : total new < 2 ^ 64 = omega (arith, i.count, at, c.in-Ok.ensures.counts.0, c.in-Ok.ensures.counts.1, c.requires.room) in
     record {
@@ -83,7 +94,7 @@ loop-rest-preserved g c =
           subst N from (omega (arith, i.count, at, c.in-Ok.ensures.counts.0, c.in-Ok.ensures.counts.1, length-drop fed.used rest));
       text = λ entries bytes h t0.
           let p = by_both (λ x o. GatheredTo (g.O.Reading.form c.args.output.now).text (g.O.Reading.took o) (g.O.Reading.gathered c.args.output.now)
-          (g.O.Reading.gathered o) entries bytes c.args.piece.now rest x) kept.0 kept.1 (i.text entries bytes h t0) in
+          (g.O.Reading.gathered o) entries bytes c.args.piece.now rest x) stays kept.1 (i.text entries bytes h t0) in
           let es : List Timed = entries ++ p.gathers.more in
           let P : List ℕ → Type 0 = λ x. GatheredTo (g.O.Reading.form c.args.output.now).text (g.O.Reading.took c.take.new.self) (g.O.Reading.gathered c.args.output.now)
           (g.O.Reading.gathered c.take.new.self) entries bytes c.args.piece.now x new in
@@ -99,31 +110,33 @@ loop-rest-preserved g c =
 pub returns-in_default-entry-clause-text : goal.returns-in_default-entry-clause-text
 returns-in_default-entry-clause-text g c entries bytes h t0 =
     let i = c.loop-rest.invariant in
-    let r = c.take_raw.new.reader in
+    let r = c.keep_part.new.self in
     let rest : List ℕ = c.loop-rest.rest.now in
     let fed = c.in-Ok.fed in
-    let new = c.feed.new.reader in
+    let new = c.feed_apart.new.self in
     let kept = when_none c.in_ok-used.field-0 (none_else c.in_ok-used.field-0 c.in_default.not-Some) c.in_ok-used.ensures.kept in
-    let f : Feeds r.stand r.taken rest (Ok fed) new = c.in-Ok.ensures.fed in
+    let stays : r ≡ c.loop-rest.reader = c.keep_part.ensures.kept c.if-keep_part.false ∙ kept.0 in
+    let f : Feeds r.stand r.taken rest (Ok fed) new = when_fresh (Feeds r.stand r.taken rest (Ok fed) new) r.fault (ap (λ (s : State). s.fault) stays ∙ i.fresh) c.in-Ok.ensures.fresh in
     let p = by_both (λ x o. GatheredTo (g.O.Reading.form c.args.output.now).text (g.O.Reading.took o) (g.O.Reading.gathered c.args.output.now)
-    (g.O.Reading.gathered o) entries bytes c.args.piece.now rest x) kept.0 kept.1 (i.text entries bytes h t0) in
+    (g.O.Reading.gathered o) entries bytes c.args.piece.now rest x) stays kept.1 (i.text entries bytes h t0) in
     gathered_rest (g.met.O.Reading.each c.args.output.now) new fed p f (c.in-Ok.ensures.history (entries ++ p.gathers.more) (bytes ++ p.done) p.gathers.read)
     (none_given fed.entry c.in_default-entry.not-Some)
 
 pub returns-in-Some-2-clause-text : goal.returns-in-Some-2-clause-text
 returns-in-Some-2-clause-text g c entries bytes h t0 =
     let i = c.loop-rest.invariant in
-    let r = c.take_raw.new.reader in
+    let r = c.keep_part.new.self in
     let rest : List ℕ = c.loop-rest.rest.now in
     let fed = c.in-Ok.fed in
     let t = c.in-Some-entry.entry in
-    let new = c.feed.new.reader in
+    let new = c.feed_apart.new.self in
     let kept = when_none c.in_ok-used.field-0 (none_else c.in_ok-used.field-0 c.in_default.not-Some) c.in_ok-used.ensures.kept in
-    let at : total r ≡ total c.loop-rest.reader = ap total kept.0 in
-    let f : Feeds r.stand r.taken rest (Ok fed) new = c.in-Ok.ensures.fed in
+    let stays : r ≡ c.loop-rest.reader = c.keep_part.ensures.kept c.if-keep_part.false ∙ kept.0 in
+    let at : total r ≡ total c.loop-rest.reader = ap total stays in
+    let f : Feeds r.stand r.taken rest (Ok fed) new = when_fresh (Feeds r.stand r.taken rest (Ok fed) new) r.fault (ap (λ (s : State). s.fault) stays ∙ i.fresh) c.in-Ok.ensures.fresh in
     let small : total new < 2 ^ 64 = omega (arith, i.count, at, c.in-Ok.ensures.counts.0, c.in-Ok.ensures.counts.1, c.requires.room) in
     let p = by_both (λ x o. GatheredTo (g.O.Reading.form c.args.output.now).text (g.O.Reading.took o) (g.O.Reading.gathered c.args.output.now)
-    (g.O.Reading.gathered o) entries bytes c.args.piece.now rest x) kept.0 kept.1 (i.text entries bytes h t0) in
+    (g.O.Reading.gathered o) entries bytes c.args.piece.now rest x) stays kept.1 (i.text entries bytes h t0) in
     let es : List Timed = entries ++ p.gathers.more in
     let read = c.in-Ok.ensures.history es (bytes ++ p.done) p.gathers.read in
     let took = takes_some (g.O.Reading.form c.take_raw.new.self).text g.O.Reading.rules.rejects (g.O.Reading.took c.take.new.self) (g.O.Reading.gathered c.take_raw.new.self)

@@ -5,7 +5,6 @@ use Rattle.fw_bus_engine.proofs.Common.{IsTable, Listens, count_of, dead_of, sta
 use Rattle.std.proofs.Common.{IfNone}
 use Rattle.fw_bus_engine.specs.Requesting.{TurnsController, WritesTurn}
 use Rattle.fw_bus_engine.proofs.ControllerTurns.{asks_turn}
-use Rattle.fw_bus_engine.proofs.DeafTurns.{living_node}
 use Rattle.fw_bus_engine.proofs.HalfTurns.{node_numbers}
 use Rattle.fw_bus_engine.proofs.ResetTurns.{ready_cycle}
 use Rattle.fw_bus_engine.proofs.HalfWires.{Sends, sends_takes, sends_fits, sends_free}
@@ -35,8 +34,8 @@ ask-requires g c =
 
 -- ---- a request goes out
 
-pub number-own-requires : goal.number-own-requires
-number-own-requires g c = living_node c.args.machine.now c.args.device c.requires.rests.0
+pub own_number-own-requires : goal.own_number-own-requires
+own_number-own-requires g c = record { ready = c.requires.ready; living = c.requires.rests.0 }
 
 -- what the machine has then
 abbrev Sent : Machine → ℕ → ℕ → ℕ → ControllerTable → Request → Type 0
@@ -46,35 +45,35 @@ pub send-requires : goal.send-requires
 send-requires g c =
     let m = c.args.machine.now in
     let low : c.in-Some.to < 63 = subst (λ (x : Option (ℕ × Request)). IfSome x (λ asked. asked.0 < 63)) c.in-Some.is c.ask.ensures.addressee in
-    let x : Sent m c.args.device c.in-Some.to c.number-own.result c.ask.new.self c.in-Some.request = record {
+    let x : Sent m c.args.device c.in-Some.to c.own_number-own.result c.ask.new.self c.in-Some.request = record {
       lives = c.requires.rests.0;
       heard = c.requires.rests.1;
       table = subst (λ (x : Option (ℕ × Request)). IfSome x (λ asked. Asked m c.args.device c.ask.new.self)) c.in-Some.is c.ask.ensures.state;
       says = subst (λ (x : Option (ℕ × Request)). IfSome x (λ asked. TurnIs m c.args.device asked.0 asked.1)) c.in-Some.is c.ask.ensures.sends;
       low = low;
-      number = c.number-own.ensures.value;
+      number = c.own_number-own.ensures.value;
       packet = refl;
     } in
-    record { from = c.number-own.ensures.range; to = omega (arith, low); fits = sends_fits c.requires.ready x; free = sends_free c.requires.ready x }
+    record { from = c.own_number-own.ensures.range; to = omega (arith, low); fits = sends_fits c.requires.ready x; free = sends_free c.requires.ready x }
 
 pub emit_packet-requires : goal.emit_packet-requires
-emit_packet-requires g c = record { packet = packet_of (request_head c.number-own.result c.in-Some.to Procedure) c.in-Some.request; spells = c.send.ensures.packet }
+emit_packet-requires g c = record { packet = packet_of (request_head c.own_number-own.result c.in-Some.to Procedure) c.in-Some.request; spells = c.send.ensures.packet }
 
 pub returns-in-Some : goal.returns-in-Some
 returns-in-Some g c =
     let m = c.args.machine.now in
     let d = c.args.device in
-    let p = packet_of (request_head c.number-own.result c.in-Some.to Procedure) c.in-Some.request in
+    let p = packet_of (request_head c.own_number-own.result c.in-Some.to Procedure) c.in-Some.request in
     let turned : Listening = after_turn m.cycle m.directory (states_of m.controllers d) in
     let now = c.ask.new.self in
     let put : now ≡ with_one m.controllers d turned = subst (λ (x : Option (ℕ × Request)). IfSome x (λ asked. now ≡ with_one m.controllers d turned)) c.in-Some.is c.ask.ensures.list in
-    let x : Sent m d c.in-Some.to c.number-own.result now c.in-Some.request = record {
+    let x : Sent m d c.in-Some.to c.own_number-own.result now c.in-Some.request = record {
       lives = c.requires.rests.0;
       heard = c.requires.rests.1;
       table = subst (λ (x : Option (ℕ × Request)). IfSome x (λ asked. Asked m d now)) c.in-Some.is c.ask.ensures.state;
       says = subst (λ (x : Option (ℕ × Request)). IfSome x (λ asked. TurnIs m d asked.0 asked.1)) c.in-Some.is c.ask.ensures.sends;
       low = subst (λ (x : Option (ℕ × Request)). IfSome x (λ asked. asked.0 < 63)) c.in-Some.is c.ask.ensures.addressee;
-      number = c.number-own.ensures.value;
+      number = c.own_number-own.ensures.value;
       packet = refl;
     } in
     let takes = subst (λ (w : Pairs). TakesHalf half m (record m { controllers = now; wire = w }) d (Some (Async p))) (sym c.send.ensures.wire) (sends_takes x) in

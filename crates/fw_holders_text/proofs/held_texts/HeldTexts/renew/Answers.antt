@@ -2,8 +2,9 @@ use Rattle.std.proofs.Common.{rules, ◌≡◌, ◌∙◌, ap, sym, Decides, Lis
 use Rattle.std.proofs.lemmas.Slice.Eq.{slice_eq-Decides}
 use Rattle.fw_log_entry.specs.declared.nodes.NodeRow.{NodeRow}
 use Rattle.fw_log_entry.specs.contracts.nodes.NodeRowPartialEq.TheImpl.{eq-value}
-use Rattle.fw_holders_text.specs.declared.held_texts.KeptText.{KeptText}
-use Rattle.fw_holders_text.proofs.ListLaws.{refilled}
+use Rattle.fw_holders_text.specs.declared.kept_channel.KeptChannel.{KeptChannel}
+use Rattle.fw_holders_text.specs.declared.kept_done.KeptDone.{KeptDone}
+use Rattle.fw_holders_text.proofs.RowLaws.{refilled}
 use Rattle.fw_holders_text.proofs.held_texts.HeldTexts.renew.Goals as goal
 
 eq_row : (a b : NodeRow) → Decides (eq-value.it a b) (a ≡ b)
@@ -15,10 +16,16 @@ returns-then-eq c =
 
 pub invariant_of-self : goal.invariant_of-self
 invariant_of-self c =
-    let rows = c.self.inside.rows in
-    let new = c.forget.new.rows in
-    let size = c.forget.ensures.size ∙ ap (λ (xs : List KeptText). length xs) c.deref_mut.ensures.value in
-    let whole : take rows.len (new ++ drop (length new) rows.items) ≡ new = refilled rows.len new (drop (length new) rows.items) (size ∙ sym rows.ok.0) in
-    let first = ap (λ (xs : List KeptText). length xs) whole ∙ size ∙ c.self.invariant.0 in
-    let told = c.forget-2.ensures c.of-self-inside.result in
-    (first, λ ch kept is. rw (c.forget.ensures.none ch kept (ap (λ (xs : List KeptText). slice_get xs ch) (sym whole) ∙ is)) tt, told, c.self.invariant.3, c.self.invariant.4)
+    let channels = c.self.inside.channels in
+    let new = c.forget_channels.new.rows in
+    let size = c.forget_channels.ensures.size ∙ ap (λ (xs : List KeptChannel). length xs) c.deref_mut.ensures.value in
+    let whole : take channels.len (new ++ drop (length new) channels.items) ≡ new = refilled channels.len new (drop (length new) channels.items) (size ∙ sym channels.ok.0) in
+    let done = c.self.inside.done in
+    let new2 = c.forget_done.new.rows in
+    let size2 = c.forget_done.ensures.size ∙ ap (λ (xs : List KeptDone). length xs) c.deref_mut-2.ensures.value in
+    let whole2 : take done.len (new2 ++ drop (length new2) done.items) ≡ new2 = refilled done.len new2 (drop (length new2) done.items) (size2 ∙ sym done.ok.0) in (
+      λ n kept is. rw (c.forget_channels.ensures.none n kept (ap (λ (xs : List KeptChannel). slice_get xs n) (sym whole) ∙ is)) tt,
+      λ n kept is. rw (c.forget_done.ensures.none n kept (ap (λ (xs : List KeptDone). slice_get xs n) (sym whole2) ∙ is)) tt,
+      c.self.invariant.2,
+      c.self.invariant.3,
+    )

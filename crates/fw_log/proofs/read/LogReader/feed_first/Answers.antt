@@ -1,12 +1,13 @@
-use Rattle.fw_log.proofs.Common.{ℕ, length, take, arith, ap, ◌∙◌, length-append, length-take-le, position, State}
+use Rattle.fw_log.proofs.Common.{length, Some, Ok, arith, ap, ◌∙◌, position, State}
 use Rattle.fw_log.proofs.FindLaws.{found_in, pending_at}
+use Rattle.fw_log.proofs.FoundLaws.{joins_at}
 use Rattle.fw_log.proofs.read.LogReader.feed_first.Goals as goal
 
 pub keep-requires-clause-found : goal.keep-requires-clause-found
 keep-requires-clause-found c =
-    found_in c.args.self.now.stand (position c.self.inside.stand) c.args.self.now.taken c.as_slice.result.now c.args.piece.now c.at_hand-bytes.result.now c.first_entry-found.result
+    found_in c.args.self.now.stand (position c.self.inside.stand) c.args.self.now.taken c.as_slice.result.now c.args.piece.now c.at_hand-bytes.result.now (Ok (Some c.in-Some.found))
     (ap (λ (r : State). r.stand) c.self.view_is)
-    (c.as_slice.ensures.value ∙ c.deref.ensures ∙ ap (λ (r : State). r.taken) c.self.view_is) c.at_hand-bytes.ensures c.first_entry-found.ensures
+    (c.as_slice.ensures.value ∙ c.deref.ensures ∙ ap (λ (r : State). r.taken) c.self.view_is) c.at_hand-bytes.ensures c.in-Some.ensures
 
 pub at_hand-bytes-requires-clause-pending : goal.at_hand-bytes-requires-clause-pending
 at_hand-bytes-requires-clause-pending c =
@@ -16,16 +17,7 @@ at_hand-bytes-requires-clause-pending c =
 pub at_hand-bytes-requires-clause-few : goal.at_hand-bytes-requires-clause-few
 at_hand-bytes-requires-clause-few c = omega (arith, ap length c.as_slice.ensures.value, c.as_slice.ensures.fits)
 
-pub first_entry-found-requires : goal.first_entry-found-requires
-first_entry-found-requires c =
-    let taken = c.as_slice.ensures.value ∙ c.deref.ensures ∙ ap (λ (r : State). r.taken) c.self.view_is in
-    let n : ℕ = c.at_hand-bytes.ensures.count in
-    omega (
-      arith,
-      c.requires.room,
-      ap (λ (r : State). r.stand.start) c.self.view_is,
-      ap length taken,
-      ap length c.at_hand-bytes.ensures.same,
-      length-append c.as_slice.result.now (take n c.args.piece.now),
-      length-take-le n c.args.piece.now c.at_hand-bytes.ensures.within,
-    )
+pub feed_other-requires-clause-joins : goal.feed_other-requires-clause-joins
+feed_other-requires-clause-joins c =
+    joins_at c.args.self.now.stand (position c.self.inside.stand) c.args.self.now.taken c.as_slice.result.now c.args.piece.now c.at_hand-bytes.result.now (ap (λ (r : State). r.stand) c.self.view_is)
+    (c.as_slice.ensures.value ∙ c.deref.ensures ∙ ap (λ (r : State). r.taken) c.self.view_is) c.at_hand-bytes.ensures

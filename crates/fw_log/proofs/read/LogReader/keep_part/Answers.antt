@@ -21,5 +21,5 @@ invariant_of-self c =
     (none_taken (length c.as_slice.result.now) (sym c.is_empty.ensures ∙ c.if-not-is_empty.false)) (c.is_part.ensures c.if-not-is_part.false) in
     let taken : c.append.new.self ≡ c.args.self.now.taken ++ c.args.piece.now =
     c.append.ensures ∙ ap (λ t. t ++ c.args.piece.now) (c.deref_mut.ensures.value ∙ ap (λ (r : State). r.taken) c.self.view_is) in
-    holds_by (position c.self.inside.stand) c.append.new.self c.self.inside.fault (ap (λ (r : State). r.fault) c.self.view_is ∙ c.requires.fresh)
+    holds_by (position c.self.inside.stand) c.append.new.self c.self.inside.fault (ap (λ (r : State). r.fault) c.self.view_is ∙ c.requires)
     (pending_at c.args.self.now.stand (position c.self.inside.stand) _ _ (ap (λ (r : State). r.stand) c.self.view_is) taken part)

@@ -6,13 +6,13 @@ use Rattle.fw_log_words.proofs.rewriting.Rewriting.copy_annotation.Goals as goal
 
 pub copy-requires : goal.copy-requires
 copy-requires c =
-    let plain = c.in-Some-pass_annotation.ensures.body in
+    let plain = c.in-Some.ensures.body in
     omega (arith, few_annotation plain.entry plain.annotation, ap length plain.is.same, ap length c.as_slice.ensures)
 
 pub returns-clause-history : goal.returns-clause-history
 returns-clause-history c entries bytes h t =
-    let x = c.in-Some-pass_annotation.ensures.history entries bytes h in
+    let x = c.in-Some.ensures.history entries bytes h in
     let old : Rewritten = c.args.self.now in
-    let Copied : List ℕ → List ℕ = λ b. old.bytes ++ (entry_head old.version old.epoch c.in-Some.kind (length b / 4) c.in-Some-pass_annotation.annotation.cycle ++ b) in
-    annotation_passes old c.copy.new.self entries _ c.pass_annotation.new.self c.in-Some.kind c.in-Some-pass_annotation.annotation x t c.in_ok-copy.ensures.epoch
+    let Copied : List ℕ → List ℕ = λ b. old.bytes ++ (entry_head old.version old.epoch c.args.kind (length b / 4) c.in-Some.annotation.cycle ++ b) in
+    annotation_passes old c.copy.new.self entries _ c.pass_annotation.new.self c.args.kind c.in-Some.annotation x t c.in_ok-copy.ensures.epoch
     (c.in_ok-copy.ensures.bytes ∙ ap Copied c.as_slice.ensures)

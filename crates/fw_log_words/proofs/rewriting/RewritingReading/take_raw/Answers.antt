@@ -15,4 +15,4 @@ pub returns-in_default-clause-history : goal.returns-in_default-clause-history
 returns-in_default-clause-history c entries bytes h t =
     let kept = when_none c.pass_body.result (none_else c.pass_body.result c.in_default.not-Some) c.pass_body.ensures.kept in
     let P : State → Type 0 = λ r. HasRead entries bytes r in
-    c.copy_annotation.ensures.history entries bytes (subst P (sym kept) h) t
+    c.copy_other.ensures.history entries bytes (subst P (sym kept) h) t

@@ -8,17 +8,14 @@ use Rattle.fw_tree.proofs.cabling.Cabling.self_ids.Goals as goal
 pub loop-node-init : goal.loop-node-init
 loop-node-init c = rw c.clear.ensures (record { packets = no_node; size = omega arith })
 
-pub devices_of-devices-requires : goal.devices_of-devices-requires
-devices_of-devices-requires c = record { nodes = c.requires.numbering.nodes; few = count_most c.args.self.now c.args.n.now c.requires.numbering }
-
 pub push_node-requires : goal.push_node-requires
 push_node-requires c = let most = count_most c.args.self.now c.args.n.now c.requires.numbering in let size = c.loop-node.invariant.size in omega arith
 
 pub loop-node-preserved : goal.loop-node-preserved
 loop-node-preserved c = record {
   packets = one_more c.self.inside.facts c.self.inside.cables c.args.n.now.number c.args.n.now.parent_port c.args.initiator c.loop-node.node
-      (device_at c.devices_of-devices.result c.loop-node.node) c.loop-node.out c.push_node.new.out
-      (c.devices_of-devices.ensures.devices c.loop-node.node c.loop-node-test.true) c.push_node.ensures.packets c.loop-node.invariant.packets;
+      (device_at c.args.devices.now c.loop-node.node) c.loop-node.out c.push_node.new.out
+      (c.requires.devices c.loop-node.node c.loop-node-test.true) c.push_node.ensures.packets c.loop-node.invariant.packets;
   size = let size = c.loop-node.invariant.size in let more = c.push_node.ensures.size in omega arith;
 }
 

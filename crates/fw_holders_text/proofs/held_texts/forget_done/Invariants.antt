@@ -1,0 +1,6 @@
+use Rattle.std.proofs.Common.{◌≡◌, ◌<◌, ℕ, Some, None, slice_get}
+use Rattle.fw_holders_text.specs.declared.kept_done.KeptDone.{KeptDone}
+use Rattle.fw_holders_text.proofs.held_texts.forget_done.Given as goal
+
+abbrev pub invariant-loop-row : goal.invariant-loop-row
+invariant-loop-row l = (n : ℕ) (kept : KeptDone) → n < l.row-index → slice_get l.rows n ≡ Some kept → kept.done ≡ None
