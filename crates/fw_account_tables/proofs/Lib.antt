@@ -1,6 +1,7 @@
 pub mod Common
 pub mod Starts
 pub mod Plugs
+pub mod Channels
 pub mod Related
 pub mod Controllers
 pub mod Swapping

@@ -117,7 +117,7 @@ impl Tables {
         requires stands { Stands self.now }
         ensures { (l : Account) → StandsFor self.now l → IsHeld c result l }
     {
-        let channel = pending_channel(&self.charges, c)?;
+        let channel = pending_channel(&self.charges, c, 64)?;
         held_of(channel, charge_at(&self.charges, channel))
     }
 

@@ -12,6 +12,7 @@ mod register;
 mod request;
 mod tables;
 mod units;
+mod used;
 
 pub use register::Register;
 pub use tables::{Addressed, Asked, Broadcaster, Charge, Reclaimable, Seats, Tables, first_high};

@@ -56,13 +56,14 @@ pub fn plug_number(first: u64, offset: u64) -> Option<u8>
     }
 }
 
-/// The first channel of which controller `c` has a Pending allocation.
-pub fn pending_channel(charges: &[Charge], c: u8) -> Option<usize>
-    requires { length charges.now ≡ 64 }
-    ensures first { result ≡ find_to 64 (λ ch. is_pending c (allocation_of (charge_at charges.now ch))) }
+/// The first channel before this one of which controller `c` has a Pending allocation.
+pub fn pending_channel(charges: &[Charge], c: u8, end: usize) -> Option<usize>
+    requires size { length charges.now ≡ 64 }
+    requires end { end ≤ 64 }
+    ensures first { result ≡ find_to end (λ ch. is_pending c (allocation_of (charge_at charges.now ch))) }
     ensures within { IfSome result (λ ch. ch < 64) }
 {
-    for ch in 0..64 {
+    for ch in 0..end {
         if is_pending(charges[ch], c) {
             return Some(ch);
         }

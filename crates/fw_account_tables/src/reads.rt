@@ -60,7 +60,7 @@ impl Tables {
         requires stands { Stands self.now }
         ensures { (l : Account) → StandsFor self.now l → result ≡ has_pending c l.allocations }
     {
-        pending_channel(&self.charges, c).is_some()
+        pending_channel(&self.charges, c, self.end_of_used()).is_some()
     }
 
     /// The output plug that controller `c` last addressed.

@@ -77,6 +77,7 @@ fn input_register(row: NodeRow, offset: u64) -> Option<Register>
 }
 
 // The plug register at an offset of a node.
+#[inline(always)]
 fn plug_register(row: Option<NodeRow>, offset: u64) -> Option<Register>
     ensures { option_map register_named result ≡ plug_register row offset }
 {
@@ -126,6 +127,7 @@ impl Tables {
 
     /// The register of the account that a node ID and an address name. None if another register stands there, or
     /// none.
+    #[inline(always)]
     pub fn register_at(&self, id: u16, address: u64) -> Option<Register>
         requires stands { Stands self.now }
         ensures register { (l : Account) → StandsFor self.now l → option_map register_named result ≡ register_of l.latest id address }
@@ -143,6 +145,7 @@ impl Tables {
     }
 
     /// The word of this register, if it is one.
+    #[inline(always)]
     pub fn word_in(&self, register: Option<Register>) -> Option<u32>
         requires stands { Stands self.now }
         requires there { IfSome register (λ r. IsThere r self.now) }

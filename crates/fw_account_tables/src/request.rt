@@ -31,6 +31,7 @@ fn output_of(row: Option<NodeRow>, offset: u64) -> Option<PlugAt>
 
 impl Tables {
     /// The register of the account at which a request is.
+    #[inline(always)]
     pub fn register_asked(&self, asked: Asked) -> Option<Register>
         requires stands { Stands self.now }
         ensures register { (l : Account) (q : Request) → StandsFor self.now l → AskedFor asked (Some q) → option_map register_named result ≡ register_of l.latest q.target q.address }
@@ -53,6 +54,7 @@ impl Tables {
     }
 
     // The output plug that a request is at.
+    #[inline(always)]
     fn output_addressed(&self, target: u16, address: u64) -> Option<PlugAt>
         ensures { (l : Account) → StandsFor self.now l → result ≡ output_addressed l.latest target address }
     {
@@ -67,6 +69,7 @@ impl Tables {
 
     /// The output plug that controller `c` last addressed, once it sends a request to this address of the node with the ID `target`: the
     /// plug whose register stands there, also if the node has no such plug, unless `c` has a Pending allocation.
+    #[inline(always)]
     pub fn addressed_after(&self, c: u8, target: u16, address: u64) -> Addressed
         requires stands { Stands self.now }
         requires within { c < 63 }

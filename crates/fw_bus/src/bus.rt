@@ -7,7 +7,8 @@ use fw_async::Wire;
 use fw_bus_engine::carry_out;
 use fw_bus_places::Places;
 use fw_bus_rules::decide;
-use fw_bus_state::{Machine, WriteBuffers};
+use fw_bus_state::{Candidates, Controllers, Machine, WriteBuffers};
+use fw_devices::Devices;
 use fw_dub::Reel;
 use fw_node::Node;
 use fw_order::{Order, RuleFault};
@@ -58,10 +59,16 @@ impl Bus {
         ensures stands { IfOk result (λ b. StandsFor b.machine first_state) }
         ensures spent { IfOk result (λ b. IsFalse b.spent) }
     {
+        // What takes memory comes first: if there is none, little has to be given back.
+        let devices = Devices::new(alloc)?;
+        let controllers = Controllers::new(alloc)?;
+        let candidates = Candidates::new(alloc)?;
+        let reel = Reel::new(alloc)?;
+        let room = Box::new(alloc, WriteBuffers::new(alloc)?)?;
         Ok(Bus {
-            machine: Machine::new(alloc)?,
+            machine: Machine::new(devices, controllers, candidates, reel),
             spent: false,
-            room: Box::new(alloc, WriteBuffers::new(alloc)?)?,
+            room,
         })
     }
 

@@ -11,8 +11,11 @@ use std::marker::Model;
 /// A number that no part has.
 const NO_NUMBER: u32 = 0xFFFF_FFFF;
 
-/// How many guesses there are.
-const GUESSES: usize = 4096;
+/// How many guesses there are of what follows one part.
+pub(crate) const FEW_GUESSES: usize = 4096;
+
+/// How many of what follows two parts, of which there are many pairs.
+pub(crate) const MANY_GUESSES: usize = 65_536;
 
 /// The number of the part that came last after what has a key. It is only where a part is looked for first.
 #[derive(Drop)]
@@ -29,27 +32,29 @@ impl Model for Guesses {
 }
 
 impl Guesses {
-    /// Nothing came yet.
-    pub(crate) fn new(alloc: Global) -> Result<Guesses, AllocError> {
+    /// Nothing came yet. Guesses are a power of two.
+    pub(crate) fn new(alloc: Global, guesses: usize) -> Result<Guesses, AllocError> {
         Ok(Guesses {
-            last: vec![in alloc; 0; GUESSES]?,
+            last: vec![in alloc; 0; guesses]?,
         })
     }
 
-    // The place of a key.
-    fn place(key: u32) -> usize {
-        key as usize % GUESSES
+    // The place of a key: its bits are spread over all (the golden ratio, times 2^32).
+    fn place(&self, key: u32) -> usize {
+        let spread = key.wrapping_mul(0x9E37_79B9) >> 12;
+        spread as usize & self.last.len().wrapping_sub(1)
     }
 
     fn get(&self, key: u32) -> u32 {
-        match self.last.get(Guesses::place(key)) {
+        match self.last.get(self.place(key)) {
             Some(number) => *number,
             None => 0,
         }
     }
 
     fn set(&mut self, key: u32, number: u32) {
-        match self.last.get_mut(Guesses::place(key)) {
+        let place = self.place(key);
+        match self.last.get_mut(place) {
             Some(last) => *last = number,
             None => {}
         }

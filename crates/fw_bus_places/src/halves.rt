@@ -95,7 +95,7 @@ impl Places {
         let from = told_apart(now);
         let rest = keep_rest(&mut self.rests, from.rest, asks, m)?;
         let was = number_at(from.controllers, usize::from(device));
-        let key = from.wire.wrapping_mul(31).wrapping_add(was);
+        let key = from.wire.wrapping_mul(0x1_0000).wrapping_add(was);
         let wire = keep_guessed(&mut self.letters, &mut self.requests, key, &m.wire)?;
         let count = u32::from(m.devices.count());
         out.clear();

@@ -3,7 +3,7 @@
 ghost use Rattle.std.specs.Prelude.{◌≡◌, [], IfOk, OnOk};
 ghost use Rattle.fw_bus_places.specs.Places.{IsPlace, IsWider};
 
-use crate::guesses::{Guesses, keep_all_guessed};
+use crate::guesses::{FEW_GUESSES, Guesses, MANY_GUESSES, keep_all_guessed};
 use crate::numbers::{PREFIX, number_at, numbers_from};
 use crate::rest::Rest;
 use fw_async::Letters;
@@ -41,10 +41,10 @@ impl Places {
             letters: Table::new(alloc)?,
             nodes: Table::new(alloc)?,
             controllers: Table::new(alloc)?,
-            turns: Guesses::new(alloc)?,
-            requests: Guesses::new(alloc)?,
-            next_nodes: Guesses::new(alloc)?,
-            next_controllers: Guesses::new(alloc)?,
+            turns: Guesses::new(alloc, FEW_GUESSES)?,
+            requests: Guesses::new(alloc, MANY_GUESSES)?,
+            next_nodes: Guesses::new(alloc, FEW_GUESSES)?,
+            next_controllers: Guesses::new(alloc, FEW_GUESSES)?,
         })
     }
 
@@ -57,7 +57,8 @@ impl Places {
     {
         let rest = self.rests.keep(number_at(near, 0), m)?;
         let reel = self.reels.keep(number_at(near, 1), &m.reel)?;
-        let wire = self.letters.keep(number_at(near, 2), &m.wire)?;
+        // A bus reset leaves no request outstanding, and candidates mostly have none: then the two are kept under one number.
+        let wire = self.letters.keep(number_at(near, 3), &m.wire)?;
         let bids = self.letters.keep(number_at(near, 3), &m.bids)?;
         let count = m.devices.count();
         out.clear();

@@ -1,8 +1,12 @@
-ghost use Rattle.std.specs.Prelude.{◌≡◌, ◌<◌, ◌≤◌, ◌^◌, ℕ, IfOk, IsTrue, Some, false, length, slice_index_or};
+ghost use Rattle.std.specs.Prelude.{◌≡◌, ◌<◌, ◌≤◌, ◌^◌, [], ℕ, IsTrue, Some, false, length, slice_index_or};
 ghost use Rattle.fw_model_run.specs.State.{State, first_state, living};
 ghost use Rattle.fw_model_run.specs.Good.{IsGood};
 ghost use Rattle.fw_model_run.specs.HalfSteps.{is_busy_at, is_unsettled};
-ghost use Rattle.fw_devices.specs.Network.{is_node, node_at};
+ghost use Rattle.fw_model_run.specs.Elections.{no_election};
+ghost use Rattle.fw_cmp.specs.Losses.{first_listening};
+ghost use Rattle.fw_devices.specs.Network.{is_node, no_devices, node_at};
+ghost use Rattle.fw_bus_state.specs.Candidates.{HasElection};
+ghost use Rattle.fw_bus_state.specs.Tables.{IsTable};
 ghost use Rattle.fw_bus_state.specs.Stands.{StandsFor, IsReady, is_linked_in, is_living_in, living_in, read_in};
 
 use crate::candidates::Candidates;
@@ -13,7 +17,6 @@ use fw_cmp::Directory;
 use fw_csr::{REGISTER_SPACE, Reply};
 use fw_devices::Devices;
 use fw_dub::Reel;
-use std::alloc::{AllocError, Global};
 
 /// What a bus keeps: no account and no entries.
 #[derive(Drop)]
@@ -46,16 +49,22 @@ pub struct Machine {
 }
 
 impl Machine {
-    /// A bus without a device, at cycle 0.
-    pub fn new(alloc: Global) -> Result<Machine, AllocError>
-        ensures { IfOk result (λ m. StandsFor m first_state) }
+    /// A bus without a device, at cycle 0, of what takes memory, as it was made. That it cannot fail spares the stack two copies of the
+    /// requests, 34 KB each.
+    #[inline(always)]
+    pub fn new(
+        devices: Devices,
+        controllers: Controllers,
+        candidates: Candidates,
+        reel: Reel,
+    ) -> Machine
+        requires devices { devices ≡ no_devices }
+        requires controllers { IsTable controllers 0 (λ d. first_listening) (λ d. false) }
+        requires candidates { HasElection candidates 0 no_election }
+        requires reel { reel ≡ [] }
+        ensures { StandsFor result first_state }
     {
-        // What takes memory comes first: if there is none, little has to be given back.
-        let devices = Devices::new(alloc)?;
-        let controllers = Controllers::new(alloc)?;
-        let candidates = Candidates::new(alloc)?;
-        let reel = Reel::new(alloc)?;
-        Ok(Machine {
+        Machine {
             devices,
             controllers,
             wire: Wire::new(),
@@ -74,7 +83,7 @@ impl Machine {
             bids: Wire::new(),
             tied: None,
             reel,
-        })
+        }
     }
 
     /// Whether the device is on the bus.

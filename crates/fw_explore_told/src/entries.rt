@@ -81,6 +81,7 @@ fn shown_in(body: &[u8]) -> ShownEntry
 }
 
 /// What is told of an entry, by its bytes.
+#[inline(always)]
 pub(crate) fn told_in(entry: &[u8]) -> Option<ToldEntry>
     requires { 16 ≤ length entry.now }
     ensures { (epoch : ℕ) (t : Timed) → TimedFits t → entry.now ≡ entry_bytes Two epoch t → result ≡ first_of (told_in t.what) }

@@ -27,6 +27,9 @@ pub enum ToldEntry {
 pub struct Past {
     done: [bool; MOST_MOVERS],
     said: Vec<ToldEntry>,
+    // Numbers by which most pasts differ: of the lines, and of what is told of. They only make a past found sooner.
+    done_mark: u32,
+    said_mark: u64,
 }
 
 impl Model for Past {
@@ -48,6 +51,8 @@ impl Past {
         Past {
             done: [false; MOST_MOVERS],
             said: Vec::new(alloc),
+            done_mark: 0,
+            said_mark: 0,
         }
     }
 
@@ -75,6 +80,8 @@ impl Past {
         Ok(Past {
             done: self.done,
             said,
+            done_mark: self.done_mark,
+            said_mark: self.said_mark,
         })
     }
 
@@ -84,6 +91,7 @@ impl Past {
         ensures { self.new ≡ record self.old { done = slice_set self.old.done mover true } }
     {
         self.done[mover] = true;
+        self.done_mark |= 1 << mover;
     }
 
     /// Entries were written, of version 2, whatever the epoch before them. An error says that memory ran out.
@@ -92,7 +100,9 @@ impl Past {
             → OnOk result (self.new.said ≡ self.old.said ++ told_entries out) }
         ensures done { self.new.done ≡ self.old.done }
     {
-        tell_in(&mut self.said, bytes)
+        tell_in(&mut self.said, bytes)?;
+        self.said_mark = said_mark(self.said.as_slice());
+        Ok(())
     }
 }
 
@@ -204,6 +214,9 @@ impl Part for Past {
     }
 
     fn is_of(&self, past: &Past) -> bool {
+        if self.done_mark != past.done_mark || self.said_mark != past.said_mark {
+            return false;
+        }
         if !same_done(&self.done, &past.done) {
             return false;
         }
@@ -211,15 +224,17 @@ impl Part for Past {
     }
 
     fn mark(past: &Past) -> u64 {
-        let mut mark: u64 = 0;
-        for done in &past.done {
-            mark = mixed(mark, u32::from(*done));
-        }
-        for told in &past.said {
-            mark = mixed(mark, told_mark(*told));
-        }
-        mark
+        mixed(past.said_mark, past.done_mark)
     }
+}
+
+// A number by which most lists of what is told of differ.
+fn said_mark(said: &[ToldEntry]) -> u64 {
+    let mut mark: u64 = 0;
+    for told in said {
+        mark = mixed(mark, told_mark(*told));
+    }
+    mark
 }
 
 // A number by which most of what is told of differs.

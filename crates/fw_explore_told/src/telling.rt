@@ -13,6 +13,9 @@ use fw_log_explain::{put_event, put_outcome, put_shown};
 use fw_log_names::Pairs;
 use std::alloc::AllocError;
 
+/// Most lines of what is told of take fewer bytes.
+const LINE_ROOM: usize = 64;
+
 /// Of whom it is told.
 #[derive(Clone, Copy)]
 pub(crate) enum Whose {
@@ -162,6 +165,7 @@ fn end_of(said: &[ToldEntry]) -> u8
 pub fn put_said(out: &mut Vec<u8>, pairs: &Pairs, said: &[ToldEntry]) -> Result<(), AllocError>
     ensures { OnOk result (out.new.items ≡ out.old.items ++ said_all said.now) }
 {
+    out.reserve(said.len().saturating_mul(LINE_ROOM))?;
     for device in 0..end_of(said) {
         put_device(out, pairs, said, device)?;
     }

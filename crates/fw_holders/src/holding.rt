@@ -1,9 +1,7 @@
 //! What is held with a channel.
 
-ghost use Rattle.std.specs.Prelude.{◌≡◌, ◌<◌, ◌≤◌, ◌-◌, ℕ, length, None, IsTrue};
-ghost use Rattle.std.specs.Int.{bit_at};
-ghost use Rattle.fw_model_account.specs.Account.{Account, is_open};
-ghost use Rattle.fw_plug.specs.Words.{flag};
+ghost use Rattle.std.specs.Prelude.{◌≡◌, ◌<◌, ◌≤◌, ℕ, length, None, IsTrue};
+ghost use Rattle.fw_model_account.specs.Account.{Account};
 ghost use Rattle.fw_account_tables.specs.Stands.{Stands, StandsFor, place, continues_at, reclaimable_at, flow_of, charge_at, allocation_of};
 ghost use Rattle.fw_holders.specs.Held.{holding_of, holding, unallocated};
 
@@ -106,27 +104,6 @@ fn next_reclaimed(tables: &Tables, from: usize) -> usize
     CHANNELS
 }
 
-// CHANNELS_AVAILABLE_HI in the upper 32 bits, LO in the lower: bit 63 - c is 1 if channel c is open.
-#[inline(always)]
-fn open_channels(tables: &Tables) -> u64
-    requires stands { Stands tables.now }
-    ensures { (l : Account) (ch : ℕ) → StandsFor tables.now l → ch < 64 → bit_at result (63 - ch) ≡ flag (is_open l.withheld l.allocations ch) }
-{
-    (u64::from(tables.high) << 32) + u64::from(tables.low)
-}
-
-// The channel after the last that is not open; 64 if all are.
-#[inline(always)]
-fn end_of_used(word: u64) -> usize
-    ensures within { result ≤ 64 }
-    ensures ones { (ch : ℕ) → result ≤ ch → ch < 64 → bit_at word (63 - ch) ≡ 1 }
-{
-    if word == u64::MAX {
-        return CHANNELS;
-    }
-    CHANNELS - word.trailing_ones() as usize
-}
-
 /// A channel from which on none is held. Most of the last channels are free.
 #[inline(always)]
 pub(crate) fn end_of_taken(tables: &Tables) -> usize
@@ -137,7 +114,7 @@ pub(crate) fn end_of_taken(tables: &Tables) -> usize
     if tables.reclaiming {
         return CHANNELS;
     }
-    end_of_used(open_channels(tables))
+    tables.end_of_used()
 }
 
 /// The first channel from this one on with which something may be held, if none is from `end` on; 64 if there is none. Most are free.

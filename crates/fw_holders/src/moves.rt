@@ -113,6 +113,7 @@ fn input(p: PlugAt, before: InWord, after: InWord) -> Deed
 }
 
 // What a swap of a register does that is a move.
+#[inline(always)]
 fn deed(register: Register, swap: Swap) -> Option<Deed>
     ensures { result ≡ word_deed (register_named register) swap.argument swap.new }
 {

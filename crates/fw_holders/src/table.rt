@@ -120,20 +120,13 @@ fn put_judged(text: &mut Vec<u8>, judged: &Judged) -> Result<(), AllocError>
     put_word(text, "\n")
 }
 
-// Appends a number of units.
-fn put_number_of(text: &mut Vec<u8>, units: u32) -> Result<(), AllocError>
-    ensures { OnOk result (text.new.items ≡ text.old.items ++ decimal units) }
-{
-    put_number(text, u64::from(units))
-}
-
 // Appends the units that are left.
 #[tactic(auto, unfolding(crate::specs::Table::left_line))]
 fn put_left(text: &mut Vec<u8>, units: u32) -> Result<(), AllocError>
     ensures { OnOk result (text.new.items ≡ text.old.items ++ left_line units) }
 {
     put_word(text, "left ")?;
-    put_number_of(text, units)?;
+    put_number(text, u64::from(units))?;
     put_word(text, " of 4915 units\n")
 }
 

@@ -1,5 +1,4 @@
 pub mod Common
-pub mod Channels
 pub mod Requests
 pub mod Seconds
 pub mod Orphans

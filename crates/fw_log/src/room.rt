@@ -18,19 +18,18 @@ impl ReadBuffers {
     pub fn new(alloc: Global) -> Result<ReadBuffers, AllocError> {
         Ok(ReadBuffers {
             bytes: Box::new(alloc, SplitEntry::new())?,
-            reset: Box::new(alloc, no_reset())?,
+            reset: Box::new(
+                alloc,
+                ResetEntry {
+                    epoch: 0,
+                    root: 0,
+                    manager: None,
+                    initiator: 0,
+                    nodes: NodeList::new(),
+                    ids: SelfIds::new(),
+                },
+            )?,
             latest: RightBody::new(),
         })
-    }
-}
-
-fn no_reset() -> ResetEntry {
-    ResetEntry {
-        epoch: 0,
-        root: 0,
-        manager: None,
-        initiator: 0,
-        nodes: NodeList::new(),
-        ids: SelfIds::new(),
     }
 }

@@ -4,10 +4,12 @@ ghost use Rattle.std.specs.Prelude.{◌≡◌, ◌≤◌, ◌<◌, ◌+◌, ◌+
 ghost use Rattle.fw_log_names.specs.Texts.{hex};
 ghost use Rattle.fw_log_explainer.specs.Lines.{start_line, time_text};
 
-use crate::iso::LINE;
 use crate::write::{write_cycle, write_part, write_row};
 use fw_log_names::Pairs;
 use fw_words::Quadlet;
+
+/// In how many bytes the line of a cycle start is written.
+pub(crate) const START: usize = 192;
 
 // Writes a number in decimal digits, at most four.
 #[inline(always)]
@@ -66,7 +68,7 @@ fn write_time(out: &mut [u8], at: usize, pairs: &Pairs, time: u32) -> usize
 /// Writes the line of a cycle start that a node of the local bus sends to all, and answers where it ends; its cycle has so many bytes of
 /// a row.
 pub(crate) fn write_start(
-    out: &mut [u8; LINE],
+    out: &mut [u8; START],
     row: &[u8; 24],
     size: usize,
     pairs: &Pairs,

@@ -124,6 +124,7 @@ impl Explainer {
     }
 
     /// Appends the line of an isochronous packet of this cycle, as `put` does.
+    #[inline(always)]
     #[tactic(auto, unfolding(fw_log_explain::specs::Lines::what_text))]
     pub fn put_iso_from(&mut self, cycle: u64, p: &IsoPacket) -> Result<(), AllocError>
         ensures line { OnOk result (self.new.text ≡ self.old.text ++ line self.old.requests (record { cycle = cycle; what = Iso p.now })) }

@@ -7,11 +7,11 @@ ghost use Rattle.fw_log_names.specs.Texts.{hex};
 ghost use Rattle.fw_log_explain.specs.Lines.{block_word, format_text, iso_text, stream_text};
 
 use crate::write::{write_cycle, write_part, write_row};
-use fw_cip::{CipHeader, IsoPacket};
+use fw_cip::{Block, CipHeader, IsoPacket};
 use fw_log_names::Pairs;
 
-/// In how many bytes a line is written that is written whole: that of an isochronous packet, or of a cycle start.
-pub(crate) const LINE: usize = 192;
+/// In how many bytes the line of an isochronous packet is written: the cycle has at most 24, and the rest 72.
+pub(crate) const ISO: usize = 96;
 
 // The name of a packet's format, if it has one, and what stands before its time stamp.
 #[inline(always)]
@@ -69,17 +69,34 @@ fn write_presence(out: &mut [u8], at: usize, has: bool) -> usize
     write_row(out, at, *b" empty\n")
 }
 
+/// The same packet.
+#[inline(always)]
+pub(crate) fn same_packet<'a>(p: &IsoPacket<'a>) -> IsoPacket<'a>
+    ensures { result ≡ p.now }
+{
+    let block = match &p.block {
+        Some(block) => Some(Block::new(block.as_slice())),
+        None => None,
+    };
+    IsoPacket {
+        channel: p.channel,
+        sy: p.sy,
+        cip: p.cip,
+        block,
+    }
+}
+
 /// Writes the line of an isochronous packet whose format has a name, and answers where it ends; its cycle has so many bytes of a row.
 #[inline(always)]
 pub(crate) fn write_iso(
-    out: &mut [u8; LINE],
+    out: &mut [u8; ISO],
     row: &[u8; 24],
     size: usize,
     pairs: &Pairs,
     p: &IsoPacket,
 ) -> Option<usize>
     requires { size ≤ 24 }
-    ensures { IfSome result (λ end. (end ≤ 192) × (take end out.new ≡ take size row.now ++ (iso_text p.now ++ codes "\n"))) }
+    ensures { IfSome result (λ end. (end ≤ 96) × (take end out.new ≡ take size row.now ++ (iso_text p.now ++ codes "\n"))) }
 {
     let words = format_of(&p.cip)?;
     let at = write_cycle(out, row, size);

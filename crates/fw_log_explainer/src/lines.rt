@@ -5,11 +5,12 @@ ghost use Rattle.fw_log_explain.specs.Lines.{head_text, iso_text, line};
 ghost use Rattle.fw_log_explain.specs.Resets.{epoch_text};
 ghost use Rattle.fw_log_explainer.specs.Lines.{time_text, usual_line};
 
-use crate::cycle_start::write_start;
-use crate::iso::{LINE, write_iso};
+use crate::cycle_start::{START, write_start};
+use crate::iso::{ISO, same_packet, write_iso};
 use crate::latest::LatestReset;
 use crate::memo::Memo;
 use crate::prefix::{PREFIX, caller_of, nodes_of, write_prefix};
+use crate::write::put_row;
 use fw_async::Head;
 use fw_cip::IsoPacket;
 use fw_log_entry::Timed;
@@ -32,7 +33,8 @@ pub(crate) struct Lines {
     memo: Memo,
     // What is written of a line before it is appended.
     prefix: [u8; PREFIX],
-    line: [u8; LINE],
+    iso: [u8; ISO],
+    start: [u8; START],
 }
 
 impl Model for Lines {
@@ -53,7 +55,8 @@ impl Lines {
             pairs: Pairs::new(),
             memo: Memo::new(alloc)?,
             prefix: [0; PREFIX],
-            line: [0; LINE],
+            iso: [0; ISO],
+            start: [0; START],
         })
     }
 
@@ -98,7 +101,7 @@ impl Lines {
         self.cycle.set(cycle);
         let (row, size) = self.cycle.row();
         let end = write_prefix(&mut self.prefix, row, size, nodes, head.tl);
-        self.text.extend_from_slice(&self.prefix[..end])
+        put_row(&mut self.text, &self.prefix, end)
     }
 
     // Appends the line of a usual packet.
@@ -131,7 +134,7 @@ impl Lines {
         self.cycle.set(cycle);
         let (row, size) = self.cycle.row();
         let end = write_start(
-            &mut self.line,
+            &mut self.start,
             row,
             size,
             &self.pairs,
@@ -139,22 +142,33 @@ impl Lines {
             head.tl,
             time,
         );
-        self.text.extend_from_slice(&self.line[..end])?;
+        self.text.extend_from_slice(&self.start[..end])?;
         Ok(true)
     }
 
+    // Appends the line of an isochronous packet whose format has no name. The packet is given by value, so that of others what a line
+    // has no use for is not put into memory.
+    #[cold]
+    #[inline(never)]
+    fn put_other_iso(&mut self, cycle: u64, p: IsoPacket) -> Result<(), AllocError>
+        ensures { OnOk result (self.new ≡ self.old ++ (decimal cycle ++ codes " " ++ iso_text p.entry ++ codes "\n")) }
+    {
+        self.put_cycle(cycle)?;
+        put_iso(&mut self.text, &self.pairs, &p)?;
+        put_word(&mut self.text, "\n")
+    }
+
     // Appends the line of an isochronous packet.
+    #[inline(always)]
     pub(crate) fn put_iso(&mut self, cycle: u64, p: &IsoPacket) -> Result<(), AllocError>
         ensures { OnOk result (self.new ≡ self.old ++ (decimal cycle ++ codes " " ++ iso_text p.now ++ codes "\n")) }
     {
         self.cycle.set(cycle);
         let (row, size) = self.cycle.row();
-        if let Some(end) = write_iso(&mut self.line, row, size, &self.pairs, p) {
-            return self.text.extend_from_slice(&self.line[..end]);
+        if let Some(end) = write_iso(&mut self.iso, row, size, &self.pairs, p) {
+            return put_row(&mut self.text, &self.iso, end);
         }
-        self.put_cycle(cycle)?;
-        put_iso(&mut self.text, &self.pairs, p)?;
-        put_word(&mut self.text, "\n")
+        self.put_other_iso(cycle, same_packet(p))
     }
 
     // Appends the line of a bus reset that is as the latest, but for its epoch.

@@ -1,6 +1,8 @@
 //! Pieces of a line, written in place.
 
-ghost use Rattle.std.specs.Prelude.{◌≡◌, ◌≤◌, ◌+◌, ◌++◌, decimal, length, take};
+ghost use Rattle.std.specs.Prelude.{◌≡◌, ◌≤◌, ◌+◌, ◌++◌, OnOk, decimal, length, take};
+
+use std::alloc::AllocError;
 
 /// Writes bytes over those from `at` on, and answers where they end.
 #[inline(always)]
@@ -56,4 +58,20 @@ pub(crate) fn write_cycle(out: &mut [u8], row: &[u8; 24], size: usize) -> usize
 {
     out[..24].copy_from_slice(row);
     size
+}
+
+/// Appends the first bytes of a row. All are copied, and the rest is taken off again: that takes less than to copy so many.
+#[inline(always)]
+pub(crate) fn put_row<const N: usize>(
+    text: &mut Vec<u8>,
+    row: &[u8; N],
+    size: usize,
+) -> Result<(), AllocError>
+    requires { size ≤ N }
+    ensures { OnOk result (text.new.items ≡ text.old.items ++ take size row.now) }
+{
+    text.extend_from_slice(row)?;
+    let over = N - size;
+    text.truncate(text.len() - over);
+    Ok(())
 }

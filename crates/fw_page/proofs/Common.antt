@@ -14,6 +14,8 @@ pub use Rattle.fw_page.specs.State.{Asks, State, TextAndState, becomes, then_do,
 pub use Rattle.fw_page.specs.Streams.{channel_row}
 pub use Rattle.fw_page.specs.declared.progress.Deferred.TheVariants.{Nothing as KeepsNothing, Request as KeepsRequest, Run as KeepsRun}
 pub use Rattle.fw_page.specs.declared.progress.Progress.{Progress}
+pub use Rattle.fw_page_kept.specs.KeptPackets.{IsKept}
+pub use Rattle.fw_page_kept.specs.declared.kept_packet.KeptPacket.{KeptPacket}
 pub use Rattle.fw_page_phrases.specs.declared.request.Request.{Request}
 pub use Rattle.fw_page_phrases.specs.declared.run.Run.{Run}
 pub use Rattle.fw_page_phrases.specs.declared.standing.OutstandingRequest.{OutstandingRequest}

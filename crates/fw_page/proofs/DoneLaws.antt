@@ -1,5 +1,5 @@
 -- What a method does if the call at its end is done.
-use Rattle.fw_page.proofs.Common.{◌≡◌, ℕ, ◌<◌, ◌==◌, Bool, true, false, List, ◌++◌, Option, Some, None, Result, if◌then◌else◌, refl, ap, subst, sym, arith, OnOk, Spells, Packet, Request, KeepsNothing}
+use Rattle.fw_page.proofs.Common.{◌≡◌, ℕ, ◌<◌, ◌==◌, Bool, true, false, List, ◌++◌, Option, Some, None, Result, if◌then◌else◌, refl, ap, subst, sym, arith, OnOk, IsKept, Packet, Request, KeepsNothing}
 use Rattle.fw_page.proofs.Common.{KeepsRequest, KeepsRun, Progress, State, TextAndState, then_do, with_entry, row, Prefix, exchange, Shows, Moves, three, put_as}
 use Rattle.std.proofs.Common.{Ok, Err}
 use Rattle.fw_log_entry.specs.declared.codes.event.TheConstants as Codes
@@ -61,7 +61,7 @@ joined_done (Ok v) cycle joins a b x y e d = joined_no cycle joins a b x y e d
 joined_done (Err v) cycle joins a b x y e d = tt
 
 pub alone_done : {T E : Type 0} (r : Result T E) (a mid b : Progress) (cycle number : ℕ) (q : Request) (x y : List ℕ) → a.held ≡ KeepsRequest cycle number q → mid ≡ record a { held = KeepsNothing }
-    → ((p : Packet) → Spells p a.body.items → OnOk r (Moves (alone cycle number q p) mid b x y)) → OnOk r (Moves release a b x y)
+    → ((p : Packet) → IsKept p a.kept → OnOk r (Moves (alone cycle number q p) mid b x y)) → OnOk r (Moves release a b x y)
 alone_done (Ok v) a mid b cycle number q x y asks is each = release_asks a mid b cycle number q x y asks is each
 alone_done (Err v) a mid b cycle number q x y asks is each = tt
 
@@ -106,7 +106,7 @@ lone_done (Ok v) cycle what p a c x z is none d = subst (λ (w : Entry). Moves (
 lone_done (Err v) cycle what p a c x z is none d = tt
 
 pub exchange_done : {T E : Type 0} (r : Result T E) (cycle : ℕ) (what : Entry) (p : Packet) (q : Request) (number : ℕ) (a c : Progress) (x z : List ℕ) → what ≡ Async p
-    → ((st : State) → Shows st a → ◌≡◌ {A = Option (Request × ℕ)} (Some (q, number)) (held_for cycle p st.held)) → ((asking : Packet) → Spells asking a.body.items
+    → ((st : State) → Shows st a → ◌≡◌ {A = Option (Request × ℕ)} (Some (q, number)) (held_for cycle p st.held)) → ((asking : Packet) → IsKept asking a.kept
     → OnOk r (Moves (exchange cycle number q asking p) a c x z))
     → OnOk r (Moves (piece_of cycle what) a c x z)
 exchange_done (Ok v) cycle what p q number a c x z is some each = subst (λ (w : Entry). Moves (piece_of cycle w) a c x z) (sym is) (packet_answers cycle p q number a c x z some each)

@@ -1,13 +1,19 @@
 -- The account takes an entry: what is drawn of it and of the nodes stays as it was, unless the progress has it that it has moved.
-use Rattle.fw_page.proofs.Common.{◌≡◌, ℕ, Bool, true, false, List, Option, Some, None, refl, ap, subst, sym, ◌∙◌, NodeRow, Account, Lives, Painted, Progress, State, with_entry, Shows, painted_of}
+use Rattle.fw_page.proofs.Common.{◌≡◌, ℕ, Bool, true, false, List, Option, Some, None, refl, ap, subst, sym, ◌∙◌, NodeRow, Account, Lives, Packet, Painted, Progress, Spells, State, with_entry, Shows, painted_of}
 use Rattle.std.proofs.Common.{◌||◌}
+use Rattle.fw_log_entry.specs.Log.{Fits, body}
 use Rattle.fw_log_entry.specs.declared.entry.Entry.{Entry}
+use Rattle.fw_log_entry.specs.declared.entry.Entry.TheVariants.{Async}
 use Rattle.fw_page_phrases.specs.declared.note.AccountStop.{AccountStop}
 use Rattle.fw_page_scene.specs.Beside.{IsBeside, has_stopped}
 use Rattle.fw_page_scene.specs.Followed.{follow}
 use Rattle.fw_page_scene.specs.Laws.{StaysDrawn}
 use Rattle.fw_page.specs.State.{stops_or}
 use Rattle.fw_page.specs.Sheets.{IsDrawn}
+
+-- the bytes of an entry that is a packet are the packet's
+pub spelled : (what : Entry) (p : Packet) (bytes : List ℕ) → what ≡ Async p → Fits what → bytes ≡ body what → Spells p bytes
+spelled what p bytes is fits same = record { fits = subst (λ (e : Entry). Fits e) is fits; same = sym (same ∙ ap body is) }
 
 -- whether a row is due that tells that the account stops
 due_is : (due : Bool) (before after : Option AccountStop) → (due || has_stopped before after) ≡ stops_or due before after

@@ -8,7 +8,7 @@ use Rattle.fw_page.proofs.Common.{
   ap,
   subst,
   sym,
-  Spells,
+  IsKept,
   Packet,
   Request,
   Run,
@@ -190,8 +190,8 @@ standing_shown st old new list e k b h = subst (λ (p : Progress). Shows (record
 })
 
 -- a request is held back
-pub asked_shown : (st : State) (old new : Progress) (cycle number asked : ℕ) (q : Request) (p : Packet) → new ≡ record old { body = new.body; held = KeepsRequest cycle number q } → asked ≡ number
-    → Spells p new.body.items → Shows st old
+pub asked_shown : (st : State) (old new : Progress) (cycle number asked : ℕ) (q : Request) (p : Packet) → new ≡ record old { kept = new.kept; held = KeepsRequest cycle number q } → asked ≡ number
+    → IsKept p new.kept → Shows st old
     → Shows (record st { held = Asks cycle asked q p }) new
 asked_shown st old new cycle number asked q p e same k h = subst (λ (x : Progress). Shows (record st { held = Asks cycle asked q p }) x) (sym e) (record {
   number = h.number;

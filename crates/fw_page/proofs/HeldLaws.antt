@@ -1,5 +1,5 @@
 -- What is held back: how an entry joins it, and that an answer is to it.
-use Rattle.fw_page.proofs.Common.{◌≡◌, ℕ, ◌==◌, Bool, true, false, List, Option, Some, None, if◌then◌else◌, refl, ap, subst, sym, ◌∙◌, Spells, Packet, Request, Run, KeepsNothing, KeepsRequest}
+use Rattle.fw_page.proofs.Common.{◌≡◌, ℕ, ◌==◌, Bool, true, false, List, Option, Some, None, if◌then◌else◌, refl, ap, subst, sym, ◌∙◌, IsKept, KeptPacket, Packet, Request, Run, KeepsNothing, KeepsRequest}
 use Rattle.fw_page.proofs.Common.{KeepsRun, Progress, State, Asks, then_do, exchange, Shows}
 use Rattle.std.proofs.Common.{◌&&◌}
 use Rattle.fw_async.specs.Heads.{head_of}
@@ -17,39 +17,39 @@ use Rattle.fw_page.specs.Sheets.{KeepsFor}
 
 -- ---- what is kept is what is held back
 
-pub keeps_nothing : (k : Kept) (body : List ℕ) (run : Run) (held : Deferred) → k ≡ KeepsNothing → KeepsFor k body run held → held ≡ Nothing
-keeps_nothing k body run held e h = subst (λ (x : Kept). KeepsFor x body run held) e h
+pub keeps_nothing : (k : Kept) (kept : KeptPacket) (run : Run) (held : Deferred) → k ≡ KeepsNothing → KeepsFor k kept run held → held ≡ Nothing
+keeps_nothing k kept run held e h = subst (λ (x : Kept). KeepsFor x kept run held) e h
 
-pub keeps_run : (k : Kept) (body : List ℕ) (run : Run) (held : Deferred) → k ≡ KeepsRun → KeepsFor k body run held → held ≡ Runs run
-keeps_run k body run held e h = subst (λ (x : Kept). KeepsFor x body run held) e h
+pub keeps_run : (k : Kept) (kept : KeptPacket) (run : Run) (held : Deferred) → k ≡ KeepsRun → KeepsFor k kept run held → held ≡ Runs run
+keeps_run k kept run held e h = subst (λ (x : Kept). KeepsFor x kept run held) e h
 
-request_kept : (cycle number : ℕ) (q : Request) (body : List ℕ) (run : Run) (held : Deferred) → KeepsFor (KeepsRequest cycle number q) body run held
-    → (p : Packet) × Spells p body × (held ≡ Asks cycle number q p)
-request_kept cycle number q body run Nothing h = absurd h
-request_kept cycle number q body run (Asks since asked r p) h = (p, h.3, let a = h.0 in let b = h.1 in let c = h.2 in cc)
-request_kept cycle number q body run (Runs r) h = absurd h
+request_kept : (cycle number : ℕ) (q : Request) (kept : KeptPacket) (run : Run) (held : Deferred) → KeepsFor (KeepsRequest cycle number q) kept run held
+    → (p : Packet) × IsKept p kept × (held ≡ Asks cycle number q p)
+request_kept cycle number q kept run Nothing h = absurd h
+request_kept cycle number q kept run (Asks since asked r p) h = (p, h.3, let a = h.0 in let b = h.1 in let c = h.2 in cc)
+request_kept cycle number q kept run (Runs r) h = absurd h
 
-pub keeps_request : (k : Kept) (cycle number : ℕ) (q : Request) (body : List ℕ) (run : Run) (held : Deferred) → k ≡ KeepsRequest cycle number q → KeepsFor k body run held
-    → (p : Packet) × Spells p body × (held ≡ Asks cycle number q p)
-keeps_request k cycle number q body run held e h = request_kept cycle number q body run held (subst (λ (x : Kept). KeepsFor x body run held) e h)
+pub keeps_request : (k : Kept) (cycle number : ℕ) (q : Request) (kept : KeptPacket) (run : Run) (held : Deferred) → k ≡ KeepsRequest cycle number q → KeepsFor k kept run held
+    → (p : Packet) × IsKept p kept × (held ≡ Asks cycle number q p)
+keeps_request k cycle number q kept run held e h = request_kept cycle number q kept run held (subst (λ (x : Kept). KeepsFor x kept run held) e h)
 
--- the bytes that are kept are those of the request that is held back
-pub asks_spelled : (k : Kept) (body : List ℕ) (run : Run) (held : Deferred) (since number : ℕ) (q : Request) (p : Packet) → held ≡ Asks since number q p → KeepsFor k body run held → Spells p body
-asks_spelled k body run held since number q p is h = go k (subst (λ (x : Deferred). KeepsFor k body run x) is h)
+-- the packet that is kept is that of the request that is held back
+pub asks_kept : (k : Kept) (kept : KeptPacket) (run : Run) (held : Deferred) (since number : ℕ) (q : Request) (p : Packet) → held ≡ Asks since number q p → KeepsFor k kept run held → IsKept p kept
+asks_kept k kept run held since number q p is h = go k (subst (λ (x : Deferred). KeepsFor k kept run x) is h)
   where
-    go : (k : Kept) → KeepsFor k body run (Asks since number q p) → Spells p body
+    go : (k : Kept) → KeepsFor k kept run (Asks since number q p) → IsKept p kept
     go KeepsNothing h = absurd (let z : ⊥ = cc in z)
     go (KeepsRequest c m r) h = h.3
     go KeepsRun h = absurd (let z : ⊥ = cc in z)
 
 -- ---- a run takes an entry
 
-kept_taken : (k : Kept) (body : List ℕ) (run : Run) (take : Run → Run) (held : Deferred) → KeepsFor k body run held → KeepsFor k body (take run) (taken take held)
-kept_taken KeepsNothing body run take held h = ap (taken take) h
-kept_taken (KeepsRequest cycle number q) body run take Nothing h = absurd h
-kept_taken (KeepsRequest cycle number q) body run take (Asks since asked r p) h = h
-kept_taken (KeepsRequest cycle number q) body run take (Runs r) h = absurd h
-kept_taken KeepsRun body run take held h = ap (taken take) h
+kept_taken : (k : Kept) (kept : KeptPacket) (run : Run) (take : Run → Run) (held : Deferred) → KeepsFor k kept run held → KeepsFor k kept (take run) (taken take held)
+kept_taken KeepsNothing kept run take held h = ap (taken take) h
+kept_taken (KeepsRequest cycle number q) kept run take Nothing h = absurd h
+kept_taken (KeepsRequest cycle number q) kept run take (Asks since asked r p) h = h
+kept_taken (KeepsRequest cycle number q) kept run take (Runs r) h = absurd h
+kept_taken KeepsRun kept run take held h = ap (taken take) h
 
 pub taken_shown : (st : State) (old new : Progress) (take : Run → Run) → new ≡ record old { run = new.run } → new.run.value ≡ take old.run.value → Shows st old → Shows (held_run take st) new
 taken_shown st old new take is k h = subst (λ (p : Progress). Shows (held_run take st) p) (sym is) (record {
@@ -73,28 +73,28 @@ taken_shown st old new take is k h = subst (λ (p : Progress). Shows (held_run t
   drawn = h.drawn;
 })
   where
-    keeps : KeepsFor old.held old.body.items new.run.value (taken take st.held)
-    keeps = subst (λ (r : Run). KeepsFor old.held old.body.items r (taken take st.held)) (sym k) (kept_taken old.held old.body.items old.run.value take st.held h.keeps)
+    keeps : KeepsFor old.held old.kept new.run.value (taken take st.held)
+    keeps = subst (λ (r : Run). KeepsFor old.held old.kept r (taken take st.held)) (sym k) (kept_taken old.held old.kept old.run.value take st.held h.keeps)
 
 -- ---- which entry joins it
 
-pub run_joins_start : (k : Kept) (body : List ℕ) (run : Run) (held : Deferred) (cycle source : ℕ) → k ≡ KeepsRun → KeepsFor k body run held
+pub run_joins_start : (k : Kept) (kept : KeptPacket) (run : Run) (held : Deferred) (cycle source : ℕ) → k ≡ KeepsRun → KeepsFor k kept run held
     → start_joins cycle source (Runs run) ≡ start_joins cycle source held
-run_joins_start k body run held cycle source e h = ap (start_joins cycle source) (sym (keeps_run k body run held e h))
+run_joins_start k kept run held cycle source e h = ap (start_joins cycle source) (sym (keeps_run k kept run held e h))
 
-pub run_joins_packet : (k : Kept) (body : List ℕ) (run : Run) (held : Deferred) (cycle : ℕ) (p : IsoPacket) → k ≡ KeepsRun → KeepsFor k body run held
+pub run_joins_packet : (k : Kept) (kept : KeptPacket) (run : Run) (held : Deferred) (cycle : ℕ) (p : IsoPacket) → k ≡ KeepsRun → KeepsFor k kept run held
     → packet_joins cycle p (Runs run) ≡ packet_joins cycle p held
-run_joins_packet k body run held cycle p e h = ap (packet_joins cycle p) (sym (keeps_run k body run held e h))
+run_joins_packet k kept run held cycle p e h = ap (packet_joins cycle p) (sym (keeps_run k kept run held e h))
 
-pub none_joins_start : (k : Kept) (body : List ℕ) (run : Run) (held : Deferred) (cycle source : ℕ) → (k ≡ KeepsRun → ⊥) → KeepsFor k body run held → false ≡ start_joins cycle source held
-none_joins_start KeepsNothing body run held cycle source n h = sym (ap (start_joins cycle source) h)
-none_joins_start (KeepsRequest c m q) body run held cycle source n h = let w = request_kept c m q body run held h in sym (ap (start_joins cycle source) w.2)
-none_joins_start KeepsRun body run held cycle source n h = absurd (n refl)
+pub none_joins_start : (k : Kept) (kept : KeptPacket) (run : Run) (held : Deferred) (cycle source : ℕ) → (k ≡ KeepsRun → ⊥) → KeepsFor k kept run held → false ≡ start_joins cycle source held
+none_joins_start KeepsNothing kept run held cycle source n h = sym (ap (start_joins cycle source) h)
+none_joins_start (KeepsRequest c m q) kept run held cycle source n h = let w = request_kept c m q kept run held h in sym (ap (start_joins cycle source) w.2)
+none_joins_start KeepsRun kept run held cycle source n h = absurd (n refl)
 
-pub none_joins_packet : (k : Kept) (body : List ℕ) (run : Run) (held : Deferred) (cycle : ℕ) (p : IsoPacket) → (k ≡ KeepsRun → ⊥) → KeepsFor k body run held → false ≡ packet_joins cycle p held
-none_joins_packet KeepsNothing body run held cycle p n h = sym (ap (packet_joins cycle p) h)
-none_joins_packet (KeepsRequest c m q) body run held cycle p n h = let w = request_kept c m q body run held h in sym (ap (packet_joins cycle p) w.2)
-none_joins_packet KeepsRun body run held cycle p n h = absurd (n refl)
+pub none_joins_packet : (k : Kept) (kept : KeptPacket) (run : Run) (held : Deferred) (cycle : ℕ) (p : IsoPacket) → (k ≡ KeepsRun → ⊥) → KeepsFor k kept run held → false ≡ packet_joins cycle p held
+none_joins_packet KeepsNothing kept run held cycle p n h = sym (ap (packet_joins cycle p) h)
+none_joins_packet (KeepsRequest c m q) kept run held cycle p n h = let w = request_kept c m q kept run held h in sym (ap (packet_joins cycle p) w.2)
+none_joins_packet KeepsRun kept run held cycle p n h = absurd (n refl)
 
 -- ---- a packet
 
@@ -129,23 +129,23 @@ lone_by cycle p (Asks since number q asking) st e = go ((since == cycle) && is_a
     go false e = refl
 
 -- the request that is held back, if the packet answers it
-asks_held_for : (k : Kept) (body : List ℕ) (run : Run) (held : Deferred) (asked number : ℕ) (q : Request) (cycle : ℕ) (p : Packet) → k ≡ KeepsRequest asked number q → KeepsFor k body run held
+asks_held_for : (k : Kept) (kept : KeptPacket) (run : Run) (held : Deferred) (asked number : ℕ) (q : Request) (cycle : ℕ) (p : Packet) → k ≡ KeepsRequest asked number q → KeepsFor k kept run held
     → ◌≡◌ {A = Option (Request × ℕ)} (held_for cycle p held) (if (asked == cycle) && is_answer p (head_of p) q then Some (q, number) else None)
-asks_held_for k body run held asked number q cycle p e h = let w = keeps_request k asked number q body run held e h in ap (held_for cycle p) w.2
+asks_held_for k kept run held asked number q cycle p e h = let w = keeps_request k asked number q kept run held e h in ap (held_for cycle p) w.2
 
-pub asks_answered : (k : Kept) (body : List ℕ) (run : Run) (held : Deferred) (asked number : ℕ) (q : Request) (cycle : ℕ) (p : Packet) → k ≡ KeepsRequest asked number q → KeepsFor k body run held
+pub asks_answered : (k : Kept) (kept : KeptPacket) (run : Run) (held : Deferred) (asked number : ℕ) (q : Request) (cycle : ℕ) (p : Packet) → k ≡ KeepsRequest asked number q → KeepsFor k kept run held
     → ((asked == cycle) && is_answer p (head_of p) q) ≡ true → ◌≡◌ {A = Option (Request × ℕ)} (Some (q, number)) (held_for cycle p held)
-asks_answered k body run held asked number q cycle p e h b = sym (asks_held_for k body run held asked number q cycle p e h ∙ ap (λ x. if x then Some (q, number) else None) b)
+asks_answered k kept run held asked number q cycle p e h b = sym (asks_held_for k kept run held asked number q cycle p e h ∙ ap (λ x. if x then Some (q, number) else None) b)
 
-pub asks_not_answered : (k : Kept) (body : List ℕ) (run : Run) (held : Deferred) (asked number : ℕ) (q : Request) (cycle : ℕ) (p : Packet) → k ≡ KeepsRequest asked number q → KeepsFor k body run held
+pub asks_not_answered : (k : Kept) (kept : KeptPacket) (run : Run) (held : Deferred) (asked number : ℕ) (q : Request) (cycle : ℕ) (p : Packet) → k ≡ KeepsRequest asked number q → KeepsFor k kept run held
     → ((asked == cycle) && is_answer p (head_of p) q) ≡ false → ◌≡◌ {A = Option (Request × ℕ)} None (held_for cycle p held)
-asks_not_answered k body run held asked number q cycle p e h b = sym (asks_held_for k body run held asked number q cycle p e h ∙ ap (λ x. if x then Some (q, number) else None) b)
+asks_not_answered k kept run held asked number q cycle p e h b = sym (asks_held_for k kept run held asked number q cycle p e h ∙ ap (λ x. if x then Some (q, number) else None) b)
 
-pub none_held_for : (k : Kept) (body : List ℕ) (run : Run) (held : Deferred) (cycle : ℕ) (p : Packet) → ((c m : ℕ) (q : Request) → k ≡ KeepsRequest c m q → ⊥) → KeepsFor k body run held
+pub none_held_for : (k : Kept) (kept : KeptPacket) (run : Run) (held : Deferred) (cycle : ℕ) (p : Packet) → ((c m : ℕ) (q : Request) → k ≡ KeepsRequest c m q → ⊥) → KeepsFor k kept run held
     → None ≡ held_for cycle p held
-none_held_for KeepsNothing body run held cycle p n h = sym (ap (held_for cycle p) h)
-none_held_for (KeepsRequest c m q) body run held cycle p n h = absurd (n c m q refl)
-none_held_for KeepsRun body run held cycle p n h = sym (ap (held_for cycle p) h)
+none_held_for KeepsNothing kept run held cycle p n h = sym (ap (held_for cycle p) h)
+none_held_for (KeepsRequest c m q) kept run held cycle p n h = absurd (n c m q refl)
+none_held_for KeepsRun kept run held cycle p n h = sym (ap (held_for cycle p) h)
 
 -- one that answers the request that is held back
 pub exchange_by : (cycle : ℕ) (p : Packet) (held : Deferred) (st : State) (q : Request) (number : ℕ) → ◌≡◌ {A = Option (Request × ℕ)} (Some (q, number)) (held_for cycle p held)

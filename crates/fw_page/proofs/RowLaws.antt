@@ -103,9 +103,10 @@ nodes_shown st old new is e b h = subst (λ (p : Progress). Shows st p) (sym is)
 -- ---- a row is drawn
 
 -- what it leaves
-pub row_left : (st : State) (old drawn painting new : Progress) (lines : List ℕ) → Draws st old drawn lines → IsDrawnNow st drawn painting
-    → new ≡ record painting { lines = new.lines; edge = painting.second; is_moved = false } → new.lines.items ≡ lines → Shows (drawn_now st) new
-row_left st old drawn painting new lines d p is l = subst (λ (x : Progress). Shows (drawn_now st) x) (sym whole) (record {
+pub row_left : (st : State) (old drawn lined painting new : Progress) (lines : List ℕ) → Draws st old drawn lines → lined ≡ record drawn { lines = lined.lines } → lined.lines.items ≡ lines
+    → IsDrawnNow (record st { drawn = record st.drawn { lines = lines_now st } }) lined painting
+    → new ≡ record painting { edge = painting.second; is_moved = false } → Shows (drawn_now st) new
+row_left st old drawn lined painting new lines d e l p is = subst (λ (x : Progress). Shows (drawn_now st) x) (sym whole) (record {
   number = h.number;
   last = h.last;
   begun = h.begun;
@@ -129,8 +130,11 @@ row_left st old drawn painting new lines d p is l = subst (λ (x : Progress). Sh
     h : Shows st drawn
     h = d.shows
 
-    whole : new ≡ record drawn { strip = painting.strip; blank = painting.blank; row_end = painting.row_end; lines = new.lines; edge = drawn.second; is_moved = false }
-    whole = is ∙ ap (λ (x : Progress). record x { lines = new.lines; edge = x.second; is_moved = false }) p.rest
+    whole : new ≡ record drawn { strip = painting.strip; blank = painting.blank; row_end = painting.row_end; lines = lined.lines; edge = drawn.second; is_moved = false }
+    whole =
+        is
+        ∙ (ap (λ (x : Progress). record x { edge = x.second; is_moved = false }) p.rest
+        ∙ ap (λ (x : Progress). record x { strip = painting.strip; blank = painting.blank; row_end = painting.row_end; edge = x.second; is_moved = false }) e)
 
 -- its text
 pub row_said : (st : State) (old drawn : Progress) (prefix : Prefix) (marks words lines : List ℕ) (dot : Option ℕ) (t t1 t2 t3 t4 t5 t6 : List ℕ) → Shows st old → Draws st old drawn lines

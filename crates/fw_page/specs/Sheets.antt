@@ -1,13 +1,14 @@
 -- For which state the progress of a sheet stands, and what methods do (own).
 use Rattle.std.specs.Prelude.{◌≡◌, ℕ, ◌++◌, not, Bool, true, false, List, Option}
 use Rattle.std.specs.Option.{is_some}
-use Rattle.fw_async.specs.Reader.{Spells}
 use Rattle.fw_log_entry.specs.declared.nodes.NodeRow.{NodeRow}
 use Rattle.fw_model_account.specs.Account.{Account}
 use Rattle.fw_page_scene.specs.Bars.{BarsFor}
 use Rattle.fw_page_scene.specs.Beside.{IsBeside}
 use Rattle.fw_page_scene.specs.Lines.{nodes_text}
 use Rattle.fw_page_scene.specs.declared.lives.Lives.{Lives}
+use Rattle.fw_page_kept.specs.KeptPackets.{IsKept}
+use Rattle.fw_page_kept.specs.declared.kept_packet.KeptPacket.{KeptPacket}
 use Rattle.fw_page_phrases.specs.declared.run.Run.{Run}
 use Rattle.fw_page.specs.declared.progress.Deferred.{Deferred as Kept}
 use Rattle.fw_page.specs.declared.progress.Deferred.TheVariants.{Nothing as KeepsNothing, Request as KeepsRequest, Run as KeepsRun}
@@ -17,12 +18,12 @@ use Rattle.fw_page.specs.State.{State, TextAndState, Deferred, Nothing, Asks, Ru
 use Rattle.fw_page_strip.specs.Drawing.{Painted, painted}
 use Rattle.fw_page.specs.Rows.{lines_now, plain_back, drawn_now}
 
--- what is held back: of a request its bytes, of a run the run
-abbrev pub KeepsFor : Kept → List ℕ → Run → Deferred → Type 0
-KeepsFor KeepsNothing body run held = held ≡ Nothing
-KeepsFor (KeepsRequest cycle number request) body run (Asks since asked q p) = (since ≡ cycle) × (asked ≡ number) × (q ≡ request) × Spells p body
-KeepsFor (KeepsRequest cycle number request) body run _ = ⊥
-KeepsFor KeepsRun body run held = held ≡ Runs run
+-- what is held back: of a request its packet, of a run the run
+abbrev pub KeepsFor : Kept → KeptPacket → Run → Deferred → Type 0
+KeepsFor KeepsNothing kept run held = held ≡ Nothing
+KeepsFor (KeepsRequest cycle number request) kept run (Asks since asked q p) = (since ≡ cycle) × (asked ≡ number) × (q ≡ request) × IsKept p kept
+KeepsFor (KeepsRequest cycle number request) kept run _ = ⊥
+KeepsFor KeepsRun kept run held = held ≡ Runs run
 
 -- if nothing has moved since the last row, that left drawn what is drawn now
 abbrev pub DrawsNow : Lives → Option Account → List NodeRow → Painted → List ℕ → Type 0
@@ -48,7 +49,7 @@ pub record Shows (st : State) (s : Progress) : Type 0 where
   pub bars : BarsFor st.nodes st.standing s.bars
   pub beside : IsBeside s.account st.followed
   pub is_due : s.is_due ≡ st.is_due
-  pub keeps : KeepsFor s.held s.body.items s.run.value st.held
+  pub keeps : KeepsFor s.held s.kept s.run.value st.held
   pub lines : s.lines.items ≡ st.drawn.lines
   pub painted : s.strip ≡ painted_of st
   pub edge : s.edge ≡ st.drawn.edge
@@ -70,6 +71,10 @@ Does step old new = Moves step old.progress new.progress old.text.items new.text
 abbrev pub StayNodes : Bool → List ℕ → List ℕ → Type 0
 StayNodes true before now = Unit {0}
 StayNodes false before now = before ≡ now
+
+-- the lines of what is drawn
+abbrev pub lines_of : Progress → List ℕ
+lines_of s = s.nodes.items ++ s.bars.text.items
 
 -- the lines of the state are drawn, and nothing else has changed
 pub record Draws (st : State) (old new : Progress) (drawn : List ℕ) : Type 0 where

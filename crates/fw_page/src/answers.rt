@@ -9,18 +9,24 @@ use std::alloc::AllocError;
 
 impl Sheet {
     ghost use Rattle.std.specs.Prelude.{◌≡◌, OnOk};
-    ghost use Rattle.fw_log_entry.specs.Log.{Fits};
+    ghost use Rattle.fw_log_entry.specs.Log.{Fits, body};
     ghost use Rattle.fw_log_entry.specs.declared.entry.Entry.{Entry as AnEntry};
     ghost use Rattle.fw_page.specs.Requests.{answer};
     ghost use Rattle.fw_page.specs.Sheets.{Does};
 
     /// Adds the row of an answer, to the outstanding request and that it answers, if there is one.
-    pub(crate) fn put_response(&mut self, t: &Timed, p: &Packet) -> Result<(), AllocError>
+    pub(crate) fn put_response(
+        &mut self,
+        t: &Timed,
+        p: &Packet,
+        bytes: &[u8],
+    ) -> Result<(), AllocError>
         requires fits { Fits t.now.what }
         requires is { t.now.what ≡ AnEntry.Async p.now }
+        requires bytes { bytes.now ≡ body t.now.what }
         ensures { OnOk result (Does (answer t.now.cycle p.now) self.old self.new) }
     {
-        let ended = self.progress.end_request(&t.what, p);
+        let ended = self.progress.end_request(&t.what, p, bytes);
         let standing = ended.as_ref();
         let head = head_of(p);
         self.marks.clear();

@@ -14,10 +14,11 @@ impl Sheet {
     ghost use Rattle.fw_async.specs.declared.packet.Packet.{Packet as AnyPacket};
     ghost use Rattle.fw_log_entry.specs.Log.{Fits, body};
     ghost use Rattle.fw_log_entry.specs.declared.entry.Entry.{Entry as AnEntry};
+    ghost use Rattle.fw_page_kept.specs.KeptPackets.{IsKept};
     ghost use Rattle.fw_page.specs.Requests.{asked, alone, exchange};
     ghost use Rattle.fw_page.specs.Sheets.{Does};
 
-    /// A request is outstanding, and is held back with its bytes.
+    /// A request is outstanding, and is held back with its packet.
     pub(crate) fn ask(
         &mut self,
         t: &Timed,
@@ -26,13 +27,13 @@ impl Sheet {
     ) -> Result<(), AllocError>
         requires fits { Fits t.now.what }
         requires bytes { bytes.now ≡ body t.now.what }
+        requires packet { (p : AnyPacket) × (t.now.what ≡ AnEntry.Async p) × Spells p bytes.now }
         ensures { (p : AnyPacket) → t.now.what ≡ AnEntry.Async p → OnOk result (Does (asked t.now.cycle request p) self.old self.new) }
     {
         let progress = &mut self.progress;
         progress.stand(request);
-        progress.follow(&t.what);
-        progress.body.clear();
-        progress.body.extend_from_slice(bytes)?;
+        progress.follow_packet(&t.what, bytes);
+        progress.kept.keep(bytes)?;
         progress.held = Deferred::Request {
             cycle: t.cycle,
             number: progress.number,
@@ -41,14 +42,14 @@ impl Sheet {
         Ok(())
     }
 
-    /// Adds the row of a request that is not answered at once: the one whose bytes are kept.
+    /// Adds the row of a request that is not answered at once: the one whose packet is kept.
     pub(crate) fn put_alone(
         &mut self,
         cycle: u64,
         number: u64,
         request: &Request,
     ) -> Result<(), AllocError>
-        ensures { (p : AnyPacket) → Spells p self.old.progress.body.items → OnOk result (Does (alone cycle number request.now p) self.old self.new) }
+        ensures { (p : AnyPacket) → IsKept p self.old.progress.kept → OnOk result (Does (alone cycle number request.now p) self.old self.new) }
     {
         self.marks.clear();
         self.words.clear();
@@ -58,7 +59,7 @@ impl Sheet {
             &self.progress.columns,
             &request.asked,
         )?;
-        let Some(p) = self.progress.kept_packet() else {
+        let Some(p) = self.progress.kept.packet() else {
             return Ok(());
         };
         put_alone_words(
@@ -79,12 +80,14 @@ impl Sheet {
         &mut self,
         t: &Timed,
         p: &Packet,
+        bytes: &[u8],
         number: u64,
         request: &Request,
     ) -> Result<(), AllocError>
         requires fits { Fits t.now.what }
         requires is { t.now.what ≡ AnEntry.Async p.now }
-        ensures { (asking : AnyPacket) → Spells asking self.old.progress.body.items → OnOk result (Does (exchange t.now.cycle number request.now asking p.now) self.old self.new) }
+        requires bytes { bytes.now ≡ body t.now.what }
+        ensures { (asking : AnyPacket) → IsKept asking self.old.progress.kept → OnOk result (Does (exchange t.now.cycle number request.now asking p.now) self.old self.new) }
     {
         self.marks.clear();
         self.words.clear();
@@ -96,7 +99,7 @@ impl Sheet {
             &request.asked,
             told,
         )?;
-        let Some(asking) = self.progress.kept_packet() else {
+        let Some(asking) = self.progress.kept.packet() else {
             return Ok(());
         };
         put_exchange_words(
@@ -107,7 +110,7 @@ impl Sheet {
             &asking,
             p,
         )?;
-        let _ = self.progress.end_request(&t.what, p);
+        let _ = self.progress.end_request(&t.what, p, bytes);
         self.progress.count_answer(p, request, false);
         let head = self
             .progress

@@ -52,7 +52,7 @@ impl Sheet {
         self.release_in_section()?;
         match Request::by(p) {
             Some(request) => self.ask(t, request, bytes),
-            None => self.put_response(t, p),
+            None => self.put_response(t, p, bytes),
         }
     }
 
@@ -69,7 +69,7 @@ impl Sheet {
         ensures { OnOk result (Does (piece_of t.now.cycle t.now.what) self.old self.new) }
     {
         match self.held_for(t.cycle, p, &head_of(p)) {
-            Some((request, number)) => self.put_exchange(t, p, number, &request),
+            Some((request, number)) => self.put_exchange(t, p, bytes, number, &request),
             None => self.take_lone(t, p, bytes),
         }
     }

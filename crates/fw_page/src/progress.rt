@@ -1,10 +1,11 @@
 //! What the entries that were taken leave for the next ones.
 
 use crate::plain::first_row_end;
-use fw_async::{Head, Packet, read_packet};
+use fw_async::{Head, Packet};
 use fw_log_entry::Entry;
 use fw_log_explain::head_of;
 use fw_page_content::{Counts, RowHead};
+use fw_page_kept::KeptPacket;
 use fw_page_marks::Columns;
 use fw_page_phrases::{OutstandingRequest, Request, Requests, Run, answer_of, made};
 use fw_page_scene::{Account, Bars, Lives};
@@ -16,7 +17,7 @@ use std::alloc::{AllocError, Global};
 pub(crate) enum Deferred {
     /// Nothing.
     Nothing,
-    /// A request, whose answer may be the next entry: its cycle and its number. Its bytes are the `body` beside it.
+    /// A request, whose answer may be the next entry: its cycle and its number. Its packet is what is `kept` beside it.
     Request {
         cycle: u64,
         number: u64,
@@ -45,7 +46,7 @@ pub(crate) struct Progress {
     // The account has stopped, and no row has told it yet.
     pub(crate) is_due: bool,
     pub(crate) held: Deferred,
-    pub(crate) body: Vec<u8>,
+    pub(crate) kept: KeptPacket,
     pub(crate) run: Box<Run>,
     // What is drawn of the nodes or of the account may have changed since the last row.
     pub(crate) is_moved: bool,
@@ -93,7 +94,7 @@ impl Progress {
             account: Account::new(alloc)?,
             is_due: false,
             held: Deferred::Nothing,
-            body: Vec::new(alloc),
+            kept: KeptPacket::new(alloc),
             run: Box::new(alloc, Run::new(0, 0))?,
             is_moved: true,
             nodes: Vec::new(alloc),
@@ -117,14 +118,16 @@ impl Progress {
         self.is_moved |= effect.moves;
     }
 
-    /// The packet whose bytes were kept: those of the request that is held back, if one is.
-    pub(crate) fn kept_packet<'a>(&'a self) -> Option<Packet<'a>>
-        ensures { (p : APacket) → Spells p self.now.body.items → result ≡ Some p }
+    /// The account takes the present entry, which is the packet that these bytes are.
+    pub(crate) fn follow_packet(&mut self, e: &Entry, bytes: &[u8])
+        requires fits { Fits e.now }
+        requires packet { (p : APacket) × (e.now ≡ AnEntry.Async p) × Spells p bytes.now }
+        ensures shows { (st : State) → Shows st self.old → Shows (with_entry e.now st) self.new }
+        ensures rest { self.new ≡ record self.old { account = self.new.account; is_due = self.new.is_due; is_moved = self.new.is_moved } }
     {
-        match read_packet(&self.body) {
-            Ok(fed) => fed.packet,
-            Err(_) => None,
-        }
+        let effect = self.account.follow_packet(self.number, e, bytes);
+        self.is_due |= effect.stops;
+        self.is_moved |= effect.moves;
     }
 
     /// The devices of two nodes, the second only if it is another one.
@@ -201,15 +204,21 @@ impl Progress {
     }
 
     /// Takes a response: ends the request that it answers, and answers it, if one that stands is it. Nothing is held back then.
-    pub(crate) fn end_request(&mut self, e: &Entry, p: &Packet) -> Option<OutstandingRequest>
+    pub(crate) fn end_request(
+        &mut self,
+        e: &Entry,
+        p: &Packet,
+        bytes: &[u8],
+    ) -> Option<OutstandingRequest>
         requires fits { Fits e.now }
         requires is { e.now ≡ AnEntry.Async p.now }
+        requires bytes { Spells p.now bytes.now }
         ensures found { (st : State) → Shows st self.old → result ≡ standing_for (answer_of p.now) (head_of p.now) st.standing }
         ensures shows { (st : State) → Shows st self.old → Shows (ended p.now st) self.new }
     {
         let standing = self.end_standing(p, &head_of(p));
         self.held = Deferred::Nothing;
-        self.follow(e);
+        self.follow_packet(e, bytes);
         standing
     }
 

@@ -1,6 +1,6 @@
 //! Rows: each is whole by itself, and draws the whole state.
 
-ghost use Rattle.std.specs.Prelude.{◌≡◌, OnOk, Option};
+ghost use Rattle.std.specs.Prelude.{◌≡◌, ◌++◌, IsTrue, OnOk, Option};
 ghost use Rattle.std.specs.Option.{option_copied};
 ghost use Rattle.fw_model_account.specs.Account.{Account};
 ghost use Rattle.fw_page_strip.specs.Drawing.{LedgerFor};
@@ -62,17 +62,28 @@ fn draw_nodes(
     scene.put_nodes(nodes, shapes)
 }
 
+// The lines are these of nodes, and there are no bars.
+fn are_same_lines(lines: &[u8], nodes: &[u8], bars: &[u8]) -> bool
+    ensures { IsTrue result → lines.now ≡ nodes.now ++ bars.now }
+{
+    if bars.is_empty() {
+        return lines == nodes;
+    }
+    false
+}
+
 impl Progress {
     ghost use Rattle.std.specs.Prelude.{◌≡◌, ◌++◌, OnOk, not, false, codes};
+    ghost use Rattle.fw_page_marks.specs.Shapes.{halves};
     ghost use Rattle.std.specs.Option.{is_some};
     ghost use Rattle.fw_page.specs.State.{State};
     ghost use Rattle.fw_page.specs.Rows.{strip_opening, strip_text, bare_row, row};
     ghost use Rattle.fw_page_content.specs.Heads.{prefix_of};
-    ghost use Rattle.fw_page.specs.Sheets.{Shows, Moves, Draws, IsDrawnNow};
+    ghost use Rattle.fw_page.specs.Sheets.{Shows, Moves, Draws, IsDrawnNow, lines_of};
 
-    /// Draws the lines of the state as it is, for the next row.
-    pub(crate) fn draw_lines(&mut self, room: &mut RowBuffers) -> Result<(), AllocError>
-        ensures draws { (st : State) → Shows st self.old → OnOk result (Draws st self.old self.new room.new.lines.items) }
+    // Draws what the lines of the state are made of, as it is.
+    fn draw_parts(&mut self, shapes: &mut Vec<u8>) -> Result<(), AllocError>
+        ensures draws { (st : State) → Shows st self.old → OnOk result (Draws st self.old self.new (lines_of self.new)) }
         ensures run { OnOk result (self.new.run ≡ self.old.run) }
         ensures standing { OnOk result (self.new.standing ≡ self.old.standing) }
     {
@@ -81,11 +92,43 @@ impl Progress {
             lives: &self.lives,
             ledger: self.account.ledger(),
         };
-        draw_nodes(&mut self.nodes, &mut room.shapes, &scene, self.is_moved)?;
-        self.bars.draw(&self.columns, self.standing.as_slice())?;
-        room.lines.clear();
-        room.lines.extend_from_slice(&self.nodes)?;
-        room.lines.extend_from_slice(self.bars.as_slice())?;
+        draw_nodes(&mut self.nodes, shapes, &scene, self.is_moved)?;
+        self.bars.draw(&self.columns, self.standing.as_slice())
+    }
+
+    /// Draws the lines of the state as it is, for the next row.
+    pub(crate) fn draw_lines(&mut self, room: &mut RowBuffers) -> Result<(), AllocError>
+        ensures draws { (st : State) → Shows st self.old → OnOk result (Draws st self.old self.new room.new.lines.items) }
+        ensures run { OnOk result (self.new.run ≡ self.old.run) }
+        ensures standing { OnOk result (self.new.standing ≡ self.old.standing) }
+    {
+        self.draw_parts(&mut room.shapes)?;
+        self.gather_lines(&mut room.lines)
+    }
+
+    // Makes the lines of what is drawn.
+    fn gather_lines(&self, lines: &mut Vec<u8>) -> Result<(), AllocError>
+        ensures { OnOk result (lines.new.items ≡ lines_of self.now) }
+    {
+        lines.clear();
+        lines.extend_from_slice(&self.nodes)?;
+        lines.extend_from_slice(self.bars.as_slice())
+    }
+
+    // Appends the lines of what is drawn, after those that the last row left if these are others. They are what this one leaves.
+    fn put_lines(&mut self, text: &mut Vec<u8>, lines: &mut Vec<u8>) -> Result<(), AllocError>
+        ensures text { OnOk result (text.new.items ≡ text.old.items ++ halves self.old.lines.items (lines_of self.old)) }
+        ensures left { OnOk result (self.new.lines.items ≡ lines_of self.old) }
+        ensures rest { self.new ≡ record self.old { lines = self.new.lines } }
+        ensures run { self.new.run ≡ self.old.run }
+        ensures standing { self.new.standing ≡ self.old.standing }
+    {
+        if are_same_lines(&self.lines, &self.nodes, self.bars.as_slice()) {
+            return text.extend_from_slice(&self.lines);
+        }
+        self.gather_lines(lines)?;
+        put_halves(text, &self.lines, lines)?;
+        mem::swap(&mut self.lines, lines);
         Ok(())
     }
 
@@ -141,12 +184,11 @@ impl Progress {
     }
 
     // A row was drawn: it is what the next one comes after.
-    fn leave_row(&mut self, room: &mut RowBuffers)
-        ensures left { self.new ≡ record self.old { lines = room.old.lines; edge = self.old.second; is_moved = false } }
+    fn leave_row(&mut self)
+        ensures left { self.new ≡ record self.old { edge = self.old.second; is_moved = false } }
         ensures run { self.new.run ≡ self.old.run }
         ensures standing { self.new.standing ≡ self.old.standing }
     {
-        self.leave_lines(room);
         self.edge = self.second;
         self.is_moved = false;
     }
@@ -166,13 +208,13 @@ impl Progress {
         ensures standing { OnOk result (self.new.standing ≡ self.old.standing) }
     {
         room.heads.put(text, &head, self.second)?;
-        self.draw_lines(room)?;
-        put_halves(text, &self.lines, &room.lines)?;
+        self.draw_parts(&mut room.shapes)?;
+        self.put_lines(text, &mut room.lines)?;
         text.extend_from_slice(marks)?;
         put_word(text, "</svg><p>")?;
         text.extend_from_slice(words)?;
         self.put_strip(text, dot)?;
-        self.leave_row(room);
+        self.leave_row();
         Ok(())
     }
 

@@ -1,10 +1,13 @@
 -- The account beside the rows takes an entry.
-use Rattle.std.proofs.Common.{◌≡◌, ℕ, Bool, true, false, Option, Some, None, Result, Ok, Err, refl, ap, subst, sym, ◌∙◌}
+use Rattle.std.proofs.Common.{◌≡◌, ℕ, Bool, List, true, false, Option, Some, None, Result, Ok, Err, refl, ap, subst, sym, ◌∙◌}
 use Rattle.std.specs.Option.{is_some}
+use Rattle.fw_async.specs.Reader.{Spells}
+use Rattle.fw_async.specs.declared.packet.Packet.{Packet}
 use Rattle.fw_log_entry.specs.declared.entry.Entry.{Entry}
+use Rattle.fw_log_entry.specs.declared.entry.Entry.TheVariants.{Async}
 use Rattle.fw_model_account.specs.Account.{Account}
 use Rattle.fw_model_account.specs.Fold.{next_account}
-use Rattle.fw_audit.specs.Found.{Judges, StandsAfter}
+use Rattle.fw_audit.specs.Found.{IsPassedOver, Judges, StandsAfter}
 use Rattle.fw_model_audit.specs.declared.fault.AuditFault.{AuditFault}
 use Rattle.fw_model_audit.specs.Judged.{verdict}
 use Rattle.fw_ledger.specs.declared.answer.Answer.{Answer}
@@ -86,6 +89,38 @@ goes_on_still number e b new f a none i judges off =
     let is : (follow number e f).account ≡ next_account w.0 e = ap (λ o. (follow_from number e o f.stop).account) w.1 ∙ ap (λ o. (followed_by number o (next_account w.0 e)).account) v in
     subst (λ (x : Option Account). StaysDrawn x (follow number e f).account) (sym w.1)
     (subst (λ (x : Option Account). StaysDrawn (Some w.0) x) (sym (is ∙ j.1.1)) (stays_drawn w.0 j.1.0 e a j.2 off j.1.1))
+
+-- an entry that an account does not look at leaves all as it was
+pub passed_by : (number : ℕ) (e : Entry) (b : Beside) (f : Followed) → b.stop ≡ None → IsBeside b f → IsPassedOver e
+    → IsBeside b (follow number e f) × (false ≡ has_stopped f.stop (follow number e f).stop) × StaysDrawn f.account (follow number e f).account
+passed_by number e b f none i over =
+    let before : f.stop ≡ None = sym i.stop ∙ none in
+    let w = account_of b.ledger f.account f.stop before i.account in
+    let o = over w.0 in
+    let v = verdict_none w.0 e w.2.sound o.1 in
+    let g = goes number e w.0 b.ledger v (w.0, o.0, w.2) in
+    let is : follow number e f ≡ record { account = next_account w.0 e; stop = None } = ap (λ o. follow_from number e o f.stop) w.1 ∙ g.0 in
+    let same : f.account ≡ (follow number e f).account = w.1 ∙ (sym o.0 ∙ sym (ap (λ (x : Followed). x.account) is)) in (
+      subst (λ (x : Followed). IsBeside b x) (sym is) (record { stop = none; account = g.1 }),
+      subst (λ (x : Followed). false ≡ has_stopped f.stop x.stop) (sym is) (subst (λ (o : Option AccountStop). false ≡ has_stopped o None) (sym before) refl),
+      subst (λ (x : Option Account). StaysDrawn f.account x) same (refl, λ lives rows. refl),
+    )
+
+-- the same of the packet that some bytes are
+pub passed_at : (number : ℕ) (e : Entry) (b : Beside) (f : Followed) (bytes : List ℕ) → b.stop ≡ None → IsBeside b f → (p : Packet) × (e ≡ Async p) × Spells p bytes
+    → ((p : Packet) → Spells p bytes → IsPassedOver (Async p))
+    → IsBeside b (follow number e f) × (false ≡ has_stopped f.stop (follow number e f).stop) × StaysDrawn f.account (follow number e f).account
+passed_at number e b f bytes none i w over = passed_by number e b f none i (subst IsPassedOver (sym w.1) (over w.0 w.2))
+
+-- what a look at the bytes of a packet found, was found of its entry
+pub judged_at : (e : Entry) (old new : Tables) (bytes : List ℕ) (a : Option Answer) → (p : Packet) × (e ≡ Async p) × Spells p bytes
+    → ((l : Account) (p : Packet) → StandsFor old l → Spells p bytes → Judges new l (Async p) (Ok a))
+    → (l : Account) → StandsFor old l → Judges new l e (Ok a)
+judged_at e old new bytes a w taken = λ l s. subst (λ (x : Entry). Judges new l x (Ok a)) (sym w.1) (taken l w.0 s w.2)
+
+-- a ledger that is as it was
+pub unchanged : (b : Beside) (t : Tables) (f : Followed) → t ≡ b.ledger → IsBeside b f → IsBeside (record b { ledger = t }) f
+unchanged b t f e i = subst (λ (x : Tables). IsBeside (record b { ledger = x }) f) (sym e) i
 
 pub stops : (number : ℕ) (e : Entry) (b new : Beside) (f : Followed) (fault : AuditFault) → b.stop ≡ None → IsBeside b f → ((l : Account) → StandsFor b.ledger l → Judges new.ledger l e (Err fault))
     → new.stop ≡ Some (record { number = number; fault = fault })

@@ -5,7 +5,7 @@ ghost use Rattle.fw_page_scene.specs.Followed.{is_moving, is_made, may_move};
 
 use fw_account_tables::Asked;
 use fw_async::Packet;
-use fw_audit::take_entry;
+use fw_audit::{has_other_label, take_entry, take_packet};
 use fw_ledger::{Answer, Ledger};
 use fw_log_entry::Entry;
 use fw_page_phrases::AccountStop;
@@ -60,7 +60,10 @@ pub struct Account {
 
 impl Account {
     ghost use Rattle.std.specs.Prelude.{◌≡◌, IfOk, false};
+    ghost use Rattle.fw_async.specs.Reader.{Spells};
+    ghost use Rattle.fw_async.specs.declared.packet.Packet.{Packet as APacket};
     ghost use Rattle.fw_log_entry.specs.Log.{Fits};
+    ghost use Rattle.fw_log_entry.specs.declared.entry.Entry.TheVariants.{Async};
     ghost use Rattle.fw_page_scene.specs.Beside.{IsBeside, has_stopped};
     ghost use Rattle.fw_page_scene.specs.Laws.{StaysDrawn};
     ghost use Rattle.std.specs.Option.{option_copied};
@@ -119,6 +122,35 @@ impl Account {
                     moves: true,
                 }
             }
+        }
+    }
+
+    /// Does the same as `follow`, if the entry is the packet that these bytes are: of nearly all a short look at them is enough.
+    pub fn follow_packet(&mut self, number: u64, e: &Entry, bytes: &[u8]) -> Effect
+        requires fits { Fits e.now }
+        requires packet { (p : APacket) × (e.now ≡ Async p) × Spells p bytes.now }
+        ensures beside { (f : Followed) → IsBeside self.old f → IsBeside self.new (follow number e.now f) }
+        ensures stops { (f : Followed) → IsBeside self.old f → result.stops ≡ has_stopped f.stop (follow number e.now f).stop }
+        ensures stays { (f : Followed) → IsBeside self.old f → result.moves ≡ false → StaysDrawn f.account (follow number e.now f).account }
+    {
+        if self.stop.is_some() {
+            return Effect {
+                stops: false,
+                moves: false,
+            };
+        }
+        if has_other_label(bytes) {
+            return Effect {
+                stops: false,
+                moves: false,
+            };
+        }
+        match take_packet(&mut self.ledger, bytes) {
+            Some(answer) => Effect {
+                stops: false,
+                moves: may_move(e, &answer),
+            },
+            None => self.follow(number, e),
         }
     }
 }

@@ -6,3 +6,4 @@ pub mod ShareLaws
 pub mod RequestLaws
 pub mod StripLaws
 pub mod ReachLaws
+pub mod ClassLaws

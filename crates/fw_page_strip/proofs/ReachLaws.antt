@@ -16,7 +16,7 @@ use Rattle.fw_page_strip.proofs.SumLaws.{AreSums, sum_next}
 use Rattle.fw_page_strip.proofs.LaneLaws.{more_bars}
 
 -- what no step changes is what it was
-flat : {A : Type 0} (g : ℕ → A) (n m : ℕ) → n ≤ m → ((k : ℕ) → n ≤ k → k < m → g (k + 1) ≡ g k) → g m ≡ g n
+pub flat : {A : Type 0} (g : ℕ → A) (n m : ℕ) → n ≤ m → ((k : ℕ) → n ≤ k → k < m → g (k + 1) ≡ g k) → g m ≡ g n
 flat g n zero l h = let e : n ≡ 0 = omega arith in ap g (sym e)
 flat g n (suc m) l h = elim (cases_eq n (suc m)) [
   | inl same ↦ ap g (sym same)

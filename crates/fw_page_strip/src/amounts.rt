@@ -87,12 +87,26 @@ fn is_nobodys(ledger: &Ledger, channel: usize) -> bool
     matches!(owner_of(ledger, channel), Owner::Nobody)
 }
 
+// A channel from which on nobody has any; 64 if none is known. Most of the last channels are open, and nothing is kept on them if no
+// second runs.
+fn end_of_known(ledger: &Ledger) -> usize
+    ensures few { result ≤ 64 }
+    ensures nobodys { (l : Account) → StandsFor ledger.now l → AreNobodys l result }
+{
+    let tables = ledger.tables();
+    if tables.reclaiming {
+        CHANNELS
+    } else {
+        tables.end_of_used()
+    }
+}
+
 /// How many channels come up to the last that somebody has.
 pub(crate) fn reach_of(ledger: &Ledger) -> usize
     ensures few { result ≤ 64 }
     ensures nobodys { (l : Account) → StandsFor ledger.now l → AreNobodys l result }
 {
-    let mut reach = CHANNELS;
+    let mut reach = end_of_known(ledger);
     while reach > 0 && is_nobodys(ledger, reach - 1) {
         reach -= 1;
     }

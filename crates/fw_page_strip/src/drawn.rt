@@ -22,16 +22,15 @@ pub(crate) struct Drawn {
     pub(crate) units: u32,
 }
 
-// The owners of all channels, by how many come up to the last that somebody has.
-fn owners_of(ledger: &Ledger, reach: usize) -> [Owner; 64]
+// Writes down the owners of all channels, by how many come up to the last that somebody has.
+fn keep_owners(owners: &mut [Owner; 64], ledger: &Ledger, reach: usize)
     requires { reach ≤ 64 }
-    ensures { (l : Account) → StandsFor ledger.now l → AreNobodys l reach → result ≡ owners_below l 64 }
+    ensures { (l : Account) → StandsFor ledger.now l → AreNobodys l reach → owners.new ≡ owners_below l 64 }
 {
-    let mut owners = [Owner::Nobody; 64];
+    *owners = [Owner::Nobody; 64];
     for channel in 0..reach {
         owners[channel] = owner_of(ledger, channel);
     }
-    owners
 }
 
 impl Drawn {
@@ -65,7 +64,7 @@ impl Drawn {
         ensures { (l : Account) → StandsFor ledger.now l → OnOk result (IsDrawnOf self.new (Some l)) }
     {
         let reach = reach_of(ledger);
-        self.owners = owners_of(ledger, reach);
+        keep_owners(&mut self.owners, ledger, reach);
         self.lanes.clear();
         put_lanes(&mut self.lanes, shapes, ledger, &self.owners, reach)?;
         self.units = UNITS.saturating_sub(ledger.remainder());

@@ -1,6 +1,6 @@
 //! The lanes of a strip: the units that are taken as a bar, and each channel that somebody has.
 
-ghost use Rattle.std.specs.Prelude.{◌≡◌, ◌<◌, ◌≤◌, ◌+◌, ◌^◌, ◌++◌, IfOk, OnOk, Some};
+ghost use Rattle.std.specs.Prelude.{◌≡◌, ◌<◌, ◌≤◌, ◌+◌, ◌^◌, ◌++◌, IfOk, OnOk, Some, false, []};
 ghost use Rattle.fw_model_account.specs.Account.{Account};
 ghost use Rattle.fw_account_tables.specs.Stands.{StandsFor};
 ghost use Rattle.fw_page_strip.specs.Drawing.{AreTotals};
@@ -9,6 +9,7 @@ ghost use Rattle.fw_page_strip.specs.Lanes.{bar_part, bar_below, bar, lane, chan
 
 use crate::amounts::{Totals, amount, sums_of};
 use crate::owner::{Class, Owner, owner_in};
+use crate::shares::{reclaims, withholds};
 use fw_ledger::Ledger;
 use fw_page_marks::{put_path, put_rect};
 use std::alloc::AllocError;
@@ -114,6 +115,17 @@ fn put_channels(
     Ok(())
 }
 
+// Whether there may be any of a class: nothing is kept if no second runs.
+fn may_have(ledger: &Ledger, class: Class) -> bool
+    ensures { (l : Account) → StandsFor ledger.now l → result ≡ false → class_path l class ≡ [] }
+{
+    match class {
+        Class::Kept => reclaims(ledger),
+        Class::Withheld => withholds(ledger),
+        _ => true,
+    }
+}
+
 // Appends the shapes of a class, with a list for them.
 fn put_class(
     text: &mut Vec<u8>,
@@ -126,6 +138,9 @@ fn put_class(
     requires { totals.reach ≤ 64 }
     ensures { (l : Account) → StandsFor ledger.now l → AreTotals totals l → owners.now ≡ owners_below l 64 → OnOk result (text.new.items ≡ text.old.items ++ class_path l class) }
 {
+    if !may_have(ledger, class) {
+        return Ok(());
+    }
     shapes.clear();
     put_bar(shapes, ledger, totals, class)?;
     put_channels(shapes, owners, totals.reach, class)?;

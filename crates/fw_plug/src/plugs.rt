@@ -55,6 +55,7 @@ impl Plugs {
 
     /// Carries a request out: address_error if it is at none of the registers, type_error if it is no quadlet read
     /// and, at a plug control register, no quadlet compare_swap, else complete.
+    #[inline(always)]
     pub fn answer<R: RegisterRequest>(&mut self, r: &R) -> Reply
         ensures reply { result ≡ reply (register_at (table_of self.old) (offset_of (R.request r.now))) (R.request r.now) }
         ensures words { self.new ≡ words_after self.old (R.request r.now) }

@@ -146,6 +146,8 @@ fn tell<K: Sink>(text: &[u8], ending: RunEnding, sink: &mut K) -> RunEnding
 
 /// Reads a script and carries out its commands on a new bus, as `run` does, and writes in place of the log what the script has, or why its
 /// first refused line is refused. The log is kept nowhere. Of a script that is not read to its end, with no line refused, nothing is written.
+// Not in line: its bus would stand on the stack of every other word.
+#[inline(never)]
 pub fn check<S: Source, K: Sink, F: Fn(u16, u32, u16) -> [u8; 480], H: Fn(u32, u8) -> u8>(
     alloc: Global,
     source: &mut S,
@@ -160,18 +162,20 @@ pub fn check<S: Source, K: Sink, F: Fn(u16, u32, u16) -> [u8; 480], H: Fn(u32, u
     ensures read_count { ReadCount (S.faults source.old) (S.faults source.new) result }
     ensures write_count { WriteCount (K.faults sink.old) (K.faults sink.new) result }
 {
-    let Ok(mut bus) = Bus::new(alloc) else {
+    // Left where it is made, and not moved: that would take its place on the stack twice.
+    let mut made = Bus::new(alloc);
+    let Ok(bus) = &mut made else {
         return RunEnding::Stopped(Stop::NoMemory);
     };
     let Ok(mut reader) = ScriptReader::new(alloc) else {
         return RunEnding::Stopped(Stop::NoMemory);
     };
-    let checked = check_run(&mut reader, &mut bus, source, desk);
+    let checked = check_run(&mut reader, bus, source, desk);
     if let RunEnding::Stopped(stop) = checked.ending {
         return RunEnding::Stopped(stop);
     }
     let mut text = Vec::new(alloc);
-    let Ok(()) = put_told(alloc, &mut text, &bus, &reader, &checked) else {
+    let Ok(()) = put_told(alloc, &mut text, bus, &reader, &checked) else {
         return RunEnding::Stopped(Stop::NoMemory);
     };
     tell(&text, checked.ending, sink)

@@ -56,6 +56,8 @@ fn write_reel<K: Sink>(reel: &Reel, sink: &mut K) -> RunEnding
 /// Reads a script and carries out its commands on a new bus, as `run` does, and writes what the reel then has in place of the log. The log
 /// is kept nowhere. Of a script that is not read to its end, or of which a line is refused,
 /// nothing is written.
+// Not in line: its bus would stand on the stack of every other word.
+#[inline(never)]
 pub fn dub<S: Source, K: Sink, F: Fn(u16, u32, u16) -> [u8; 480], H: Fn(u32, u8) -> u8>(
     alloc: Global,
     source: &mut S,
@@ -70,10 +72,12 @@ pub fn dub<S: Source, K: Sink, F: Fn(u16, u32, u16) -> [u8; 480], H: Fn(u32, u8)
     ensures read_count { ReadCount (S.faults source.old) (S.faults source.new) result }
     ensures write_count { WriteCount (K.faults sink.old) (K.faults sink.new) result }
 {
-    let Ok(mut bus) = Bus::new(alloc) else {
+    // Left where it is made, and not moved: that would take its place on the stack twice.
+    let mut made = Bus::new(alloc);
+    let Ok(bus) = &mut made else {
         return RunEnding::Stopped(Stop::NoMemory);
     };
-    match record_run(alloc, source, &mut bus, desk) {
+    match record_run(alloc, source, bus, desk) {
         RunEnding::Done => write_reel(bus.reel(), sink),
         ending => ending,
     }

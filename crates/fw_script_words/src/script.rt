@@ -15,6 +15,8 @@ use std::alloc::Global;
 
 /// Reads a script of at most 1,048,576 bytes, carries out its commands on a new bus, each as it is read, and writes their log. The
 /// blocks of tapes, and what a vendor makes of a byte of a command, come from the desk.
+// Not in line: its bus would stand on the stack of every other word.
+#[inline(never)]
 pub fn run<S: Source, K: Sink, F: Fn(u16, u32, u16) -> [u8; 480], H: Fn(u32, u8) -> u8>(
     alloc: Global,
     source: &mut S,
@@ -29,7 +31,9 @@ pub fn run<S: Source, K: Sink, F: Fn(u16, u32, u16) -> [u8; 480], H: Fn(u32, u8)
     ensures read_count { ReadCount (S.faults source.old) (S.faults source.new) result }
     ensures write_count { WriteCount (K.faults sink.old) (K.faults sink.new) result }
 {
-    let Ok(mut bus) = Bus::new(alloc) else {
+    // Left where it is made, and not moved: that would take its place on the stack twice.
+    let mut made = Bus::new(alloc);
+    let Ok(bus) = &mut made else {
         return RunEnding::Stopped(Stop::NoMemory);
     };
     let Ok(mut reader) = ScriptReader::new(alloc) else {
@@ -39,7 +43,7 @@ pub fn run<S: Source, K: Sink, F: Fn(u16, u32, u16) -> [u8; 480], H: Fn(u32, u8)
         return RunEnding::Stopped(Stop::WriteFault);
     };
     loop {
-        if let Some(ending) = carry_next(&mut reader, &mut bus, source, sink, desk) {
+        if let Some(ending) = carry_next(&mut reader, bus, source, sink, desk) {
             return ending;
         }
     }

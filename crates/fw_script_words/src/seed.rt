@@ -42,7 +42,9 @@ fn count_run<F: Fn(u16, u32, u16) -> [u8; 480], H: Fn(u32, u8) -> u8>(
     requires short { length script.items ≤ 1048576 }
     ensures { Counted (record { blocks = F.post desk.now.blocks; vendor = H.post desk.now.vendor }) script.items tally.new result }
 {
-    let Ok(mut bus) = Bus::new(alloc) else {
+    // Left where it is made, and not moved: that would take its place on the stack twice.
+    let mut made = Bus::new(alloc);
+    let Ok(bus) = &mut made else {
         return RunEnding::Stopped(Stop::NoMemory);
     };
     let Ok(mut reader) = ScriptReader::new(alloc) else {
@@ -51,7 +53,7 @@ fn count_run<F: Fn(u16, u32, u16) -> [u8; 480], H: Fn(u32, u8) -> u8>(
     let mut source = ScriptSource::new(script);
     let mut sink = GrowSink::new(alloc);
     loop {
-        if let Some(ending) = carry_next(&mut reader, &mut bus, &mut source, &mut sink, desk) {
+        if let Some(ending) = carry_next(&mut reader, bus, &mut source, &mut sink, desk) {
             return in_memory(ending);
         }
         let Ok(()) = tally.take(sink.as_slice()) else {
@@ -77,6 +79,8 @@ fn write_summary<K: Sink>(alloc: Global, tally: &Tally, sink: &mut K) -> RunEndi
 
 /// Runs the script that a seed makes, and writes the summary of its log at the end. It reads nothing, and if a line of the
 /// script is refused it writes nothing.
+// Not in line: its bus would stand on the stack of every other word.
+#[inline(never)]
 pub fn run_seed<K: Sink, F: Fn(u16, u32, u16) -> [u8; 480], H: Fn(u32, u8) -> u8>(
     alloc: Global,
     seed: u32,

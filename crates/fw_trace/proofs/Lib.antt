@@ -1,6 +1,7 @@
 pub mod Common
 pub mod Framings
 pub mod PieceLaws
+pub mod ResetLaws
 pub mod TellingLaws
 pub mod PlaceLaws
 pub mod PassedLaws

@@ -1,6 +1,6 @@
 //! The lines of an entry, of the bytes of its body: no fault is looked for, since a reader has found none.
 
-ghost use Rattle.std.specs.Prelude.{◌≡◌, ◌++◌, IfSome, IfNone, OnOk};
+ghost use Rattle.std.specs.Prelude.{◌≡◌};
 ghost use Rattle.fw_async.specs.Reader.{Spells, IsPacket};
 ghost use Rattle.fw_async.specs.declared.packet.Packet.{Packet as APacket};
 ghost use Rattle.fw_cip.specs.Iso.{Fits as IsoFits, IsSpelled, spelling as iso_spelling};
@@ -35,41 +35,36 @@ fn put_iso(tracer: &mut Tracer, cycle: u64, bytes: &[u8]) -> Result<(), AllocErr
     tracer.put_iso(cycle, &whole_iso(bytes))
 }
 
-// Adds the lines of a bus reset, if it is the latest but for its epoch. It is rare, and so not inlined.
+// Adds the lines of a bus reset. It is rare, and so not inlined.
 #[inline(never)]
-fn put_again(
+fn put_reset(
     tracer: &mut Tracer,
     latest: &mut LatestReset,
     cycle: u64,
     bytes: &[u8],
-) -> Option<Result<(), AllocError>>
+) -> Result<(), AllocError>
     requires { (r : AReset) × ResetFits r × (body (Reset r) ≡ bytes.now) }
-    ensures puts { (r : AReset) → ResetFits r → body (Reset r) ≡ bytes.now
-        → IfSome result (PutsEntry (record { cycle = cycle; what = Reset r }) tracer.old tracer.new) }
-    ensures same { IfNone result (tracer.new ≡ tracer.old) }
+    ensures { (r : AReset) → ResetFits r → body (Reset r) ≡ bytes.now → PutsEntry (record { cycle = cycle; what = Reset r }) tracer.old tracer.new result }
 {
-    if !latest.renew(bytes) {
-        return None;
-    }
+    latest.take(bytes)?;
     let what = Entry::Reset(BorrowedReset::new(latest.get()));
-    Some(tracer.put(&Timed { cycle, what }))
+    tracer.put(&Timed { cycle, what })
 }
 
-/// Adds the lines of an entry of this cycle that has this body, if it is a packet, or the latest bus reset but for its epoch.
+/// Adds the lines of an entry of this cycle that has this body.
 #[inline(always)]
 pub(crate) fn put_body(
     tracer: &mut Tracer,
     latest: &mut LatestReset,
     cycle: u64,
     body: &PlainBody,
-) -> Option<Result<(), AllocError>>
+) -> Result<(), AllocError>
     requires { (e : AnEntry) × HasBody body.now e }
-    ensures puts { (e : AnEntry) → HasBody body.now e → IfSome result (PutsEntry (record { cycle = cycle; what = e }) tracer.old tracer.new) }
-    ensures same { IfNone result (tracer.new ≡ tracer.old) }
+    ensures { (e : AnEntry) → HasBody body.now e → PutsEntry (record { cycle = cycle; what = e }) tracer.old tracer.new result }
 {
     match body {
-        PlainBody::Packet(bytes) => Some(put_packet(tracer, cycle, bytes.as_slice())),
-        PlainBody::Iso(bytes) => Some(put_iso(tracer, cycle, bytes.as_slice())),
-        PlainBody::Reset(bytes) => put_again(tracer, latest, cycle, bytes.as_slice()),
+        PlainBody::Packet(bytes) => put_packet(tracer, cycle, bytes.as_slice()),
+        PlainBody::Iso(bytes) => put_iso(tracer, cycle, bytes.as_slice()),
+        PlainBody::Reset(bytes) => put_reset(tracer, latest, cycle, bytes.as_slice()),
     }
 }

@@ -1,28 +1,20 @@
 //! The entries of a piece of a log.
 
-ghost use Rattle.std.specs.Prelude.{◌≡◌, ◌+◌, ◌++◌, ◌<◌, ◌≤◌, ◌^◌, ℕ, List, length, drop, take, IfOk, IfSome, IfNone, OnOk};
-ghost use Rattle.fw_log_entry.specs.Log.{ResetFits, body};
-ghost use Rattle.fw_log_entry.specs.declared.entry.Entry.TheVariants.{Reset};
-ghost use Rattle.fw_log_entry.specs.declared.entry.ResetEntry.{ResetEntry as AReset};
+ghost use Rattle.std.specs.Prelude.{◌≡◌, ◌+◌, ◌<◌, ◌≤◌, ◌^◌, ℕ, List, length, drop, IfOk, IfSome, IfNone, OnOk};
 ghost use Rattle.fw_log_entry.specs.declared.entry.Timed.{Timed as ATimed};
 ghost use Rattle.fw_log.specs.History.{HasRead};
 ghost use Rattle.fw_log.specs.Passing.{CountsUp};
 ghost use Rattle.fw_log.specs.Reader.{total};
-ghost use Rattle.fw_trace_names.specs.CausedLines.{caused_text};
-ghost use Rattle.fw_trace_lines.specs.Caused.{entry_lines, telling_after};
 ghost use Rattle.fw_trace.specs.Telling.{TakesKnown, TakesOne, TakesPiece};
 
 use crate::bodies::put_body;
 use crate::lack::Untold;
 use fw_log::{LogReader, PlainEntry, ReadBuffers};
-use fw_log_entry::codes::kind;
-use fw_log_entry::{Entry, Timed};
 use fw_log_latest::LatestReset;
 use fw_trace_lines::Tracer;
-use std::alloc::AllocError;
 
-// Reads the entry that comes next, if it is a packet of a usual form or a bus reset as the latest, and adds its lines. Answers how many bytes
-// that were, or none if another comes.
+// Reads the entry that comes next, if it is a packet or a bus reset of a usual form, and adds its lines. Answers how many bytes that were,
+// or none if another comes.
 #[inline(always)]
 fn take_known(
     tracer: &mut Tracer,
@@ -37,16 +29,10 @@ fn take_known(
     ensures counts { IfOk result (λ o. IfSome o (CountsUp reader.old piece.now reader.new)) }
     ensures same { IfOk result (λ o. IfNone o ((tracer.new ≡ tracer.old) × (reader.new ≡ reader.old))) }
 {
-    // Another bus reset than the latest is read elsewhere, where it is seen whether it is right.
-    if reader.next_kind(piece) == Some(kind::RESET) && !latest.seems_next(piece) {
-        return Ok(None);
-    }
     let Some(PlainEntry { passed, body }) = reader.next_body(piece, room) else {
         return Ok(None);
     };
-    let Some(put) = put_body(tracer, latest, passed.cycle, &body) else {
-        return Ok(None);
-    };
+    let put = put_body(tracer, latest, passed.cycle, &body);
     let used = reader.go_past(piece, &passed);
     match put {
         Ok(()) => Ok(Some(used)),
@@ -54,29 +40,11 @@ fn take_known(
     }
 }
 
-// Adds the lines of an entry that has this body, and keeps it if it is a bus reset.
-fn put_entry(
-    tracer: &mut Tracer,
-    latest: &mut LatestReset,
-    entry: &Timed,
-    bytes: &[u8],
-) -> Result<(), AllocError>
-    requires { (r : AReset) → entry.now.what ≡ Reset r → ResetFits r × (body (Reset r) ≡ bytes.now) }
-    ensures text { OnOk result (tracer.new.text ≡ tracer.old.text ++ caused_text (entry_lines tracer.old.telling entry.now)) }
-    ensures kept { OnOk result (tracer.new.telling ≡ telling_after tracer.old.telling entry.now) }
-{
-    if let Entry::Reset(r) = &entry.what {
-        latest.keep(r.get(), bytes)?;
-    }
-    tracer.put(entry)
-}
-
 // Reads a piece up to the end of one entry, or all of it if none ends in it, and adds that entry's lines. Answers how many bytes that
 // were.
 #[inline(never)]
 fn take_other(
     tracer: &mut Tracer,
-    latest: &mut LatestReset,
     reader: &mut LogReader,
     room: &mut ReadBuffers,
     piece: &[u8],
@@ -90,7 +58,7 @@ fn take_other(
         return Err(Untold);
     };
     match &fed.entry {
-        Some(entry) => match put_entry(tracer, latest, entry, fed.body.as_slice()) {
+        Some(entry) => match tracer.put(entry) {
             Ok(()) => Ok(fed.used),
             Err(_) => Err(Untold),
         },
@@ -115,7 +83,7 @@ fn take_entry(
     let known = take_known(tracer, latest, reader, room, piece)?;
     match known {
         Some(used) => Ok(used),
-        None => take_other(tracer, latest, reader, room, piece),
+        None => take_other(tracer, reader, room, piece),
     }
 }
 

@@ -76,6 +76,8 @@ fn trace_all<S: Source, K: Sink, F: Fn(u16, u32, u16) -> [u8; 480], H: Fn(u32, u
 
 /// Reads a script and carries out its commands on a new bus, as `run` does, and writes in place of the log the lines of the script, each
 /// followed by what it caused. The text takes memory as it grows: if none is left, a prefix of it was written.
+// Not in line: its bus would stand on the stack of every other word.
+#[inline(never)]
 pub fn trace<S: Source, K: Sink, F: Fn(u16, u32, u16) -> [u8; 480], H: Fn(u32, u8) -> u8>(
     alloc: Global,
     source: &mut S,
@@ -90,7 +92,9 @@ pub fn trace<S: Source, K: Sink, F: Fn(u16, u32, u16) -> [u8; 480], H: Fn(u32, u
     ensures read_count { ReadCount (S.faults source.old) (S.faults source.new) result }
     ensures write_count { WriteCount (K.faults sink.old) (K.faults sink.new) result }
 {
-    let Ok(mut bus) = Bus::new(alloc) else {
+    // Left where it is made, and not moved: that would take its place on the stack twice.
+    let mut made = Bus::new(alloc);
+    let Ok(bus) = &mut made else {
         return RunEnding::Stopped(Stop::NoMemory);
     };
     let Ok(mut reader) = ScriptReader::new(alloc) else {
@@ -100,5 +104,5 @@ pub fn trace<S: Source, K: Sink, F: Fn(u16, u32, u16) -> [u8; 480], H: Fn(u32, u
         return RunEnding::Stopped(Stop::NoMemory);
     };
     let mut telling = TellingSink::new(sink, &mut teller);
-    trace_all(&mut reader, &mut bus, source, &mut telling, desk)
+    trace_all(&mut reader, bus, source, &mut telling, desk)
 }

@@ -1,5 +1,5 @@
 -- What a packet brings, by what it says as a response or asks.
-use Rattle.std.proofs.Common.{◌≡◌, refl, ap, sym, ◌∙◌, ℕ, ◌<◌, ◌^◌, ◌==◌, Bool, true, false, List, [], ◌∷◌, ◌++◌, length, Option, Some, None, if◌then◌else◌, OnOk, Ok, Err}
+use Rattle.std.proofs.Common.{◌≡◌, refl, ap, sym, ◌∙◌, ℕ, ◌<◌, ◌^◌, ◌==◌, Bool, true, false, List, [], ◌∷◌, ◌++◌, length, Option, Some, None, if◌then◌else◌, OnOk, Ok, Err, append_assoc}
 use Rattle.std.specs.declared.result.Result.{Result}
 use Rattle.std.proofs.lemmas.List.{append-nil}
 use Rattle.std.proofs.lemmas.Nat.{from_be_bytes-to_be_bytes_4}
@@ -182,3 +182,9 @@ swap_back s low small =
 
 pub word_back : (word : ℕ) → word < 2 ^ 32 → quadlet_of (to_be_bytes w32 word) ≡ Some word
 word_back word small = ap Some (from_be_bytes-to_be_bytes_4 word small)
+
+-- ---- a line
+
+pub late_put : (text cycle left arrow right blank told feed : List ℕ)
+    → text ++ ((cycle ++ left ++ arrow ++ right ++ blank) ++ (told ++ feed)) ≡ text ++ ((cycle ++ (left ++ arrow ++ right ++ blank ++ told)) ++ feed)
+late_put text cycle left arrow right blank told feed = simp append_assoc

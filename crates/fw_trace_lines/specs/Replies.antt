@@ -1,13 +1,19 @@
 -- The lines that a response brings, and what is kept after a request or a response.
-use Rattle.std.specs.Prelude.{ℕ, List, ◌++◌, codes, Option, Some, None, if◌then◌else◌}
+use Rattle.std.specs.Prelude.{◌≡◌, ℕ, List, ◌++◌, codes, Option, Some, None, if◌then◌else◌}
+use Rattle.fw_async.specs.declared.packet.Packet.{Packet}
+use Rattle.fw_log_requests.specs.Requests.{asked_by}
+use Rattle.fw_trace_requests.specs.Answers.{carried_text}
+use Rattle.fw_trace_requests.specs.Carried.{frame_told}
+use Rattle.fw_trace_lines.specs.declared.traffic.Traffic.{Traffic}
+use Rattle.fw_trace_lines.specs.declared.traffic.Traffic.TheVariants.{Request, Response, Silent, Other}
 use Rattle.fw_log_requests.specs.declared.asked.Asked.{Asked}
 use Rattle.fw_trace_requests.specs.declared.carried.Carried.{Carried}
 use Rattle.fw_trace_requests.specs.declared.packets.Reply.{Reply}
-use Rattle.fw_trace_lines.specs.Caused.{Telling, one}
+use Rattle.fw_trace_lines.specs.Caused.{Telling, one, kind_of}
 use Rattle.fw_trace_names.specs.Names.{id_text}
 use Rattle.fw_trace_names.specs.CausedLines.{Caused}
 use Rattle.fw_trace_requests.specs.Requests.{with_latest, latest_asked}
-use Rattle.fw_trace_requests.specs.Replies.{replied_text}
+use Rattle.fw_trace_requests.specs.Replies.{replied_text, reply_of}
 use Rattle.fw_trace_requests.specs.Held.{held_bare, lone_lines, is_joined, joined_with}
 
 -- ---- lines
@@ -42,3 +48,12 @@ with_request cycle q carried t = record {
 -- what is kept after a response
 abbrev pub with_response : ℕ → Telling → Telling
 with_response cycle t = record { naming = t.naming; requests = t.requests; jobs = t.jobs; held = None; streams = t.streams; cycle = cycle }
+
+-- ---- packets of usual kinds
+
+-- what a packet is to a trace: a request that carries this, a response, neither, or of another kind
+abbrev pub IsTraffic : Traffic → Packet → Type 0
+IsTraffic (Request q carried) p = (kind_of p ≡ None) × (asked_by p ≡ Some q) × (carried_text p ≡ frame_told carried)
+IsTraffic (Response r) p = (reply_of p ≡ Some r) × (asked_by p ≡ None)
+IsTraffic Silent p = (kind_of p ≡ None) × (asked_by p ≡ None)
+IsTraffic Other p = Unit {0}

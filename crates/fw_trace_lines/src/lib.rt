@@ -12,6 +12,7 @@ mod line;
 mod sayings;
 mod streams;
 mod tracer;
+mod traffic;
 
 pub use job::{Connection, TracedConnection};
 pub use laws::all_entries_are_told;

@@ -36,19 +36,15 @@ impl Stream {
         }
     }
 
-    // The count after a packet.
-    fn with(self, p: &IsoPacket) -> Stream
-        ensures { result ≡ with_block (is_some p.now.block) self p.now }
+    // Counts a packet.
+    #[inline(always)]
+    fn count(&mut self, p: &IsoPacket)
+        ensures { self.new ≡ with_block (is_some p.now.block) self.old p.now }
     {
-        let blocks = if p.block.is_some() {
-            counted(self.blocks)
-        } else {
-            self.blocks
-        };
-        Stream {
-            sender: p.cip.sid,
-            packets: counted(self.packets),
-            blocks,
+        self.sender = p.cip.sid;
+        self.packets = counted(self.packets);
+        if p.block.is_some() {
+            self.blocks = counted(self.blocks);
         }
     }
 
@@ -190,7 +186,7 @@ impl Streams {
     {
         let channel = usize::from(p.channel);
         if channel < self.rows.len() {
-            self.rows[channel] = self.rows[channel].with(p);
+            self.rows[channel].count(p);
             self.heard = true;
         }
     }

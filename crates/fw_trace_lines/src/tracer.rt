@@ -125,15 +125,14 @@ impl Tracer {
     }
 
     /// As `put`, of an isochronous packet in this cycle: most entries of a stream's cycles are such.
+    #[inline(always)]
     #[tactic(auto, unfolding(crate::specs::Caused::lines_by, crate::specs::Caused::own_lines))]
     pub fn put_iso(&mut self, cycle: u64, p: &IsoPacket) -> Result<(), AllocError>
         ensures text { OnOk result (self.new.text ≡ self.old.text ++ caused_text (entry_lines self.old.telling (record { cycle = cycle; what = Iso p.now }))) }
         ensures kept { OnOk result (self.new.telling ≡ telling_after self.old.telling (record { cycle = cycle; what = Iso p.now })) }
     {
-        self.put_held()?;
-        self.held.release();
+        self.put_silent(cycle)?;
         self.streams.take(p);
-        self.cycle = cycle;
         Ok(())
     }
 

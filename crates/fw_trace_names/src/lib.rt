@@ -7,7 +7,7 @@ mod naming;
 mod parts;
 mod registers;
 
-pub use ends::put_ends;
+pub use ends::{TOLD, put_ends, put_whole_line};
 pub use naming::Names;
 pub use parts::{put_cycle, put_named_part, put_part, put_row};
 pub use registers::{put_named_told, put_named_word};

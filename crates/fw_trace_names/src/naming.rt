@@ -3,6 +3,7 @@
 ghost use Rattle.std.specs.Prelude.{◌≡◌, ◌++◌, ◌<◌, ◌≤◌, IfSome, OnOk, flat_map, length, take};
 ghost use Rattle.fw_trace_names.specs.Names.{nameless, with_declared, devices_of, device_text, node_or, node_text, id_text, holder_text, blank_device};
 
+use crate::ends::put_blank_row;
 use crate::parts::{put_part, put_row};
 use arrayvec::ArrayVec;
 use fw_async::number_of;
@@ -160,12 +161,33 @@ impl Names {
         }
     }
 
-    /// Appends a device after a space. An error says that memory ran out, and comes for nothing else: a part of the text may be appended then.
-    pub fn put_blank_device(&self, text: &mut Vec<u8>, device: u8) -> Result<(), AllocError>
+    // Appends a device after a space, one after the other.
+    #[inline(never)]
+    fn put_blank_pieces(&self, text: &mut Vec<u8>, device: u8) -> Result<(), AllocError>
         ensures { OnOk result (text.new.items ≡ text.old.items ++ blank_device self.now device) }
     {
         put_word(text, " ")?;
         self.put_device(text, u32::from(device))
+    }
+
+    // A row that begins with the name of a device, and the name's length, if there is one.
+    #[inline(always)]
+    #[tactic(auto, unfolding(crate::specs::Names::device_text))]
+    fn device_row(&self, device: u8) -> Option<(&[u8; 16], usize)>
+        ensures { IfSome result (λ r. (r.1 ≤ 16) × (take r.1 r.0.now ≡ device_text self.now device)) }
+    {
+        self.names.get(usize::from(device))?.row()
+    }
+
+    /// Appends a device after a space. An error says that memory ran out, and comes for nothing else: a part of the text may be appended then.
+    #[inline(always)]
+    pub fn put_blank_device(&self, text: &mut Vec<u8>, device: u8) -> Result<(), AllocError>
+        ensures { OnOk result (text.new.items ≡ text.old.items ++ blank_device self.now device) }
+    {
+        match self.device_row(device) {
+            Some((row, size)) => put_blank_row(text, row, size),
+            None => self.put_blank_pieces(text, device),
+        }
     }
 
     /// Appends the device that each node is, after a space, in the order of their numbers. An error says that memory ran out, and comes for nothing else: a part of the text may be appended then.

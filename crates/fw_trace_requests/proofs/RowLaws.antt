@@ -43,3 +43,9 @@ held_same q f f' t t' c c' e g h = λ i. Some (of_parts q (e i) (g i) (h i))
 pub line_put : (text cycle left arrow right blank asked frame more feed : List ℕ)
     → text ++ (cycle ++ left ++ arrow ++ right ++ blank) ++ (asked ++ (frame ++ more)) ++ feed ≡ text ++ (cycle ++ left ++ arrow ++ (right ++ blank ++ asked ++ frame) ++ more ++ feed)
 line_put text cycle left arrow right blank asked frame more feed = simp append_assoc
+
+-- a line with its arrow, of what it begins with and one piece after it
+pub line_whole : (text cycle left arrow right blank asked frame more piece feed : List ℕ) → piece ≡ asked ++ (frame ++ more)
+    → text ++ ((cycle ++ left ++ arrow ++ right ++ blank) ++ (piece ++ feed)) ≡ text ++ (cycle ++ left ++ arrow ++ (right ++ blank ++ asked ++ frame) ++ more ++ feed)
+line_whole text cycle left arrow right blank asked frame more piece feed e =
+    ap (λ (x : List ℕ). text ++ ((cycle ++ left ++ arrow ++ right ++ blank) ++ (x ++ feed))) e ∙ simp append_assoc

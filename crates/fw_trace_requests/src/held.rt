@@ -5,16 +5,14 @@ ghost use Rattle.fw_trace_names.specs.CausedLines.{caused_text};
 ghost use Rattle.fw_trace_requests.specs.Held.{held_of, is_joined, lone_lines, held_by_names, held_bare, joined_with};
 ghost use Rattle.fw_trace_names.specs.Names.{Naming};
 
-use crate::answers::put_proposed;
 use crate::carried::Carried;
 use crate::made::MadeLine;
 use crate::memo::Memo;
 use crate::packets::{Reply, is_answered};
-use crate::replies::put_replied;
 use fw_async::Packet;
-use fw_log_names::{CycleRow, Pairs, put_word};
+use fw_log_names::{CycleRow, Pairs};
 use fw_log_requests::Asked;
-use fw_trace_names::{Names, put_ends};
+use fw_trace_names::{Names, put_whole_line};
 use std::alloc::{AllocError, Global};
 
 /// A request that carries nothing or a usual frame, and its cycle.
@@ -39,6 +37,7 @@ pub struct HeldBack {
 
 impl Bare {
     // Appends its line, if it is answered later, or not at all.
+    #[inline(always)]
     #[tactic(auto, unfolding(crate::specs::Held::lone_lines))]
     fn put_lone(
         &self,
@@ -51,20 +50,23 @@ impl Bare {
         ensures { OnOk result (text.new.items ≡ text.old.items ++ caused_text (lone_lines (Some (held_bare names.now self.now.cycle self.now.asked self.now.carried)))) }
     {
         let q = &self.asked;
-        put_ends(
-            text,
-            digits,
-            self.cycle,
-            names,
-            q.source,
-            b" -> ",
-            q.destination,
-        )?;
-        put_proposed(text, pairs, memo, names, q, self.carried)?;
-        put_word(text, "\n")
+        match memo.proposed(q, self.carried) {
+            Some(told) => put_whole_line(
+                text,
+                digits,
+                self.cycle,
+                names,
+                q.source,
+                b" -> ",
+                q.destination,
+                told,
+            ),
+            None => self.put_lone_pieces(text, digits, pairs, memo, names),
+        }
     }
 
     // Appends its line, and of its answer.
+    #[inline(always)]
     #[tactic(auto, unfolding(crate::specs::Held::joined_with))]
     fn put_joined(
         &self,
@@ -78,17 +80,19 @@ impl Bare {
         ensures { OnOk result (text.new.items ≡ text.old.items ++ caused_text (joined_with names.now r.now (Some (held_bare names.now self.now.cycle self.now.asked self.now.carried)))) }
     {
         let q = &self.asked;
-        put_ends(
-            text,
-            digits,
-            self.cycle,
-            names,
-            q.source,
-            b" <-> ",
-            q.destination,
-        )?;
-        put_replied(text, pairs, memo, names, q, self.carried, r)?;
-        put_word(text, "\n")
+        match memo.replied(q, self.carried, r) {
+            Some(told) => put_whole_line(
+                text,
+                digits,
+                self.cycle,
+                names,
+                q.source,
+                b" <-> ",
+                q.destination,
+                told,
+            ),
+            None => self.put_joined_pieces(text, digits, pairs, memo, names, r),
+        }
     }
 }
 

@@ -9,8 +9,11 @@ mod made;
 mod memo;
 mod packets;
 mod phrase;
+mod pieces;
 mod replies;
 mod requests;
+mod rows;
+mod spread;
 mod words;
 
 pub use carried::Carried;

@@ -1,30 +1,27 @@
 //! The latest phrases, as text.
 
-ghost use Rattle.std.specs.Prelude.{◌≡◌, ◌++◌, IsTrue, OnOk, Some};
+ghost use Rattle.std.specs.Prelude.{◌≡◌, ◌≤◌, ◌++◌, IfSome, IsTrue, OnOk, Some, take};
 ghost use Rattle.fw_trace_names.specs.Names.{Naming};
 ghost use Rattle.fw_trace_requests.specs.Phrases.{phrase_text};
 
 use crate::carried::Carried;
 use crate::phrase::{Phrase, Words, is_nameless};
+use crate::spread::row_of;
 use crate::words::put_words;
 use fw_log_names::Pairs;
 use fw_log_registers::RegisterPlace;
-use fw_trace_names::{Names, put_row};
-use fw_words::Swap;
+use fw_trace_names::{Names, TOLD, put_row};
 use std::alloc::{AllocError, Global};
 use std::marker::Model;
 
 /// How many phrases are kept at most, each in the row that it belongs to or in the one beside it. A power of two.
-const ROWS: usize = 2048;
-
-/// The longest text that is kept.
-const LONGEST: usize = 128;
+const ROWS: usize = 1024;
 
 /// A phrase that has no name in it, if there is one, and its text in a row that is copied whole.
 #[derive(Drop)]
 struct Row {
     phrase: Option<Phrase>,
-    text: [u8; LONGEST],
+    text: [u8; TOLD],
     size: usize,
 }
 
@@ -37,7 +34,7 @@ impl Model for Row {
 
     ghost view = { λ r. take r.size r.text };
 
-    ghost invariant = { λ r. (r.size ≤ 128) × IfSome r.phrase (λ p. (n : Naming) → take r.size r.text ≡ phrase_text n p) };
+    ghost invariant = { λ r. (r.size ≤ 112) × IfSome r.phrase (λ p. (n : Naming) → take r.size r.text ≡ phrase_text n p) };
 }
 
 // The same is carried.
@@ -76,53 +73,16 @@ fn is_same(kept: &Option<Phrase>, phrase: &Phrase) -> bool
     ensures { IsTrue result → kept.now ≡ Some phrase.now }
 {
     match kept {
-        Some(other) => other.offset == phrase.offset && are_same(other.words, phrase.words),
+        Some(other) => other.offset == phrase.offset && are_same(phrase.words, other.words),
         None => false,
     }
-}
-
-/// An odd number by which keys are spread over the rows: 2^32 divided by the golden ratio.
-const SPREAD: u32 = 0x9E37_79B1;
-
-// A number of a swap: any would do.
-#[inline(always)]
-fn mixed(s: Swap) -> u32 {
-    s.argument.wrapping_add(s.new.wrapping_mul(3))
-}
-
-// A number of what is carried: any would do.
-#[inline(always)]
-fn mixed_frame(carried: Carried) -> u32 {
-    match carried {
-        Carried::Nothing => 0,
-        Carried::Quadlet(quadlet) => quadlet,
-        Carried::Pair(first, second) => first.wrapping_add(second.wrapping_mul(3)),
-    }
-}
-
-// The row that a phrase belongs to: any would do.
-#[inline(always)]
-fn row_of(phrase: &Phrase) -> usize {
-    let (kind, words) = match phrase.words {
-        Words::Write | Words::Lock(None) => (0, 0),
-        Words::Read => (1, 0),
-        Words::Lock(Some(s)) => (2, mixed(s)),
-        Words::Word(word) => (3, word),
-        Words::Change(s) => (4, mixed(s)),
-        Words::Brought(word) => (5, word),
-        Words::Proposed(s) => (6, mixed(s)),
-        Words::Swapped(s, word) => (7, mixed(s).wrapping_add(word.wrapping_mul(5))),
-        Words::Written(carried) => (8, mixed_frame(carried)),
-    };
-    let key = words.wrapping_add((phrase.offset % 4096) as u32 ^ (kind << 12));
-    (key.wrapping_mul(SPREAD) >> 21) as usize
 }
 
 impl Row {
     fn new() -> Row {
         Row {
             phrase: None,
-            text: [0; LONGEST],
+            text: [0; TOLD],
             size: 0,
         }
     }
@@ -132,7 +92,7 @@ impl Row {
         requires { (n : Naming) → text.now ≡ phrase_text n phrase.now }
     {
         self.phrase = None;
-        if text.len() > LONGEST {
+        if text.len() > TOLD {
             return;
         }
         self.text[..text.len()].copy_from_slice(text);
@@ -168,7 +128,7 @@ pub struct Memo {
 }
 
 impl Memo {
-    /// None so far, and no memory yet: it takes some 350,000 bytes when the first phrase is put.
+    /// None so far, and no memory yet: it takes some 160,000 bytes when the first phrase is put.
     pub fn new(alloc: Global) -> Memo {
         Memo {
             rows: Vec::new(alloc),
@@ -184,6 +144,37 @@ impl Memo {
             self.rows.push(Row::new())?;
         }
         Ok(())
+    }
+
+    // What is kept in this row begins with a phrase: that, and the phrase's length, if it is so.
+    #[inline(always)]
+    fn row_at(&self, at: usize, phrase: &Phrase) -> Option<(&[u8; TOLD], usize)>
+        ensures { IfSome result (λ r. (r.1 ≤ 112) × ((n : Naming) → take r.1 r.0.now ≡ phrase_text n phrase.now)) }
+    {
+        match self.rows.get(at) {
+            Some(row) if is_same(&row.phrase, phrase) => Some((&row.text, row.size)),
+            _ => None,
+        }
+    }
+
+    // The same, if it is rare.
+    #[inline(never)]
+    fn row_beside(&self, own: usize, phrase: &Phrase) -> Option<(&[u8; TOLD], usize)>
+        ensures { IfSome result (λ r. (r.1 ≤ 112) × ((n : Naming) → take r.1 r.0.now ≡ phrase_text n phrase.now)) }
+    {
+        self.row_at(own ^ 1, phrase)
+    }
+
+    // The row that begins with a phrase, and the phrase's length, if it is kept.
+    #[inline(always)]
+    pub(crate) fn row(&self, phrase: &Phrase) -> Option<(&[u8; TOLD], usize)>
+        ensures { IfSome result (λ r. (r.1 ≤ 112) × ((n : Naming) → take r.1 r.0.now ≡ phrase_text n phrase.now)) }
+    {
+        let own = row_of(phrase);
+        match self.row_at(own, phrase) {
+            Some(told) => Some(told),
+            None => self.row_beside(own, phrase),
+        }
     }
 
     // The row that a phrase goes to which is not in its own: that one if it is empty, else the one beside it.

@@ -12,7 +12,7 @@ use crate::events::{put_event, put_outcome, put_reset, put_shown};
 use fw_async::Packet;
 use fw_log_entry::Entry;
 use fw_log_names::put_word;
-use fw_trace_names::{put_cycle, put_ends};
+use fw_trace_names::put_cycle;
 use fw_trace_requests::{Reply, put_response};
 use std::alloc::AllocError;
 
@@ -33,30 +33,22 @@ impl Tracer {
     }
 
     // Appends a response to an earlier request.
-    #[tactic(auto, unfolding(crate::specs::Replies::late_reply))]
+    #[tactic(auto, using(crate::proofs::ReplyLaws::late_put), unfolding(crate::specs::Replies::late_reply))]
     fn put_late(&mut self, cycle: u64, r: &Reply) -> Result<(), AllocError>
         ensures text { OnOk result (self.new.text ≡ self.old.text ++ caused_text (late_reply self.old.telling cycle r.now)) }
         ensures kept { self.new.telling ≡ self.old.telling }
     {
         let q = self.requests.latest(&r.head);
-        put_ends(
+        put_response(
             &mut self.text,
             &mut self.digits,
             cycle,
-            &self.names,
-            r.head.destination,
-            b" <- ",
-            r.head.source,
-        )?;
-        put_response(
-            &mut self.text,
             &self.pairs,
             &mut self.memo,
             &self.names,
             q,
             r,
-        )?;
-        put_word(&mut self.text, "\n")
+        )
     }
 
     // Appends the lines of a request that is held back, and of a response which does not answer it.

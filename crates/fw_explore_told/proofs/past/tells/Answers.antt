@@ -1,4 +1,4 @@
-use Rattle.std.proofs.Common.{◌≡◌, List, [], Option, Some, None, is_some, false, sym, refl, ◌∙◌}
+use Rattle.std.proofs.Common.{◌≡◌, [], Option, Some, None, is_some, false, sym, refl, ◌∙◌}
 use Rattle.fw_explore_told.specs.declared.past.ToldEntry.{ToldEntry}
 use Rattle.fw_explore_told.specs.Histories.{with_one}
 use Rattle.fw_explore_told.proofs.TellLaws.{walked_none, walked_more, walked_all}

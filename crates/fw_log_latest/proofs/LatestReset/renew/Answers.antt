@@ -1,19 +1,26 @@
-use Rattle.std.proofs.Common.{◌≡◌, ◌∙◌, refl, sym, ap, subst, drop, rules}
-use Rattle.fw_log_entry.specs.Log.{ResetFits}
+use Rattle.std.proofs.Common.{rules, arith, ◌≡◌, ◌∙◌, sym, subst, drop}
+use Rattle.std.specs.Prelude.{IsTrue}
 use Rattle.fw_log_entry.specs.declared.entry.ResetEntry.{ResetEntry}
-use Rattle.fw_log_latest.specs.Latest.{Latest, later_bytes}
-use Rattle.fw_log_latest.proofs.LatestLaws.{again_is, later_is, kept_entry}
+use Rattle.fw_log_latest.specs.Latest.{TellsBus}
+use Rattle.fw_log_latest.proofs.LatestLaws.{long, renewed, still}
 use Rattle.fw_log_latest.proofs.LatestReset.renew.Goals as goal
 
-pub returns-clause-renewed : goal.returns-clause-renewed
-returns-clause-renewed c = λ t r f e.
+pub invariant_of-self : goal.invariant_of-self
+invariant_of-self c = λ k.
     let bytes = c.args.bytes.now in
-    let old = c.deref_mut.result.now in
-    let entry = c.args.self.now.entry in
-    let is : old ≡ entry = c.deref_mut.ensures.value ∙ ap (λ (l : Latest). l.entry) c.self.view_is in
-    let x = c.has.ensures.kept (search rules) in
-    let later : later_bytes entry ≡ drop 4 bytes = cc (x.2, later_is bytes) in
-    let fits : ResetFits old = subst ResetFits (sym is) x.1 in
-    let same : later_bytes old ≡ drop 4 bytes = subst (λ (s : ResetEntry). later_bytes s ≡ drop 4 bytes) (sym is) later in
-    let again = again_is old r bytes (drop 4 bytes) c.quadlet_at.result.0 fits f e same refl c.quadlet_at.ensures.value in
-    kept_entry c.args.self.now _ _ r (ap (λ (l : Latest). l.is_kept) c.self.view_is) x.0 again
+    let P : ResetEntry → Type 0 = λ e. TellsBus e c.self.inside.later.items in
+    let x = subst P (sym c.deref_mut.ensures.value) (c.self.invariant k) in
+    let same : c.self.inside.later.items ≡ drop 4 bytes = sym c.as_slice.ensures.value ∙ c.ends_body.ensures (search rules) in
+    still c.deref_mut.result.now c.self.inside.later.items c.requires.0 bytes c.quadlet_at.result.0 x c.requires.1 c.requires.2 same c.quadlet_at.ensures.value
+
+pub returns : goal.returns
+returns c = λ t r f e.
+    let bytes = c.args.bytes.now in
+    let P : ResetEntry → Type 0 = λ e. TellsBus e c.self.inside.later.items in
+    let k : IsTrue c.self.inside.is_kept = search rules in
+    let x = subst P (sym c.deref_mut.ensures.value) (c.self.invariant k) in
+    let same : c.self.inside.later.items ≡ drop 4 bytes = sym c.as_slice.ensures.value ∙ c.ends_body.ensures (search rules) in
+    renewed c.deref_mut.result.now r bytes c.self.inside.later.items c.quadlet_at.result.0 x f e same c.quadlet_at.ensures.value
+
+pub ends_body-requires : goal.ends_body-requires
+ends_body-requires c = omega (arith, long c.requires.0 c.args.bytes.now c.requires.2)

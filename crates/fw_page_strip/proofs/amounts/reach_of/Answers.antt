@@ -1,5 +1,4 @@
-use Rattle.std.proofs.Common.{arith}
 use Rattle.fw_page_strip.proofs.amounts.reach_of.Goals as goal
 
 pub loop-reach-init : goal.loop-reach-init
-loop-reach-init c = (omega arith, λ m h k a b. absurd (omega arith))
+loop-reach-init c = (c.end_of_known-reach.ensures.few, c.end_of_known-reach.ensures.nobodys)

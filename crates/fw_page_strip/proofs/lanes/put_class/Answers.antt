@@ -1,8 +1,11 @@
 use Rattle.std.proofs.Common.{◌∙◌}
 use Rattle.std.proofs.lemmas.Result.{on_ok_weaker}
-use Rattle.fw_page_strip.specs.Lanes.{bar, channels_below}
-use Rattle.fw_page_strip.proofs.LaneLaws.{two_parts, path_put}
+use Rattle.fw_page_strip.specs.Lanes.{bar, channels_below, class_path}
+use Rattle.fw_page_strip.proofs.LaneLaws.{begun, two_parts, path_put}
 use Rattle.fw_page_strip.proofs.lanes.put_class.Goals as goal
+
+pub returns-then-not-may_have : goal.returns-then-not-may_have
+returns-then-not-may_have c = λ l h a o. begun c.args.text.now.items (class_path l c.args.class) (c.may_have.ensures l h c.if-not-may_have.true)
 
 pub returns : goal.returns
 returns c = λ l h a o.

@@ -7,7 +7,7 @@ use Rattle.fw_script_words.proofs.seed.count_run.Goals as goal
 pub loop-ending-init : goal.loop-ending-init
 loop-ending-init g c =
     counting_first c.args.script.items c.new-source.result c.new-sink.result.held c.in-Ok-new.reader c.in-Ok.bus c.args.tally.now
-    (search rules) c.in-Ok.ensures.stands c.in-Ok.ensures.spent c.new-source.ensures c.new-sink.ensures.held c.requires.none
+    (search rules) (search rules) (search rules) c.new-source.ensures c.new-sink.ensures.held c.requires.none
 
 pub loop-ending-preserved : goal.loop-ending-preserved
 loop-ending-preserved g c =

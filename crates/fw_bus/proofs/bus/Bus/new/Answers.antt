@@ -5,4 +5,4 @@ use Rattle.fw_model_run.specs.Runs.{begun}
 use Rattle.fw_bus.proofs.bus.Bus.new.Goals as goal
 
 pub invariant_of-result : goal.invariant_of-result
-invariant_of-result c = λ fresh. record { commands = []; actions = []; log = []; state = first_state; run = begun; stands = c.in_ok-new.ensures }
+invariant_of-result c = λ fresh. record { commands = []; actions = []; log = []; state = first_state; run = begun; stands = c.new-7.ensures }

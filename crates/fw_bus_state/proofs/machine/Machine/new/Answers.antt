@@ -31,16 +31,16 @@ nothing_stands = record {
 pub returns : goal.returns
 unfolding list_to
 returns c = record {
-  devices = subst (λ (n : Network). HasDevices n (devices_at first_state)) (sym c.in_ok-devices.ensures) nothing_stands;
+  devices = subst (λ (n : Network). HasDevices n (devices_at first_state)) (sym c.requires.devices) nothing_stands;
   clock = record { cycle = refl; reclaiming = refl; half_steps = refl; written = refl; resets = refl };
-  table = c.in_ok-controllers.ensures;
+  table = c.requires.controllers;
   directory = refl;
-  wire = subst (λ (w : Pairs). HasWire w first_state) (sym c.new-5.ensures) (wire_empty first_state (λ d. refl));
-  streams = subst (λ (counts : List ℕ). HasStreams counts first_state.streams) (sym c.new-6.ensures) nothing_sent;
+  wire = subst (λ (w : Pairs). HasWire w first_state) (sym c.new.ensures) (wire_empty first_state (λ d. refl));
+  streams = subst (λ (counts : List ℕ). HasStreams counts first_state.streams) (sym c.new-2.ensures) nothing_sent;
   answered = refl;
   unsent = refl;
-  election = c.in_ok-candidates.ensures;
-  bids = subst (λ (w : Pairs). HasBids w first_state) (sym c.new-7.ensures) (record { each = λ node. refl });
-  reel = record { tied_is = refl; reel_is = c.in_ok-reel.ensures };
+  election = c.requires.candidates;
+  bids = subst (λ (w : Pairs). HasBids w first_state) (sym c.new-3.ensures) (record { each = λ node. refl });
+  reel = record { tied_is = refl; reel_is = c.requires.reel };
   around = first_beside;
 }

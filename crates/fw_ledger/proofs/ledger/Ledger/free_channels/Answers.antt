@@ -1,6 +1,6 @@
 use Rattle.fw_ledger.proofs.Common.{◌≡◌, ◌+◌, ◌-◌, ◌*◌, ◌%◌, subst, sym, arith, flag, is_open, Tables}
 use Rattle.std.specs.Int.{bit_at}
-use Rattle.fw_ledger.proofs.Channels.{halves_fit, free_bits}
+use Rattle.fw_account_tables.proofs.Channels.{halves_fit, free_bits}
 use Rattle.fw_ledger.proofs.ledger.Ledger.free_channels.Goals as goal
 
 pub overflow_add-result : goal.overflow_add-result

@@ -6,6 +6,9 @@ use Rattle.fw_page_phrases.specs.Standing.{standing_for, without}
 use Rattle.fw_page.proofs.FrameLaws.{nothing_shown}
 use Rattle.fw_page.proofs.progress.Progress.end_request.Goals as goal
 
+pub follow_packet-requires-clause-packet : goal.follow_packet-requires-clause-packet
+follow_packet-requires-clause-packet c = (c.args.p.now, c.requires.is, c.requires.bytes)
+
 pub returns-clause-found : goal.returns-clause-found
 returns-clause-found c = λ st h. c.end_standing-standing.ensures.found st h ∙ ap (λ (x : Head). standing_for (answer_of c.args.p.now) x st.standing) c.head_of.ensures
 
@@ -13,4 +16,4 @@ pub returns-clause-shows : goal.returns-clause-shows
 returns-clause-shows c = λ st h.
     let ended = subst (λ (x : Head). Shows (record st { standing = without (answer_of c.args.p.now) x st.standing }) c.end_standing-standing.new.self) c.head_of.ensures
     (c.end_standing-standing.ensures.shows st h) in
-    rw c.requires.is at (c.follow.ensures.shows _ (nothing_shown _ c.end_standing-standing.new.self _ refl ended))
+    rw c.requires.is at (c.follow_packet.ensures.shows _ (nothing_shown _ c.end_standing-standing.new.self _ refl ended))

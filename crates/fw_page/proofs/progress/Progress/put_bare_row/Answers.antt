@@ -1,19 +1,19 @@
-use Rattle.fw_page.proofs.Common.{ap, sym, false, ◌∙◌, Progress, prefix_of, put_as}
-use Rattle.fw_page_marks.specs.Shapes.{halves}
+use Rattle.fw_page.proofs.Common.{◌∙◌, prefix_of}
+use Rattle.fw_page.specs.Rows.{lines_now}
+use Rattle.fw_page.specs.Sheets.{lines_of}
+use Rattle.fw_page.proofs.MovedLaws.{lines_shown}
 use Rattle.fw_page.proofs.RowLaws.{row_said, row_left}
 use Rattle.fw_page.proofs.progress.Progress.put_bare_row.Goals as goal
 
 pub returns-clause-moves : goal.returns-clause-moves
 returns-clause-moves c = λ st h.
-    let drawn = c.draw_lines.new.self in
+    let drawn = c.draw_parts.new.self in
+    let lined = c.put_lines.new.self in
     let painting = c.put_strip.new.self in
-    let d = c.in_ok-draw_lines.ensures.draws st h in
-    let p = c.in_ok-put_strip.ensures.draws st d.shows in
-    let halved = put_as _ _ _ _ c.in_ok-put_halves.ensures (ap (λ x. halves x c.deref-2.result.now) c.deref.ensures.value ∙ ap (λ x. halves drawn.lines.items x) c.deref-2.ensures.value) in
-    let left = c.leave_row.ensures.left in
-    let lines = ap (λ (x : Progress). x.lines) left in (
-      row_said st c.args.self.now drawn (prefix_of c.args.head) c.args.marks.now c.args.words.now _ c.args.dot _ _ _ _ _ _ _ h d c.in_ok-put.ensures halved c.in_ok-extend_from_slice.ensures.items
-          c.in_ok-put_word.ensures c.in_ok-extend_from_slice-2.ensures.items p.0,
-      row_left st c.args.self.now drawn painting c.leave_row.new.self _ d p.1
-          (left ∙ ap (λ x. record painting { lines = x; edge = painting.second; is_moved = false }) (sym lines)) (ap (λ (x : Progress). x.lines.items) left),
+    let d = c.in_ok-draw_parts.ensures.draws st h in
+    let l = c.in_ok-put_lines.ensures in
+    let p = c.in_ok-put_strip.ensures.draws _ (lines_shown st drawn lined (lines_now st) l.rest (l.left ∙ d.lines_are) d.shows) in (
+      row_said st c.args.self.now drawn (prefix_of c.args.head) c.args.marks.now c.args.words.now (lines_of drawn) c.args.dot _ _ _ _ _ _ _ h d c.in_ok-put.ensures l.text
+          c.in_ok-extend_from_slice.ensures.items c.in_ok-put_word.ensures c.in_ok-extend_from_slice-2.ensures.items p.0,
+      row_left st c.args.self.now drawn lined painting c.leave_row.new.self (lines_of drawn) d l.rest l.left p.1 c.leave_row.ensures.left,
     )

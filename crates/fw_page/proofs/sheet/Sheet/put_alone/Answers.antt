@@ -6,12 +6,12 @@ use Rattle.fw_page.proofs.RowLaws.{row_same, gathered}
 use Rattle.fw_page.proofs.sheet.Sheet.put_alone.Goals as goal
 
 pub returns-in_default : goal.returns-in_default
-returns-in_default c = λ p s. absurd (let a = c.kept_packet.ensures p s in let b = c.in_default.is in let z : ⊥ = cc in z)
+returns-in_default c = λ p s. absurd (let a = c.packet.ensures p s in let b = c.in_default.is in let z : ⊥ = cc in z)
 
 pub returns : goal.returns
 returns c = λ p s.
     let q = c.args.request.now in
-    let same : c.in-Some.p ≡ p = let a = c.kept_packet.ensures p s in let b = c.in-Some.is in cc in
+    let same : c.in-Some.p ≡ p = let a = c.packet.ensures p s in let b = c.in-Some.is in cc in
     row_done c.put_row.result (alone c.args.cycle c.args.number q p) (prefix_of c.request_head-head.result) c.put_alone_marks.new.marks.items c.put_alone_words.new.words.items None
     c.args.self.now.progress _ c.args.self.now.text.items _
     (λ st h. row_same st _ _ _ _ _ _ None (c.request_head-head.ensures ∙ ap (λ rows. request_prefix rows true q (codes " w8") c.args.number c.args.cycle) h.nodes)

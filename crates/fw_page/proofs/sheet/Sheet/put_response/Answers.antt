@@ -4,8 +4,12 @@ use Rattle.fw_page_phrases.specs.Asking.{class_of}
 use Rattle.fw_page_content.specs.Exchanges.{answer_marks, answer_words, request_of}
 use Rattle.fw_page_content.specs.Heads.{devices_of}
 use Rattle.fw_page.proofs.AnswerLaws.{answered_still, answer_done}
+use Rattle.fw_page.proofs.FollowedLaws.{spelled}
 use Rattle.fw_page.proofs.RowLaws.{gathered}
 use Rattle.fw_page.proofs.sheet.Sheet.put_response.Goals as goal
+
+pub end_request-ended-requires-clause-bytes : goal.end_request-ended-requires-clause-bytes
+end_request-ended-requires-clause-bytes c = spelled c.args.t.now.what c.args.p.now c.args.bytes.now c.requires.is c.requires.fits c.requires.bytes
 
 pub returns : goal.returns
 returns c =

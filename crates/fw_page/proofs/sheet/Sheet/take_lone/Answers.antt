@@ -2,7 +2,11 @@ use Rattle.fw_page.proofs.Common.{ap, sym, ◌∙◌}
 use Rattle.fw_async.specs.declared.packet.Head.{Head}
 use Rattle.fw_page.proofs.DoneLaws.{asked_done, answered_done, start_done}
 use Rattle.fw_page.proofs.HeldLaws.{lone_is, lone_start}
+use Rattle.fw_page.proofs.FollowedLaws.{spelled}
 use Rattle.fw_page.proofs.sheet.Sheet.take_lone.Goals as goal
+
+pub ask-requires-clause-packet : goal.ask-requires-clause-packet
+ask-requires-clause-packet c = (c.args.p.now, c.requires.is, spelled c.args.t.now.what c.args.p.now c.args.bytes.now c.requires.is c.requires.fits c.requires.bytes)
 
 pub returns-in-Some : goal.returns-in-Some
 returns-in-Some c =
