@@ -107,7 +107,6 @@ impl Reading for Explanation {
     }
 
     // No fault of a packet or a bus reset of a usual form is looked for twice.
-    #[inline(never)]
     fn take_raw(
         &mut self,
         reader: &mut LogReader,
