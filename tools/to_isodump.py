@@ -5,6 +5,7 @@ import os
 import sys
 
 sys.path.insert(0, os.path.dirname(os.path.realpath(__file__)))  # a user may have Python leave it out
+sys.dont_write_bytecode = True  # where it is installed, nothing comes beside it
 
 from captures import interrupts  # noqa: E402
 

@@ -5,7 +5,7 @@ from __future__ import annotations
 import argparse
 import re
 from enum import IntEnum
-from typing import Callable, List, NamedTuple, NoReturn
+from typing import Callable, List, NamedTuple, NoReturn, Optional
 
 from . import interrupts, streams
 from .tally import Tally
@@ -62,10 +62,11 @@ class Parser(argparse.ArgumentParser):
 
 
 class Tool(NamedTuple):
-    """A tool: its name, what its report counts, its words, and what it does with them."""
+    """A tool: its name, what its report counts, its words, and what it does with them. One that counts nothing reports
+    damage alone."""
 
     name: str
-    records: str
+    records: Optional[str]
     parser: Parser
     work: Callable[[argparse.Namespace], Tally]
 
@@ -105,7 +106,7 @@ def worked(tool: Tool, words: List[str]) -> Tally:
     """What became of each record, once all of the output is written."""
     tally = tool.work(tool.parser.parse_args(words))
     streams.standard_output().flush()
-    if not tally.is_balanced():
+    if tool.records is not None and not tally.is_balanced():
         tally.damage = "the counts of this report do not add up: a fault of the tool"
     return tally
 

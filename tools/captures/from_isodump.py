@@ -5,45 +5,25 @@ examples:
   from_isodump.py < dv.iso > dv.log
   fire dv < dv.log
 
-A capture has no times: a cycle is counted on when a channel comes again that
-the cycle has already. So with one channel each packet has a cycle of its own,
-and cycles without a packet do not show. Each packet becomes an entry of the
-log, or is left out; a report on standard error counts both, by what it was.
-docs/CAPTURES.md has the rest.
+Captures of versions 1 and 2 are read. They have no times: a cycle is counted on
+when a channel comes again that the cycle has already. So with one channel each
+packet has a cycle of its own, and cycles without a packet do not show. Each
+packet becomes an entry of the log, or is left out; a report on standard error
+counts both, by what it was. docs/CAPTURES.md has the rest.
 """
 
 from __future__ import annotations
 
 import argparse
-import struct
 from typing import Iterator, Set
 
 from . import frame, streams
 from .happenings import IsochronousPacket
-from .packets import Tcode, Words, quadlets_of, tcode
+from .isodump_records import packets
+from .packets import Tcode, tcode
 from .survey import LiveSurvey
 from .tally import Tally
 from .to_log import LogMaker
-
-MAGICS = (b"1394 isodump v1\0", b"1394 isodump v2\0")
-HEADER = 32  # bytes: the magic, a mask of the channels, and 8 that are not used
-
-
-def packets(capture: bytes, tally: Tally) -> Iterator[Words]:
-    """The packets: each its header and its data, padded to quadlets."""
-    if len(capture) < HEADER or not capture.startswith(MAGICS):
-        tally.damage = "byte 0: not a capture of dumpiso"
-        return
-    at = HEADER
-    while at < len(capture):
-        length = int.from_bytes(capture[at : at + 2], "big")
-        quadlets = 1 + quadlets_of(length)
-        if at + 4 > len(capture) or at + 4 * quadlets > len(capture):
-            tally.damage = f"byte {at}: cut"
-            return
-        tally.read += 1
-        yield list(struct.unpack_from(f">{quadlets}I", capture, at))
-        at += 4 * quadlets
 
 
 def happenings(capture: bytes, tally: Tally) -> Iterator[IsochronousPacket]:

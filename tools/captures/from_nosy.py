@@ -20,8 +20,8 @@ import argparse
 import io
 
 from . import frame, streams
+from .byte_order import BYTE_ORDERS
 from .nosy_reader import NosyReader
-from .nosy_records import BYTE_ORDERS
 from .survey import LiveSurvey, Survey
 from .tally import Tally
 from .to_log import LogMaker, add_kinds

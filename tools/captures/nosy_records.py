@@ -5,13 +5,13 @@ from __future__ import annotations
 import struct
 from typing import Iterator, List, Optional
 
+from .byte_order import LITTLE_ENDIAN, likely_order
 from .packets import HEADER_QUADLETS, WITH_BLOCK, Tcode, Words, data_length, quadlets_of
 from .streams import Input
 from .tally import LeftOut, Tally
 
-LITTLE_ENDIAN, BIG_ENDIAN = "<", ">"
-BYTE_ORDERS = {"little": LITTLE_ENDIAN, "big": BIG_ENDIAN}
 LONGEST = 16384  # bytes; the records of the driver have at most 8195
+HOLE = 128  # empty records on end: 512 bytes of zeros are no bus resets, but a part of the file that was never written
 PHY_PACKET_QUADLETS = 4
 TOO_SHORT = "record that is shorter than its packet"
 
@@ -19,7 +19,7 @@ TOO_SHORT = "record that is shorter than its packet"
 def records(capture: Input, order: Optional[str], tally: Tally) -> Iterator[List[int]]:
     """The records as lists of quadlets. A capture that goes on to none is damaged there, and ends there. Without an
     order the first length that is not 0 decides it."""
-    at = 0
+    at = empty = 0
     while True:
         head = capture.read(4)
         if not head:
@@ -27,10 +27,14 @@ def records(capture: Input, order: Optional[str], tally: Tally) -> Iterator[List
         if len(head) < 4:
             tally.damage = f"byte {at}: cut"
             return
-        order = order or likely_order(head)
+        order = order or likely_order(head, LONGEST)
         (length,) = struct.unpack((order or LITTLE_ENDIAN) + "I", head)
         if length > LONGEST or length % 4:
             tally.damage = f"byte {at}: a record of {length} bytes"
+            return
+        empty = 0 if length else empty + 1
+        if empty == HOLE:
+            tally.damage = f"byte {at + 4 - 4 * HOLE}: {HOLE} empty records on end"
             return
         body = capture.read(length) if length else b""
         if len(body) < length:
@@ -39,14 +43,6 @@ def records(capture: Input, order: Optional[str], tally: Tally) -> Iterator[List
         tally.read += 1
         at += 4 + length
         yield list(struct.unpack(f"{order or LITTLE_ENDIAN}{length // 4}I", body))
-
-
-def likely_order(head: bytes) -> Optional[str]:
-    """The byte order in which a record has this length; None for 0, which says nothing."""
-    little, big = (int.from_bytes(head, order) for order in BYTE_ORDERS)
-    if little == 0:
-        return None
-    return BIG_ENDIAN if little > LONGEST >= big else LITTLE_ENDIAN
 
 
 def is_bus_reset(record: List[int]) -> bool:

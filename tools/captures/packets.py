@@ -104,13 +104,14 @@ def quadlets_of(length: int) -> int:
     return (length + 3) // 4
 
 
-def packet_quadlets(words: Words) -> Optional[int]:
-    """How many quadlets the asynchronous packet has by its header; None if the header is not there or of no such
-    packet."""
-    header = HEADER_QUADLETS.get(tcode(words))
-    if header is None or len(words) < header:
+def packet_bytes(packet: bytes) -> Optional[int]:
+    """How many bytes the asynchronous packet that begins so has by its header, without which it is None, or if it is no
+    such packet."""
+    code = packet[3] >> 4
+    header = HEADER_QUADLETS.get(code)
+    if header is None or len(packet) < 4 * header:
         return None
-    return header + quadlets_of(data_length(words)) if tcode(words) in WITH_BLOCK else header
+    return 4 * (header + quadlets_of(packet[12] << 8 | packet[13]) if code in WITH_BLOCK else header)
 
 
 def log_form(words: Words) -> Tuple[Words, bool]:

@@ -4,11 +4,12 @@ from __future__ import annotations
 
 import os
 import sys
-from typing import BinaryIO, Callable
+from typing import BinaryIO, Callable, Iterator
 
 from . import interrupts
 
 STANDARD_OUTPUT, STANDARD_ERROR = 1, 2
+PIECE = 1 << 16  # bytes
 
 
 class TerminalInput(Exception):
@@ -35,6 +36,14 @@ class Input:
     def read_line(self, longest: int) -> bytes:
         """A line with its line feed, of at most so many bytes: a longer one comes in pieces."""
         return self._ask(lambda: self._stream.readline(longest))
+
+    def pieces(self) -> Iterator[bytes]:
+        """What is there, as it comes."""
+        while True:
+            piece = self._ask(lambda: self._stream.read1(PIECE))
+            if not piece:
+                return
+            yield piece
 
     def _ask(self, read: Callable[[], bytes]) -> bytes:
         try:
@@ -78,13 +87,12 @@ class Output:
         self._at_once = at_once
 
     def write(self, data: bytes) -> None:
-        rest = memoryview(data)
+        rest = data
         try:
-            while rest:  # without a buffer, as a user may have it, a part may be taken
-                taken = self._stream.write(rest)
+            while (taken := self._stream.write(rest)) != len(rest):
                 if taken is None:  # a stream that does not wait takes nothing now
                     raise WriteFault()
-                rest = rest[taken:]
+                rest = memoryview(rest)[taken:]  # without a buffer, as a user may have it, a part may be taken
             if self._at_once:
                 self._stream.flush()
         except OSError as fault:

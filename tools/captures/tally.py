@@ -14,6 +14,7 @@ class Written(Enum):
     SELF_ID_PACKET = "self-ID packets"
     PACKET = "packets"
     ISOCHRONOUS_PACKET = "isochronous packets"
+    ENTRY = "entries"
 
 
 class LeftOut(Exception):
@@ -46,8 +47,14 @@ class Tally:
     def is_balanced(self) -> bool:
         return self.read == sum(self.wrote.values()) + sum(self.left.values())
 
-    def lines(self, name: str, records: str) -> Iterator[str]:
-        """The report of the tool with this name, which counts such records."""
+    def lines(self, name: str, records: Optional[str]) -> Iterator[str]:
+        """The report of the tool with this name, which counts such records, or nothing."""
+        if records is not None:
+            yield from self._counts(name, records)
+        if self.damage is not None:
+            yield f"{name}: damaged: {self.damage}"
+
+    def _counts(self, name: str, records: str) -> Iterator[str]:
         wrote = ", ".join(f"{self.wrote[what]} {what.value}" for what in Written if self.wrote[what])
         left = sum(self.left.values())
         yield f"{name}: read {self.read} {records}, wrote {wrote or 'nothing'}, left out {left}"
@@ -57,5 +64,3 @@ class Tally:
             yield f"{name}: changed {count}: {what}"
         for what in self.unsure:
             yield f"{name}: unsure: {what}"
-        if self.damage is not None:
-            yield f"{name}: damaged: {self.damage}"

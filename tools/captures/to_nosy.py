@@ -18,13 +18,13 @@ from __future__ import annotations
 
 import argparse
 import struct
-from typing import Iterator, List
+from typing import Iterable, Iterator, List
 
 from . import frame, from_log, streams
 from .acks import Ack
+from .byte_order import BYTE_ORDERS
 from .log_reader import Entry, counted_entries
 from .log_writer import EntryKind
-from .nosy_records import BYTE_ORDERS
 from .packets import ALL_NODES, HEADER_QUADLETS, RESPONSES, Tcode, Words, destination, physical_id, tcode
 from .tally import Tally, Written
 from .times import CYCLE_MICROSECONDS, MICROSECONDS
@@ -53,7 +53,7 @@ def stream_record(words: Words, stamp: int) -> List[int]:
     return [stamp, words[0], NO_CRC, *words[1:], NO_CRC, Ack.NONE]
 
 
-def records(log: bytes, are_resets_timed: bool, tally: Tally) -> Iterator[List[int]]:
+def records(log: Iterable[bytes], are_resets_timed: bool, tally: Tally) -> Iterator[List[int]]:
     """The records of the capture as lists of quadlets."""
     for entry in counted_entries(log, tally):
         stamp = entry.cycle * CYCLE_MICROSECONDS % MICROSECONDS
@@ -72,7 +72,7 @@ def records(log: bytes, are_resets_timed: bool, tally: Tally) -> Iterator[List[i
 
 def work(options: argparse.Namespace) -> Tally:
     tally = Tally()
-    log, output = streams.standard_input().read(), streams.standard_output()
+    log, output = streams.standard_input().pieces(), streams.standard_output()
     order = BYTE_ORDERS[options.byte_order]
     for record in records(log, not options.transaction, tally):
         output.write(struct.pack(f"{order}{1 + len(record)}I", 4 * len(record), *record))

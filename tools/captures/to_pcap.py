@@ -49,9 +49,9 @@ def frame_of(entry: Entry, tally: Tally) -> bytes:
 
 def work(_options: argparse.Namespace) -> Tally:
     tally = Tally()
-    log, output = streams.standard_input().read(), streams.standard_output()
+    output = streams.standard_output()
     output.write(FILE_HEADER)
-    for entry in counted_entries(log, tally):
+    for entry in counted_entries(streams.standard_input().pieces(), tally):
         if entry.kind == EntryKind.ISOCHRONOUS:
             output.write(frame_of(entry, tally))
             tally.write(Written.ISOCHRONOUS_PACKET)

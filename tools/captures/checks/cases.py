@@ -67,6 +67,9 @@ def nosy_cases() -> Iterator[Case]:
     )
     both = "read 7 records, wrote 2 bus resets, 4 self-ID packets, 1 packets, left out 0"
     yield nosy("a bus reset in another", told_twice(), both)
+    hole = whole + bytes(4 * 127)
+    yield nosy("empty records", hole + write_at(4, 1), "left out 126: bus reset told again")
+    yield nosy("a hole", hole + bytes(1 << 25), f"damaged: byte {len(whole)}: 128 empty records on end")
     alone = record(1) + phy(2, SECOND) + write_at(3, 1)
     yield nosy("a node whose number is not 0", alone, "left out 1: self-ID packet of such a bus reset")
 

@@ -8,10 +8,9 @@ from typing import Dict, List, Tuple
 
 from . import hostile, read_log
 from .counted import Checks
-from .laws import check_log, check_made, packets_of
-from .tools import EXAMPLES, FROM, VECTORS, run_here
+from .laws import check_log, check_made, check_pcapng, packets_of
+from .tools import EXAMPLES, FROM, TO, VECTORS, run_here
 
-TO = ("to_nosy", "to_pcap", "to_isodump")
 Bus = List[Tuple[int, List[int]]]
 
 
@@ -56,6 +55,7 @@ def check_prefixes(checks: Checks, logs: Dict[bytes, str]) -> None:
         ("from_nosy", "nosy_leak.cap", 61),
         ("from_nosy", "nosy_big_endian.cap", 59),
         ("from_isodump", "isodump_mixed.iso", 5),
+        ("from_isodump", "isodump_2_mixed.iso", 5),
         ("from_trace", "trace_manager.trace", 97),
     ]
     for tool, name, step in wholes:
@@ -81,7 +81,9 @@ def check_logs_out(checks: Checks) -> None:
         inputs.append((f"{vector} in version 1", in_version_1(log)))
     for what, log in inputs:
         for tool in TO:
-            check_made(checks, f"{tool} of {what}", tool, log)
+            ended = check_made(checks, f"{tool} of {what}", tool, log)
+            if tool == "to_pcapng":
+                check_pcapng(checks, f"{tool} of {what}", ended, log)
 
 
 def in_version_1(log: bytes) -> bytes:

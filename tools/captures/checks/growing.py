@@ -17,6 +17,8 @@ from .tools import VECTORS, command, run
 
 HEADER, END = 16, 16  # bytes of a log's header, and of its last entry
 OF_BUS_RESETS = (8, 20)  # bytes of a record of a bus reset, and of one of a self-ID packet
+LOG_HEADER, ENTRY_HEAD = 16, 16  # bytes of a log of version 2
+PCAPNG_HEADER, AROUND_PACKET = 68, 32  # bytes before the first packet of a pcapng file, and beside each packet
 PATIENCE = 60  # seconds
 
 
@@ -131,6 +133,28 @@ def check_live(checks: Checks) -> None:
         checks.check(f"{tool} --live: the log as the capture grows", same)
 
 
+def check_live_log(checks: Checks) -> None:
+    """The packet of an entry is there before the next entry is given, and Ctrl-C is the end of the log."""
+    log = (VECTORS / "out_play.log").read_bytes()
+    due = run("to_pcapng", [], log).output
+    packets = due[PCAPNG_HEADER:]
+    running, given = Running("to_pcapng", "--live"), LOG_HEADER
+    running.give(log[:given])
+    same = running.take(PCAPNG_HEADER) == due[:PCAPNG_HEADER]
+    for entry in read_log.read(log)[:60]:
+        size = ENTRY_HEAD + len(entry.body)
+        running.give(log[given : given + size])
+        same &= running.take(AROUND_PACKET + size) == packets[: AROUND_PACKET + size]
+        given, packets = given + size, packets[AROUND_PACKET + size :]
+    running.interrupt()
+    has_ended = running.ends_by_itself()
+    _, report = running.end()
+    told = (running.process.returncode, report.decode().splitlines()[-1:])
+    due_end = (4, [f"to_pcapng: damaged: byte {given}: NoEnd"])
+    checks.check(f"to_pcapng --live: {told}", same and has_ended and told == due_end)
+
+
 def check_growing(checks: Checks) -> None:
     check_interrupt(checks)
     check_live(checks)
+    check_live_log(checks)

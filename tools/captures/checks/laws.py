@@ -3,7 +3,8 @@
 from __future__ import annotations
 
 import re
-from typing import Callable, Dict, Iterator, List, Sequence
+import struct
+from typing import Callable, Dict, Iterator, List, Sequence, Tuple
 
 from . import read_log
 from .counted import Checks
@@ -13,6 +14,8 @@ Words = List[int]
 CLEARED = "reserved bits and padding that were set: cleared"
 HEADER_LENGTHS = {0: 4, 1: 4, 2: 3, 4: 3, 5: 4, 6: 4, 7: 4, 8: 4, 9: 4, 10: 1, 11: 4}
 LONGEST_RECORD = 16384
+HEADER_OF_LOG = 16
+ENTRIES, DAMAGE = 160, 161  # link types of a pcapng file
 
 
 def nosy_records(capture: bytes) -> List[Words]:
@@ -41,11 +44,20 @@ def nosy_packets(capture: bytes) -> Iterator[Words]:
 
 
 def isodump_packets(capture: bytes) -> Iterator[Words]:
-    at = 32
+    at, is_version_2 = 32, capture[14:15] == b"2"
+    lengths = [int.from_bytes(capture[at : at + 4], order) for order in ("little", "big")]
+    order = "big" if lengths[0] > 4096 >= lengths[1] else "little"
     while at + 4 <= len(capture):
-        end = at + 4 + (int.from_bytes(capture[at : at + 2], "big") + 3) // 4 * 4
+        if is_version_2:
+            length, data_at = int.from_bytes(capture[at : at + 4], order), at + 8
+            channel, tag, sy = [*capture[at + 4 : at + 7], 0, 0, 0][:3]
+            header, end = length << 16 | tag << 14 | channel << 8 | 10 << 4 | sy, data_at + length
+        else:
+            header, data_at = int.from_bytes(capture[at : at + 4], "big"), at + 4
+            end = data_at + ((header >> 16) + 3) // 4 * 4
+        data = capture[data_at:end] + bytes((data_at - end) % 4)
         if end <= len(capture):
-            yield [int.from_bytes(capture[k : k + 4], "big") for k in range(at, end, 4)]
+            yield [header, *(int.from_bytes(data[k : k + 4], "big") for k in range(0, len(data), 4))]
         at = end
 
 
@@ -130,3 +142,34 @@ def check_made(checks: Checks, what: str, tool: str, log: bytes) -> Ended:
         return ended
     checks.check(f"{what}: a whole log is read", ended.status == 0 and Report(ended.report).read == len(entries))
     return ended
+
+
+def pcapng_packets(file: bytes) -> Iterator[Tuple[int, int, bytes]]:
+    """Link type, time in microseconds, and bytes of each packet of a pcapng file."""
+    at, link_types = 0, []
+    while at < len(file):
+        kind, size = struct.unpack_from("<II", file, at)
+        if kind == 1:
+            link_types.append(struct.unpack_from("<H", file, at + 8)[0])
+        if kind == 6:
+            interface, high, low, length = struct.unpack_from("<4I", file, at + 8)
+            yield link_types[interface], high << 32 | low, file[at + 28 : at + 28 + length]
+        at += size
+
+
+def cycle_of(entry: bytes) -> int:
+    head = len(entry) - 4 * int.from_bytes(entry[2:4], "big")
+    return int.from_bytes(entry[head - 8 : head], "big")
+
+
+def check_pcapng(checks: Checks, what: str, ended: Ended, log: bytes) -> None:
+    """After its header the log is the packets, one after the other, up to where it is damaged; each has its cycle's
+    time."""
+    packets = list(pcapng_packets(ended.output))
+    whole = [(time, data) for link_type, time, data in packets if link_type == ENTRIES]
+    begun = b"".join(data for _, data in whole)
+    rest = b"".join(data for link_type, _, data in packets if link_type == DAMAGE)
+    after = log[HEADER_OF_LOG + len(begun) :]
+    begins_so = log[HEADER_OF_LOG:].startswith(begun) and (after.startswith(rest) or log.startswith(rest))
+    checks.check(f"{what}: its bytes", begins_so and (after == b"" or ended.status == 4))
+    checks.check(f"{what}: its times", all(time == cycle_of(data) * 125 % 2**64 for time, data in whole))

@@ -10,7 +10,7 @@ import subprocess
 import sys
 from typing import Dict, List, NamedTuple, Sequence
 
-from .. import frame, from_isodump, from_nosy, from_trace, to_isodump, to_nosy, to_pcap
+from .. import frame, from_isodump, from_nosy, from_trace, to_isodump, to_nosy, to_pcap, to_pcapng
 
 HERE = pathlib.Path(__file__).resolve().parent.parent
 SCRIPTS = HERE.parent
@@ -18,9 +18,13 @@ VECTORS = HERE / "vectors"
 EXAMPLES = SCRIPTS.parent / "examples"
 TOOLS: Dict[str, frame.Tool] = {
     tool.name: tool
-    for tool in (from_nosy.TOOL, from_trace.TOOL, from_isodump.TOOL, to_nosy.TOOL, to_pcap.TOOL, to_isodump.TOOL)
+    for tool in (
+        *(from_nosy.TOOL, from_trace.TOOL, from_isodump.TOOL),
+        *(to_nosy.TOOL, to_pcap.TOOL, to_pcapng.TOOL, to_isodump.TOOL),
+    )
 }
 FROM = [name for name in TOOLS if name.startswith("from_")]
+TO = [name for name in TOOLS if name.startswith("to_")]
 
 
 class Ended(NamedTuple):

@@ -19,6 +19,7 @@ INPUTS = {
     "from_isodump": "isodump_play.iso",
     "to_nosy": LOG,
     "to_pcap": LOG,
+    "to_pcapng": LOG,
     "to_isodump": LOG,
 }
 WRONG_WORDS = {
@@ -27,6 +28,7 @@ WRONG_WORDS = {
     "from_isodump": (["--live"], ["two\nlines"]),
     "to_nosy": (["--transaction", "--byte-order"],),
     "to_pcap": (["x"], ["--", "-x"]),
+    "to_pcapng": (["--liv"], ["--live=1"]),
     "to_isodump": (["\udcff"],),
 }
 
@@ -125,8 +127,25 @@ def check_scripts(checks: Checks) -> None:
         checks.check(f"{tool}.py as a command", ended.returncode == 0 and ended.stdout)
 
 
+def check_log_of_json(checks: Checks) -> None:
+    """The tool that makes a log of JSON ends by the same table, whatever comes in."""
+    good = b'{"kind":6,"cycle":"0","device":0,"offset":"fffff0000220","word":"ffffffff"}\n'
+    bad = (b"{", b"[]", b"7", b"{}", b'{"kind":9}', b'{"kind":1,"cycle":"0"}', b'{"kind":7,"cycle":"-1"}', b"\xff\xfe", b"\0")
+    bad += (good[:40], good.replace(b"220", b"zzz"), good.replace(b"0,", b"256,"), b"[" * 100_000, b'{"kind":7,"cycle":' + b"9" * 6000 + b"}")
+    for line in bad:
+        ended = run("log_of_json", [], good + line)
+        what = f"log_of_json of {line!r:.40}"
+        checks.check(f"{what}: {ended.report}", ended.status == 4 and ended.report.startswith("log_of_json: damaged: line 2: "))
+        checks.check(f"{what}: what is before", ended.output == run("log_of_json", [], good).output)
+        checks.check(f"{what}: a line", ended.report.count("\n") == 1)
+    checks.check("log_of_json of nothing", run("log_of_json", ["1"], b"") == (0, b"1394" + bytes((0, 0, 0, 1, *bytes(8))), ""))
+    for redirections, status in (("<&-", 5), (">&-", 6), ("--help > /dev/full", 6), ("3", 2), ("1 2", 2)):
+        told_one_line(checks, f"log_of_json {redirections}", in_shell("log_of_json", redirections, good), status)
+
+
 def check_users(checks: Checks) -> None:
     check_help(checks)
     check_words(checks)
     check_streams(checks)
     check_scripts(checks)
+    check_log_of_json(checks)

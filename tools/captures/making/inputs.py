@@ -17,6 +17,13 @@ from .trace_capture import as_traced
 RELAY = 0  # the code of its kind
 Inputs = Dict[str, bytes]
 
+# A file that dumpiso 2.1.2 wrote: packets of 5, 0 and 3 bytes.
+DUMPISO_2_THREE = bytes.fromhex("""
+    31333934 2069736f 64756d70 20763200  ffffffff ffffffff 00000000 00000000
+    05000000 05010300 01020304 05
+    00000000 3f000f00
+    03000000 07020100 aabbcc""")
+
 
 class Logs:
     """The logs of the scripts. `run` makes a log of a script."""
@@ -29,7 +36,7 @@ class Logs:
 
     def relay(self) -> int:
         """The device of the log that plays that is a relay."""
-        resets = [entry for entry in read_log(self.play) if entry.kind == EntryKind.RESET]
+        resets = [entry for entry in read_log([self.play]) if entry.kind == EntryKind.RESET]
         rows = [reset.body[8 + 4 * node : 12 + 4 * node] for reset in resets for node in range(reset.node_count())]
         return next(row[0] for row in rows if row[3] == RELAY)
 
@@ -66,17 +73,33 @@ def trace_inputs(logs: Logs) -> Inputs:
     }
 
 
+def isodump_record(packet: bytes, order: str = "<") -> bytes:
+    """What dumpiso 2.1.2 writes of a packet, on a host of this byte order."""
+    length, tag_and_channel, sy = struct.unpack_from(">HBB", packet)
+    head = struct.pack(order + "I4B", length, tag_and_channel & 63, tag_and_channel >> 6, sy & 15, 0)
+    return head + packet[4 : 4 + length]
+
+
 def isodump_inputs(logs: Logs) -> Inputs:
-    streams = [entry.body for entry in read_log(logs.play) if entry.kind == EntryKind.ISOCHRONOUS]
-    head = b"1394 isodump v1\0" + struct.pack(">QQ", 1, 0)
+    streams = [entry.body for entry in read_log([logs.play]) if entry.kind == EntryKind.ISOCHRONOUS]
+    channel_0 = struct.pack(">QQ", 1, 0)
+    head = b"1394 isodump v1\0" + channel_0
+    head_2 = b"1394 isodump v2\0" + channel_0
+    records = [isodump_record(packet) for packet in streams]
     audio = struct.pack(">3I", 72 << 16 | 1 << 14 | 0xA0, 0x00020000, 0x9002FFFF) + bytes(64)
     on_channel_1 = streams[2].replace(b"\x40\xa0", b"\x41\xa0", 1)
     return {
         "isodump_play": head + b"".join(streams),
         "isodump_lost": head + b"".join(streams[:7] + streams[10:]),
         "isodump_mixed": head + b"".join([streams[1], audio, on_channel_1, streams[3]]),
+        "isodump_2_play": head_2 + b"".join(records),
+        "isodump_2_big_endian": head_2 + b"".join(isodump_record(packet, ">") for packet in streams),
+        "isodump_2_mixed": head_2 + b"".join(map(isodump_record, [streams[1], audio, on_channel_1, streams[3]])),
+        "isodump_2_three": DUMPISO_2_THREE,
         "hostile_isodump_cut": head + b"".join(streams)[:-7],
         "hostile_isodump_none": b"1394 isodum",
+        "hostile_isodump_2_cut": head_2 + b"".join(records)[:-7],
+        "hostile_isodump_2_no_head": head_2 + b"".join(records[:3]) + streams[3] + b"".join(records[4:]),
     }
 
 

@@ -30,7 +30,7 @@ class Sniffer:
         self._resets = 0
 
     def records(self, log: bytes) -> Iterator[Tuple[Record, bool]]:
-        for entry in read_log(log):
+        for entry in read_log([log]):
             for record in self._cycle_starts(entry.cycle):
                 yield record, True
             self._cycle = entry.cycle

@@ -57,7 +57,7 @@ class Host:
         self.text = ""
 
     def see(self, log: bytes) -> None:
-        for entry in read_log(log):
+        for entry in read_log([log]):
             if entry.kind == EntryKind.RESET:
                 self._reset(entry)
             elif entry.kind == EntryKind.PACKET and self._node_id is not None:

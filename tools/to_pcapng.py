@@ -1,0 +1,17 @@
+#!/usr/bin/env python3
+"""Makes a pcapng file of a log; `to_pcapng.py --help` says more, and docs/WIRESHARK.md the rest."""
+
+import os
+import sys
+
+sys.path.insert(0, os.path.dirname(os.path.realpath(__file__)))  # a user may have Python leave it out
+sys.dont_write_bytecode = True  # where it is installed, nothing comes beside it
+
+from captures import interrupts  # noqa: E402
+
+interrupts.end_quietly()  # before the rest is loaded, which takes longer
+
+from captures import frame, to_pcapng  # noqa: E402
+
+if __name__ == "__main__":
+    sys.exit(frame.run(to_pcapng.TOOL, sys.argv[1:]))
