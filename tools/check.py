@@ -1,10 +1,10 @@
 #!/usr/bin/env python3
 """Compares what people read with what the program does: its help, the examples, the commands that documents show with what they write, the
-manual pages, and JSON by another parser.
+manual pages, JSON by another parser, and what `watch` and `audit` say of a thousand runs.
 
     tools/check.py [PROGRAM]
 
-PROGRAM is dist/fire, which ships. .ci/run makes this check after the gate; it needs Python 3.8, and takes some seconds. The status is 0 if
+PROGRAM is dist/fire, which ships. .ci/run makes this check after the gate; it needs Python 3.8, and takes half a minute. The status is 0 if
 all holds, 1 if something does not, and 2 if there is no program.
 """
 
@@ -12,6 +12,7 @@ import itertools
 import os
 import pathlib
 import re
+import select
 import shlex
 import shutil
 import subprocess
@@ -21,7 +22,7 @@ import tempfile
 sys.dont_write_bytecode = True
 
 from log_of_json import log_of  # noqa: E402
-from pages import check_page  # noqa: E402
+from runs import COUNT, check_runs  # noqa: E402
 
 ROOT = pathlib.Path(__file__).resolve().parent.parent
 EXAMPLES = ROOT / "examples"
@@ -31,6 +32,14 @@ VERSION_AT = 7  # the byte of a log that has its version
 # What a log without its end is told with: `explain` tells its entries first.
 CUT_OFF = 4
 
+# The words that tell what they were given before they wait for more, of a log that is this long at the least; and how long an answer may take.
+TOLD_AT_ONCE = [["decode"], ["explain"], ["json"], ["convert", "1"], ["convert", "2"], ["holders"], ["watch"]]
+LONG_LOG, SECONDS_FOR_AN_ANSWER = 2_000, 20
+
+# How a body reads from a source, and who does so without passing on: the reader of scripts yet.
+READ = re.compile(r"\bsource\s*\.read\(|\bSource::read\(")
+READS_BY_ITSELF = ["crates/fw_script/src/reader/input.rt"]
+
 # What completes words, what the manual pages say of them, and what the launcher's help of a word says; each word of the help is in all three.
 COMPLETION = ROOT / "tools/completion.bash"
 WORDS = ROOT / "tools/launcher/words.txt"
@@ -39,6 +48,10 @@ MANUAL = ROOT / "docs/man/fire.1"
 # The format of logs, as the repository and as the manual have it.
 FORMAT = ROOT / "docs/LOG.md"
 FORMAT_MANUAL = ROOT / "docs/man/fire-log.5"
+
+# The lines of scripts, as the repository and as the manual have them.
+SCRIPTS = ROOT / "docs/SCRIPT.md"
+SCRIPTS_MANUAL = ROOT / "docs/man/fire-script.5"
 
 # The documents whose commands are tried. One is shown as a line `    $ COMMAND`, with lines `    > ..` if it has more than one, and below
 # it what it writes to standard output, which may have empty lines within; all of a document are run in one folder, in which `./fire` is the program as the launcher calls it.
@@ -57,6 +70,9 @@ SHOWN_COMMAND = re.compile(r"^    \$ (.*\n(?:    > .*\n)*)((?:\n*    (?!\$ ).*\n
 
 # How a script says what explores it, in a comment.
 COMMAND_OF_EXPLORE = re.compile(r"^# \./fire (explore .*) < examples/", re.M)
+
+# The marks of the lines in a page, with the words that they are of.
+MARKS = {"{": "json", "=": "explain", "@": "holders", "~": "watch"}
 
 # What a page that is read first may have.
 FIRST_PAGE = ROOT / "README.md"
@@ -91,10 +107,10 @@ def check_help(program):
     text = HELP.read_bytes()
     for word in ("help", "--help", "-h"):
         due(f"help of the program: {word}", run(program, [word]) == (0, text, b""))
-        # (the first call of the launcher in a checkout says on standard error what it runs)
-        due(f"help of the launcher: {word}", run(ROOT / "fire", [word])[:2] == (0, text))
+        due(f"help of the launcher: {word}", run(ROOT / "fire", [word]) == (0, text, b""))
     for word in ("version", "--version", "-V"):
-        due(f"version: {word}", run(program, [word]) == run(ROOT / "fire", [word]))
+        status, output, errors = run(ROOT / "fire", [word])
+        due(f"version: {word}", run(program, [word]) == (status, re.sub(rb"build \w+\n", b"", output), errors))
     due("no words", run(program, []) == (2, b"", b"usage\n"))
     due("no words of the launcher", run(ROOT / "fire", []) == (2, b"", text))
     manual, completion = MANUAL.read_text(), COMPLETION.read_text()
@@ -179,13 +195,40 @@ def check_silence(program, what, log):
         due(f"{what}: watch finds something in a sound log", not {b"?", b"!"} & set(told))
 
 
-def check_pages(program, what, log):
-    """Its page is one that stands alone: by its tags and links, by tidy if that is here, and by a browser if it is a page that ships. Says
-    which of these are not here."""
-    _, page, _ = run(program, ["page"], log)
-    wrongs, skipped = check_page(page, in_browser=(EXAMPLES / f"{what}.html").exists())
-    due(f"{what}: its page: {wrongs[:3]}", not wrongs)
-    return skipped
+def answers(program, words, parts):
+    """Whether a word, of whose input each part comes when the one before was answered, has written all that it writes of the parts so far."""
+    given = told = b""
+    with subprocess.Popen([program, *words], bufsize=0, stdin=subprocess.PIPE, stdout=subprocess.PIPE, stderr=subprocess.DEVNULL) as waiting:
+        for part in parts:
+            waiting.stdin.write(part)
+            given += part
+            expected = run(program, words, given)[1]
+            while len(told) < len(expected) and select.select([waiting.stdout], [], [], SECONDS_FOR_AN_ANSWER)[0]:
+                told += waiting.stdout.read(len(expected) - len(told)) or expected
+            if told != expected:
+                return False
+    return True
+
+
+def check_answers(program, what, log):
+    """A log that grows is told entry by entry, through pipes that stay open."""
+    if len(log) < LONG_LOG:
+        return
+    parts = [log[at:at + 300] for at in range(0, LONG_LOG, 300)]
+    for words in TOLD_AT_ONCE:
+        due(f"{what}: {' '.join(words)} waits before it answers", answers(program, words, parts))
+
+
+def check_page(program, what, log):
+    """The lines of its page with a mark are what the word of that mark writes, and the last one says how the page ended."""
+    status, page, note = run(program, ["page"], log)
+    lines = page.decode("ascii").splitlines()
+    for mark, word in MARKS.items():
+        own = [line if mark == "{" else line[1:] for line in lines if line.startswith(mark)]
+        due(f"{what}: the lines of {word} in its page", run(program, [word], log)[1].decode("ascii").splitlines() == own)
+    told = f":log {status} {note.decode('ascii')}".strip()
+    due(f"{what}: its page does not end with {told}", [line for line in lines if line.startswith(":")][-1:] == [told])
+    due(f"{what}: its page has markup", not any("<" in line for line in lines if line.startswith((*MARKS, ":"))))
 
 
 def logs_of_sessions():
@@ -260,16 +303,28 @@ def numbered(text):
 
 
 def check_manuals():
-    """The manual of logs has the events and outcomes of docs/LOG.md, and that of the program the statuses of README."""
+    """The manual of logs has the events and outcomes of docs/LOG.md, that of scripts the lines of docs/SCRIPT.md, and that of the program
+    the statuses of README."""
     manual, text = FORMAT_MANUAL.read_text(), FORMAT.read_text()
     events = {int(code): name for code, name in re.findall(r"^\| (\d+) \| `([a-z-]+)` \|", text, re.M)}
     due(f"{FORMAT_MANUAL.name}: other events", events and numbered(manual.split(".SS Events")[1].split("Events 1")[0]) == events)
     outcomes = numbered(re.split(r"Outcomes\s+are\s", text)[1].split(";")[0])
     told = numbered(manual.split(".SS Outcomes")[1].split(".SH")[0])
     due(f"{FORMAT_MANUAL.name}: other outcomes", outcomes and told == outcomes)
+    lines = re.findall(r"^- `(\w+(?: [A-Z]+)*)`", SCRIPTS.read_text().split("\n## Commands")[1].split("\n## ")[0], re.M)
+    told = [" ".join(filter(None, it)) for it in re.findall(r"^\.B (\w+)(?: \\fI([A-Z ]+)\\fP)?$", SCRIPTS_MANUAL.read_text(), re.M)]
+    due(f"{SCRIPTS_MANUAL.name}: other lines", lines and [it for it in told if it in lines] == lines)
     statuses = re.findall(r"^\| (\d+) \| ", (ROOT / "README.md").read_text(), re.M)
     exits = re.findall(r"^\.B (\d+)$", MANUAL.read_text().split(".SH EXIT STATUS")[1], re.M)
     due(f"{MANUAL.name}: other statuses", statuses and exits == statuses)
+
+
+def check_reads():
+    """Nothing but `fw_outside::ask`, which passes on what is kept back before it reads, reads from a source."""
+    for path in sorted((ROOT / "crates").glob("*/src/**/*.rt")):
+        crate = path.relative_to(ROOT / "crates").parts[0]
+        if crate != "fw_outside" and not crate.startswith("fw_tests") and str(path.relative_to(ROOT)) not in READS_BY_ITSELF:
+            due(f"{path.relative_to(ROOT)} reads from a source by itself", not READ.search(path.read_text()))
 
 
 def check_seconds():
@@ -287,28 +342,30 @@ def main(words):
     check_help(program)
     check_manuals()
     check_seconds()
+    check_reads()
     scripts = sorted(EXAMPLES.glob("*.script"))
-    skipped = set()
     for script in scripts:
         log = check_example(program, script)
         check_log(program, script.stem, log)
         check_holders(program, script.stem, log)
         check_silence(program, script.stem, log)
-        skipped.update(check_pages(program, script.stem, log))
+        check_page(program, script.stem, log)
+        check_answers(program, script.stem, log)
     kept = list(logs_of_sessions())
     for what, log in kept:
         check_log(program, what, log)
         check_holders(program, what, log)
+        check_page(program, what, log)
         # Those that are laid by hand for `watch` have other labels, which an audit passes over.
         if not what.startswith("watch_"):
             check_silence(program, what, log)
+    for it in check_runs(program):
+        due(it, False)
     shown = sum(check_document(program, name) for name in SHOWN)
     due("the documents show no command", shown)
     check_manual_examples(program)
     check_first_page()
-    print(f"check: {len(scripts)} examples, {len(kept)} logs of sessions and {shown} shown commands, {wrong} wrong")
-    if skipped:
-        print(f"check: pages were not looked at by {' and '.join(sorted(skipped))}, which are not here")
+    print(f"check: {len(scripts)} examples, {len(kept)} logs of sessions, {COUNT} runs and {shown} shown commands, {wrong} wrong")
     return 1 if wrong else 0
 
 

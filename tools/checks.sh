@@ -20,10 +20,14 @@ made tools/launcher/check.sh
 if command -v python3 >/dev/null; then
     made tools/check.py dist/fire
     made tools/captures/check.py dist/fire
+    made tools/wireshark/check.py dist/fire
+    made tools/pointers.py
     made tools/counts.py --check
     made tools/wrong.py --check
+    made tools/page/build_head.py --check
+    made tools/page/test_page.py
 else
-    echo 'checks: tools/check.py, tools/captures/check.py, tools/counts.py and tools/wrong.py skipped, since there is no python3'
+    echo 'checks: skipped what is written in Python, since there is no python3'
 fi
 echo "checks: $passed passed, $failed failed"
 [ "$failed" = 0 ]

@@ -7,7 +7,7 @@
 root=$(CDPATH='' cd -- "$(dirname -- "$0")/.." && pwd) || exit 1
 . "$root/tools/launcher/call.sh"
 . "$root/tools/launcher/fresh.sh"
-to=${1:-.}
+. "$root/tools/launcher/install.sh"
 version=$(sed -n 's/^fire //p' "$root/crates/fire_sessions/data/version.txt")
 date='Sun, 29 Nov 2026 12:00:00 +0000'
 people='The fire authors <fire@localhost.localdomain>'
@@ -19,25 +19,11 @@ refuse() {
     exit 1
 }
 
-# Where each file goes below the package's folder, and its mode.
-files() {
-    cat <<'LIST'
-dist/fire usr/lib/fire/fire 755
-tools/launcher/call.sh usr/lib/fire/call.sh 644
-tools/launcher/words.txt usr/lib/fire/words.txt 644
-tools/launcher/installed.sh usr/bin/fire 755
-docs/man/fire.1 usr/share/man/man1/fire.1 644
-docs/man/fire-log.5 usr/share/man/man5/fire-log.5 644
-tools/completion.bash usr/share/bash-completion/completions/fire 644
-README.md usr/share/doc/fire/README.md 644
-LIST
-    (cd "$root" && for file in examples/*; do echo "$file usr/share/doc/fire/$file 644"; done)
-}
-
+# What is installed, but for what the system does itself: it takes the package away, and has the license.
 put_files() {
-    files | while read -r from at mode; do
-        mkdir -p "$room/${at%/*}" && cp "$root/$from" "$room/$at" && chmod "$mode" "$room/$at" || exit 1
-    done
+    without='prove install uninstall' plugin=
+    put_all "$room/usr" && rm "$room/usr/lib/fire/uninstall.sh" "$room/usr/share/doc/fire/LICENSE" &&
+        sed -i '/uninstall/d' "$room/usr/share/bash-completion/completions/fire"
 }
 
 put_documents() {
@@ -58,7 +44,7 @@ fire ($version) unstable; urgency=medium
 
  -- $people  $date
 TXT
-    gzip -9n "$room/usr/share/doc/fire/changelog" "$room/usr/share/man/man1/fire.1" "$room/usr/share/man/man5/fire-log.5"
+    gzip -9n "$room/usr/share/doc/fire/changelog" "$room/usr/share/man/man1/fire.1" "$room"/usr/share/man/man5/*
 }
 
 # What lintian would have otherwise, and why it is so.
@@ -82,7 +68,8 @@ Version: $version
 Architecture: amd64
 Maintainer: $people
 Installed-Size: $(du -sk --apparent-size "$room/usr" | cut -f 1)
-Depends: libc6 (>= 2.17)
+Depends: libc6 (>= $(glibc_of "$root/dist/fire"))
+Recommends: python3 (>= 3.8)
 Section: utils
 Priority: optional
 Description: proved simulator and log decoder of FireWire audio and video buses
@@ -92,12 +79,24 @@ Description: proved simulator and log decoder of FireWire audio and video buses
 TXT
 }
 
-is_fresh "$root/dist/SOURCES" || refuse "dist/ is of other sources: run rt ci && tools/dist.sh"
-command -v dpkg-deb >/dev/null || refuse "dpkg-deb is not on the path"
-room=$(mktemp -d) || exit 1
-trap 'rm -rf "$room"' EXIT
-chmod 755 "$room"
-umask 022
-put_files && put_documents && put_overrides && put_control || refuse "the package was not made"
-find "$room" -exec touch -hd "@$SOURCE_DATE_EPOCH" {} +
-dpkg-deb --root-owner-group -Zxz --build "$room" "$to/fire_${version}_amd64.deb" || refuse "the package was not made"
+make() {
+    is_fresh dist/fire || { say_what_is_amiss; refuse "dist/ is of other sources: run rt ci && tools/dist.sh"; }
+    command -v dpkg-deb >/dev/null || refuse "dpkg-deb is not on the path"
+    room=$(mktemp -d) || exit 1
+    trap 'rm -rf "$room"' EXIT
+    chmod 755 "$room"
+    umask 022
+    put_files && put_documents && put_overrides && put_control || refuse "the package was not made"
+    find "$room" -exec touch -hd "@$SOURCE_DATE_EPOCH" {} +
+    dpkg-deb --root-owner-group -Zxz --build "$room" "$1/fire_${version}_amd64.deb" || refuse "the package was not made"
+}
+
+usage="usage: tools/deb.sh [FOLDER]: makes fire_${version}_amd64.deb of what ships, in the folder, or here"
+case $#:${1-} in
+1:--help | 1:-h) echo "$usage" ;;
+0: | 1:[!-]*) make "${1:-.}" ;;
+*)
+    echo "$usage" >&2
+    exit 2
+    ;;
+esac

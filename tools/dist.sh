@@ -27,14 +27,18 @@ write_readme() {
     cat >"$dist/README.md" <<TXT
 # The program as the gate built it
 
-\`fire\` is the program for x86-64 Linux: it needs the C library (glibc) and nothing else. \`SOURCES\`
-has a BLAKE2b checksum of it, and of every source file that it was built of; \`KIT\` names the
-toolchain that proved these sources and built it.
+\`fire\` is the program for x86-64 Linux. It needs glibc $(glibc_of "$dist/fire") or later (Debian 12, Ubuntu
+22.04), a processor of level x86-64-v2 (Intel since Nehalem, 2008; AMD since Bulldozer, 2011), and
+nothing else. On an older processor it ends at once with status 127 and a line that says so; with an
+older glibc the system says which version it lacks. The gate builds for no other level. Where the
+toolchain is, \`rt run --cpu x86-64 -- version\` in \`crates/fire\` proves the libraries and builds
+\`out/fire\` for any x86-64; it is not what ships.
 
-\`b2sum -c dist/SOURCES\`, at the top of the repository, checks that it is of the sources that stand
-there. \`./fire\` does so at each call, and runs it only then. \`./fire prove\` proves and builds it
-here, in half an hour, and compares what comes out with it, byte for byte; so does \`./.ci/run\`,
-which refuses a change whose \`dist/\` is stale.
+\`SOURCES\` has a BLAKE2b checksum of the program, and of every source file that it was built of;
+\`KIT\` names the toolchain that proved these sources and built it. \`./fire\` makes that list anew at
+each call, and runs the program only if it is the same; else it says which file is another.
+\`./fire prove\` proves and builds the program here, in over an hour, and compares what comes out
+with it, byte for byte; so does \`./.ci/run\`, which refuses a change whose \`dist/\` is stale.
 
 \`rt ci && tools/dist.sh\` makes all of this anew, as the last step of each change of the code.
 TXT
@@ -47,12 +51,10 @@ make() {
     echo "dist: made of $(($(wc -l <"$dist/SOURCES") - 1)) files of sources"
 }
 
-# The list must be whole: no source file is missing in it, and each is as it was.
 must_be_of_these_sources() {
-    [ -f "$dist/SOURCES" ] || refuse "there is no dist/SOURCES: run rt ci && tools/dist.sh"
-    listed=$(sed 's/^[0-9a-f]*  //' "$dist/SOURCES")
-    [ "$listed" = "$(echo dist/fire && source_files)" ] && is_fresh "$dist/SOURCES" ||
-        refuse "dist/ is stale, since it is of other sources: run rt ci && tools/dist.sh"
+    is_fresh dist/fire && return
+    say_what_is_amiss
+    refuse "dist/ is stale: run rt ci && tools/dist.sh"
 }
 
 must_be_what_was_built() {

@@ -1,14 +1,29 @@
 #!/usr/bin/env python3
 """Makes a log of the lines that `fire json` writes of one: the same bytes again.
 
-    fire json < some.log | tools/log_of_json.py [VERSION] > same.log
+examples:
+  fire json < some.log | log_of_json.py > same.log
+  fire json < some.log | jq -c 'select(.channel != 63)' | log_of_json.py > less.log
 
-VERSION is the log's, 1 or 2; 2 if it is left out. Each line is read by Python's parser of JSON, and its object by the layouts of
-docs/LOG.md and of the standards: nothing here comes from the program.
+Each line is read by Python's parser of JSON, and its object by the layouts of
+docs/LOG.md and of the standards: nothing here comes from the program. There is
+no report but of a line that is none of `fire json`.
 """
 
-import json
+import os
 import sys
+
+sys.path.insert(0, os.path.dirname(os.path.realpath(__file__)))  # a user may have Python leave it out
+sys.dont_write_bytecode = True  # where it is installed, nothing comes beside it
+
+from captures import interrupts  # noqa: E402
+
+interrupts.end_quietly()  # before the rest is loaded, which takes longer
+
+import json  # noqa: E402
+
+from captures import frame, streams  # noqa: E402
+from captures.tally import Tally  # noqa: E402
 
 RESET = 1
 NOBODY = 255
@@ -17,6 +32,7 @@ CYCLE_START = 8
 WITH_QUADLET = {0, 6, CYCLE_START}
 WITH_LENGTH = {1, 5, 7, 9, 11}
 INSERTED = 4
+LONGEST_LINE = 1 << 20  # bytes, more than any that `fire json` writes
 
 
 def packed(*fields):
@@ -100,29 +116,53 @@ def shown(it):
 BODIES = {1: reset, 2: packet, 3: isochronous, 4: event, 5: outcome, 6: shown, 7: lambda it: b""}
 
 
-def log_of(lines, version):
-    """The bytes of the log of this version that these lines are of."""
-    log = [b"1394" + packed((version, 32), (0, 64))]
+def log_in_parts(lines, version):
+    """The header of the log of this version that these lines are of, and then each entry."""
+    yield b"1394" + packed((version, 32), (0, 64))
     epoch = 0
     for line in lines:
         it = json.loads(line)
         body = BODIES[it["kind"]](it)
         epoch = it["epoch"] if it["kind"] == RESET else epoch
         stamp = [(epoch, 32)] if version == 2 else []
-        log.append(packed((it["kind"], 8), (0, 8), (len(body) // 4, 16), *stamp, (int(it["cycle"]), 64)) + body)
-    return b"".join(log)
+        yield packed((it["kind"], 8), (0, 8), (len(body) // 4, 16), *stamp, (int(it["cycle"]), 64)) + body
 
 
-def main(words):
-    if words in (["--help"], ["-h"]):
-        print(__doc__)
-        return 0
-    if words not in ([], ["1"], ["2"]) or sys.stdin.isatty():
-        print(__doc__, file=sys.stderr)
-        return 2
-    sys.stdout.buffer.write(log_of(sys.stdin, int(words[0]) if words else 2))
-    return 0
+def log_of(lines, version):
+    """The bytes of that log."""
+    return b"".join(log_in_parts(lines, version))
+
+
+def lines_of(source, tally):
+    """The lines of standard input, counted."""
+    while True:
+        line = source.read_line(LONGEST_LINE)
+        if not line:
+            return
+        tally.read += 1
+        yield line
+
+
+def work(options):
+    tally = Tally()
+    source, output = streams.standard_input(), streams.standard_output()
+    try:
+        for part in log_in_parts(lines_of(source, tally), int(options.version)):
+            output.write(part)
+    except (ArithmeticError, AttributeError, LookupError, RecursionError, TypeError, ValueError) as why:
+        what = " ".join(f"{type(why).__name__}: {why}".split())
+        tally.damage = f"line {tally.read}: no line of fire json ({what:.60})"
+    return tally
+
+
+def parser():
+    words = frame.Parser("log_of_json", __doc__, "damaged: the log has the lines before")
+    words.add_argument("version", nargs="?", choices=("1", "2"), default="2", help="the version of the log, 2 if left out")
+    return words
+
+
+TOOL = frame.Tool("log_of_json", None, parser(), work)
 
 
 if __name__ == "__main__":
-    sys.exit(main(sys.argv[1:]))
+    sys.exit(frame.run(TOOL, sys.argv[1:]))

@@ -28,8 +28,9 @@ def split(text, mark):
     return before, after if found else None
 
 
-def bytes_of(name):
-    return b"" if name == "nothing" else (DATA / name).read_bytes()
+def bytes_of(names):
+    """Those of the files, one after another."""
+    return b"".join((DATA / name).read_bytes() for name in names.split() if name != "nothing")
 
 
 class Program:

@@ -47,7 +47,6 @@ announce() {
 
 # The list of sources is of those that are copied, so that a source which changes while they are proved makes the program stale.
 build() {
-    command -v rt >/dev/null || { note "the toolchain (rt) is not on the path"; return 1; }
     start=$(date +%s)
     number=0
     total=$(needed | wc -l)
@@ -77,6 +76,7 @@ build_or_end() {
 
 # Waits while another call builds: those of a pipe begin together, and one of them builds.
 wait_for_others() {
+    must_have rt
     mkdir -p "$built" || exit 1
     exec 9>"$built/lock"
     command -v flock >/dev/null || return 0
@@ -86,10 +86,8 @@ wait_for_others() {
 }
 
 build_once() {
-    [ ! -f "$root/dist/SOURCES" ] || command -v b2sum >/dev/null ||
-        note "b2sum (of coreutils) is not on the path, so nobody can say whether the shipped program fits the sources"
     wait_for_others
-    is_fresh "$built/SOURCES" || build_or_end
+    is_fresh crates/fire/out/fire || build_or_end
     exec 9>&-
 }
 
@@ -99,7 +97,7 @@ prove_in_any_case() {
     build_or_end
     if cmp -s "$built/fire" "$root/dist/fire"; then
         note "it is the shipped program, byte for byte"
-    elif is_fresh "$root/dist/SOURCES"; then
+    elif is_fresh dist/fire; then
         note "it is NOT the shipped program, though that was built of the same sources, with $(sed -n 1p "$root/dist/KIT");" \
             "here is $(rt version)"
         exit 1

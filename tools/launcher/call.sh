@@ -3,8 +3,9 @@
 # amiss; and each word has its own help. $program is the program, $words the file that says what each word does. This file is read by ./fire
 # and by the launcher that is installed.
 
+# (a name may have bytes that would upset a terminal)
 note() {
-    echo "fire: $*" >&2
+    printf 'fire: %s\n' "$(printf %s "$*" | LC_ALL=C tr -c ' -~' '?')" >&2
 }
 
 usage() {
@@ -12,23 +13,46 @@ usage() {
     exit 2
 }
 
+# Ends if a tool is not there.
+must_have() {
+    command -v "$1" >/dev/null && return
+    note "$1 is not on the path"
+    exit 1
+}
+
+# Writes a file; the note of a failed output is the program's.
+show() {
+    must_have cat
+    cat "$1" 2>/dev/null
+}
+
 # Whether it is a word that has help of its own.
 is_word() {
+    case $1 in '' | *[!a-z]*) return 1 ;; esac
+    must_have grep
     grep -qxF -e "== $1" "$words"
 }
 
-# `help WORD`, and `WORD --help` or `-h`: what that word reads and writes, and how it ends. It needs no program.
+# `help WORD`, and `--help` or `-h` after a word and what its form has besides: what that word reads and writes, and how it ends. It needs
+# no program.
 help_of() {
-    case $#:${1-}:${2-} in
+    [ $# -gt 1 ] || return
+    eval "last=\${$#}"
+    case $#:$1:$last in
     2:help:*) asked=$2 ;;
-    2:*:--help | 2:*:-h) asked=$1 ;;
+    *:--help | *:-h) asked=$1 ;;
     *) return ;;
     esac
     if ! is_word "$asked"; then
         note "there is no word $asked; fire help lists them"
         exit 2
     fi
+    must_have sed
     sed -n "/^== $asked\$/,/^== /{/^== /d;p;}" "$words" 2>/dev/null && exit 0
+    write_fault
+}
+
+write_fault() {
     echo 'write fault' >&2
     exit 6
 }
@@ -69,6 +93,14 @@ must_not_be_a_terminal() {
     exit 2
 }
 
+# Writes the program's version, and which build it is: the first digits of its checksum, as the first line of dist/SOURCES has it.
+tell_version() {
+    "$program" version || exit
+    command -v b2sum >/dev/null || exit 0
+    echo "build $(b2sum -l 256 <"$program" | cut -c 1-12)" 2>/dev/null || write_fault
+    exit 0
+}
+
 # Calls the program with words that read no input, or may be none of its own: after `usage` a line says where to look.
 ask() {
     "$program" "$@"
@@ -81,11 +113,14 @@ ask() {
 
 # Calls the program with these words, with the last as the input if it is one word more than their form has.
 call() {
+    # (a file that has reached its largest size is a write fault, and ends no call)
+    command trap '' XFSZ 2>/dev/null
     if [ $# = 0 ]; then
         "$program" help >&2
         exit 2
     fi
     # (its words have no number of their own, so none of them is a file's name)
+    case $#:$1 in 1:version | 1:--version | 1:-V) tell_version ;; esac
     case $1 in
     explore)
         [ $# = 1 ] || [ ! -t 0 ] || note "explore reads a script from the terminal: Ctrl-D ends it"

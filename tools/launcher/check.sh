@@ -47,11 +47,12 @@ log=$here/examples/one_deck.log
 
 # Without the toolchain: only what this needs of the path.
 mkdir "$room/bin"
-for tool in sh cat b2sum readlink mkdir rm cp chmod rmdir awk find sort sed date wc nproc mktemp grep xargs cmp head tail dirname ls tar mv flock tee ln touch paste; do
+for tool in sh cat b2sum readlink mkdir rm cp chmod rmdir awk find sort sed date wc nproc mktemp grep xargs cmp head tail dirname ls tar mv flock tee ln touch paste tr cut; do
     at=$(command -v "$tool") && ln -s "$at" "$room/bin/$tool"
 done
 PATH=$room/bin
 export PATH
+unset PYTHONDONTWRITEBYTECODE
 
 # The log of the example, whatever the way to it.
 runs() {
@@ -65,9 +66,8 @@ runs() {
 
 first_calls() {
     runs 'a fresh copy' "$here/fire"
-    is 'the first call says what it runs' 1 "$(grep -c 'shipped program, proved and built' "$room/err")"
-    runs 'the second call' "$here/fire"
-    is 'the second call says nothing' '' "$(errors)"
+    is 'a fresh copy says nothing' '' "$(errors)"
+    is 'and writes nothing beside' no "$([ -e "$here/crates/fire/out" ] && echo yes || echo no)"
     "$here/fire" run <"$script" | "$here/fire" explain >"$room/out"
     cmp -s "$room/out" "$here/examples/one_deck.txt"
     is 'two calls at once' 0 $?
@@ -82,7 +82,8 @@ from_anywhere() {
     cd "$here" || exit 1
     runs 'sh fire' sh fire
     cd "$root" || exit 1
-    is 'the version by a link' 'fire 1.0' "$("$room/link" version)"
+    is 'the version by a link' 'fire 1.0' "$("$room/link" version | head -n 1)"
+    is 'and its build' "build $(head -c 12 "$here/dist/SOURCES")" "$("$room/link" version | tail -n 1)"
     is 'no folders beside a link' no "$([ -e "$room/crates" ] && echo yes || echo no)"
     cp -r "$here" "$room/cp" && find "$room/cp" -name '*.rt' -exec touch {} +
     runs 'cp -r, and every file touched' "$room/cp/fire"
@@ -148,45 +149,40 @@ with_outputs_that_fail() {
         "$here/fire" $word >&- 2>"$room/err"
         is "$word to a closed output" 6 $?
     done
+    (ulimit -f 1 && exec "$here/fire" run) <"$here/examples/dub.script" >"$room/limited" 2>/dev/null
+    is 'a file that may not grow' 6 $?
     "$here/fire" run <&- >"$room/out" 2>"$room/err"
     is 'a closed input' 5 $?
 }
 
-# With a source that is another one, what ships must not run.
-with_another_source() {
-    cp -r "$here" "$room/other"
-    echo '// another source' >>"$room/other/crates/fire/src/main.rt"
-    "$room/other/fire" run <"$script" >"$room/out" 2>"$room/err"
-    is 'another source: status' 1 $?
-    is 'another source: note' 1 "$(grep -c '(rt) is not on the path' "$room/err")"
-    is 'another source: nothing is written' 0 "$(wc -c <"$room/out")"
-    "$room/other/fire" help >"$room/out"
-    cmp -s "$room/out" "$here/crates/fire_sessions/data/help.txt"
-    is 'another source: help all the same' 0 $?
-    is 'another source: version all the same' 'fire 1.0' "$("$room/other/fire" version)"
-    is 'another source: not installed' 1 "$(status "$room/other/fire" install "$room/nowhere")"
-    is 'another source: nothing there' '' "$(ls "$room/nowhere" 2>/dev/null)"
-    rm -rf "$room/other"
-    is 'prove without the toolchain' 1 "$(status "$here/fire" prove)"
-    is 'prove, and a word more' 2 "$(status "$here/fire" prove it)"
+# Bytes of a name that would upset a terminal are not written to it.
+odd_names() {
+    odd_name=$(printf '\033[31mx\302\233y')
+    for words in '' 'help' 'explain' 'uninstall'; do
+        # shellcheck disable=SC2086
+        status "$here/fire" $words "$odd_name" >/dev/null
+        is "an odd name after '$words'" 0 "$(LC_ALL=C tr -d '\n -~' <"$room/err" | wc -c)"
+    done
+    is 'two lines are no word' 2 "$(status "$here/fire" help "$(printf 'run\ntrace')")"
+    is 'two lines are no word: note' 'fire: there is no word run?trace; fire help lists them' "$(errors)"
+    is 'nor without help' 2 "$(status "$here/fire" "$(printf 'run\nx')")"
 }
 
-installs() {
-    to="$room/a prefix"
-    is 'install' 0 "$(status "$here/fire" install "$to")"
-    runs 'the installed program' "$to/bin/fire"
-    ln -s "$to/bin/fire" "$room/installed"
-    runs 'the installed program by a link' "$room/installed"
-    is 'the installed program with a file' 0 "$(status "$to/bin/fire" explain "$to/share/doc/fire/examples/one_deck.log")"
-    is 'its pages' 'fire.1 fire-log.5' "$(cd "$to/share/man" && echo "$(ls man1)" "$(ls man5)")"
-    is 'the help of a word, installed' 0 "$(status "$to/bin/fire" help map)"
-    is 'install over it' 0 "$(status "$here/fire" install "$to")"
-    is 'uninstall' 0 "$(status "$to/bin/fire" uninstall)"
-    is 'nothing is left' '' "$(find "$to" -type f)"
-    is 'uninstall of nothing' 1 "$(status "$here/fire" uninstall "$to")"
-    HOME=$room is 'install at home' 0 "$(HOME=$room status "$here/fire" install)"
-    is 'it is below .local' 0 "$(status "$room/.local/bin/fire" version)"
-    is 'uninstall at home' 0 "$(HOME=$room status "$here/fire" uninstall)"
+# What bash completes of these words, of which the last is begun.
+completed() {
+    # shellcheck disable=SC2016
+    "$bash" -uc '. "$1"; COMP_WORDS=("${@:2}") COMP_CWORD=$(($# - 2)); _fire "$2" 2>&1; echo "${COMPREPLY[*]-}"' - "$root/tools/completion.bash" "$@"
+}
+
+completes() {
+    bash=$(PATH=$whole_path command -v bash) || { skipped 'no bash'; return; }
+    is 'completed: a word' explore "$(completed fire explo)"
+    is 'completed: an option' 'dot --help' "$(completed fire map '')"
+    is 'completed: a word that has help' holders "$(completed fire help ho)"
+    is 'completed: help' --help "$(completed fire explain -)"
+    is 'completed: what explore reads' '' "$(completed fire explore a '<' '')"
+    is 'completed: install' install "$(completed ./fire inst)"
+    is 'completed: before a word' '' "$(completed fire)"
 }
 
 # By script(1), which gives a call a terminal.
@@ -206,8 +202,21 @@ from_anywhere
 with_files
 own_help
 with_outputs_that_fail
-with_another_source
+odd_names
+. "$root/tools/launcher/check_sources.sh"
+. "$root/tools/launcher/check_install.sh"
+what_ships_is_stale
+what_ships_does_not_run
+line_ends_stay
+without_tools
 installs
+wrong_prefixes
+strangers_stay
+hostile_lists
+whole_or_nothing
+no_longer_there
+packages
+completes
 at_a_terminal "$whole_path"
 echo "launcher: $passed passed, $failed failed"
 [ "$failed" = 0 ]

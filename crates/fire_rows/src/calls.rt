@@ -3,6 +3,7 @@
 use crate::Program;
 use crate::call::Call;
 use crate::due::Due;
+use crate::files::read_joined;
 use crate::miss::Miss;
 use crate::row::Row;
 use std::alloc::Global;
@@ -29,14 +30,14 @@ fn end_so<P: Program>(
     Ok(())
 }
 
-/// A row is `WORDS < INPUT > OUTPUT`, and ` : STATUS NOTE` after it if the status is not 0. Input and output are names of files. In
-/// place of one call there may be two, `WORDS | WORDS`: the second reads what the first writes.
+/// A row is `WORDS < INPUT > OUTPUT`, and ` : STATUS NOTE` after it if the status is not 0. Input and output are names of files, of which the
+/// output may have several, one after another. In place of one call there may be two, `WORDS | WORDS`: the second reads what the first writes.
 pub(crate) fn check<P: Program>(program: &P, rt: &HostRuntime, row: &Row<'_>) -> Result<(), Miss> {
     let (Some(input), Some(output)) = (row.input, row.output) else {
         return Err(Miss::NoRow("an input and an output"));
     };
     let input = fs::read(rt, input)?;
-    let output = fs::read(rt, output)?;
+    let output = read_joined(rt, output)?;
     match Due::of(row.following, &output) {
         Some(due) => end_so(program, rt.alloc(), row.what, &input, (&due, output.len())),
         None => Err(Miss::NoRow("a status")),

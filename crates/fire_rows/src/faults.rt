@@ -4,6 +4,7 @@
 use crate::call::{Call, NONE};
 use crate::due::Due;
 use crate::ended::Failing;
+use crate::files::read_joined;
 use crate::miss::{Miss, at};
 use crate::numbers::numbers_of;
 use crate::parts::Parts;
@@ -168,7 +169,7 @@ pub(crate) fn check<P: Program>(program: &P, rt: &HostRuntime, row: &Row<'_>) ->
         return Err(Miss::NoRow("an input and an output"));
     };
     let given = fs::read(rt, input)?;
-    let due = fs::read(rt, output)?;
+    let due = read_joined(rt, output)?;
     let case = Case {
         words: row.what,
         input: &given,

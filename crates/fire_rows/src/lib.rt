@@ -11,6 +11,7 @@ mod dubs;
 mod due;
 mod ended;
 mod faults;
+mod files;
 mod lines;
 mod miss;
 mod names;

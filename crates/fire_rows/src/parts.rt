@@ -1,11 +1,12 @@
-//! Where the parts of a file end: a log's header and entries, a reel's blocks, the bytes of a page, and the lines of other files.
+//! Where the parts of a file end: a log's header and entries, a reel's blocks, the head of a page and its lines, and the lines of other
+//! files.
 
 /// What the parts of a file are.
 #[derive(Clone, Copy)]
 pub(crate) enum Parts {
     Entries,
     Blocks,
-    Bytes,
+    Page,
     Lines,
 }
 
@@ -17,7 +18,7 @@ impl Parts {
         } else if name.ends_with("/dub") {
             Parts::Blocks
         } else if name.ends_with(".html") {
-            Parts::Bytes
+            Parts::Page
         } else {
             Parts::Lines
         }
@@ -30,8 +31,8 @@ impl Parts {
             Parts::Entries if start == 0 => HEADER,
             Parts::Entries => length_of_entry(rest)?,
             Parts::Blocks => BLOCK,
-            Parts::Bytes => 1,
-            Parts::Lines => length_of_line(rest)?,
+            Parts::Page if start == 0 => length_of_head(rest)?,
+            Parts::Page | Parts::Lines => length_of_line(rest)?,
         };
         if length <= rest.len() {
             Some(start.saturating_add(length))
@@ -74,6 +75,21 @@ fn length_of_entry(bytes: &[u8]) -> Option<usize> {
         [_, _, high, low, ..] => Some(16 + 4 * (256 * usize::from(*high) + usize::from(*low))),
         _ => None,
     }
+}
+
+/// The line with which the head of a page ends.
+const LAST_OF_HEAD: &[u8] = b"<xmp id=\"log\" hidden>\n";
+
+fn length_of_head(bytes: &[u8]) -> Option<usize> {
+    let mut end: usize = 0;
+    for _ in 0..bytes.len() {
+        let rest = bytes.get(end..)?;
+        end = end.saturating_add(length_of_line(rest)?);
+        if rest.starts_with(LAST_OF_HEAD) {
+            return Some(end);
+        }
+    }
+    None
 }
 
 fn length_of_line(bytes: &[u8]) -> Option<usize> {

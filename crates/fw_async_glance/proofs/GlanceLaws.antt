@@ -1,11 +1,13 @@
 -- The packet that its bytes are, by what was read from them.
-use Rattle.std.proofs.Common.{◌≡◌, refl, ap, sym, subst, ◌∙◌, ℕ, ◌/◌, ◌%◌, ◌^◌, ◌<◌, ◌≤◌, List, [], ◌∷◌, length, take, drop, arith, IsTrue}
+use Rattle.std.proofs.Common.{◌≡◌, refl, ap, sym, subst, ◌∙◌, ℕ, ◌/◌, ◌%◌, ◌^◌, ◌<◌, ◌≤◌, List, [], ◌∷◌, length, take, drop, Some, arith, IsTrue}
 use Rattle.std.proofs.lemmas.List.{length-take-le, length-drop}
+use Rattle.std.proofs.lemmas.Nat.{from_be_bytes-to_be_bytes_4}
 use Rattle.std.specs.Int.{to_be_bytes, w32}
 use Rattle.fw_words.specs.Quadlet.{field, quadlet_at}
 use Rattle.fw_words.specs.Layout.{packed}
-use Rattle.fw_words.specs.Swaps.{swap_bytes}
+use Rattle.fw_words.specs.Swaps.{quadlet_swap, swap_bytes}
 use Rattle.fw_words.specs.declared.swap.Swap.{Swap as SwapWords}
+use Rattle.fw_words.specs.declared.swap.TheConstants.{COMPARE_SWAP}
 use Rattle.fw_async.specs.Async.{HeadFits, head_fields, size}
 use Rattle.fw_async_fields.specs.Data.{AreBytes, is_reply_size}
 use Rattle.fw_async.specs.Reader.{Spells}
@@ -143,3 +145,10 @@ write_reply_is p bytes h r fit s x code =
       quadlets = response_at 2 bytes h r [] fit x.kind x.first x.source code (complete.sound.response refl);
       rest = refl;
     })
+
+-- the two quadlets of a swap, back from their bytes
+pub swap_back : (s : SwapWords) → s.argument < 2 ^ 32 → s.new < 2 ^ 32 → quadlet_swap COMPARE_SWAP (swap_bytes s) ≡ Some s
+swap_back s low small =
+    let first : quadlet_at (swap_bytes s) 0 ≡ s.argument = from_be_bytes-to_be_bytes_4 s.argument low in
+    let second : quadlet_at (swap_bytes s) 4 ≡ s.new = from_be_bytes-to_be_bytes_4 s.new small in
+    ap (λ (n : ℕ). Some (record { argument = n; new = quadlet_at (swap_bytes s) 4 })) first ∙ ap (λ (n : ℕ). Some (record { argument = s.argument; new = n })) second

@@ -9,8 +9,8 @@ use fw_csr::REGISTER_SPACE;
 use fw_csr::low_offset::{
     BANDWIDTH_AVAILABLE, BUS_MANAGER_ID, CHANNELS_AVAILABLE_HI, CHANNELS_AVAILABLE_LO, IPCR,
 };
-use fw_log_names::{Pairs, put_number, put_word};
-use fw_log_registers::{RegisterPlace, put_place};
+use fw_log_names::{put_number, put_word};
+use fw_log_registers::{RegisterPlace, append_place};
 use fw_script_command::Name;
 use std::alloc::AllocError;
 
@@ -142,7 +142,7 @@ fn put_register(text: &mut Vec<u8>, offset: u16) -> Result<(), AllocError>
 {
     match RegisterPlace::of(REGISTER_SPACE + u64::from(offset)) {
         RegisterPlace::Named(register, index) => {
-            put_place(text, &Pairs::new(), RegisterPlace::Named(register, index))
+            append_place(text, RegisterPlace::Named(register, index))
         }
         RegisterPlace::Unnamed(_) => put_word(text, "register at this offset"),
     }

@@ -3,7 +3,6 @@ use Rattle.fw_explore_laws.proofs.Common.{ℕ, zero, suc, ◌≡◌, ◌+◌, �
 use Rattle.std.proofs.Common.{flat_map}
 use Rattle.fw_log_entry.specs.declared.entry.ShownEntry.{ShownEntry}
 use Rattle.fw_log_explain.specs.Lines.{at_text, shown_device, shown_place, shown_text}
-use Rattle.fw_log_names.specs.Names.{rate_name}
 use Rattle.fw_log_registers.specs.Words.{Field, channel_text, fields_of, first_channels, inverted, is_row, place_text, register_name}
 use Rattle.fw_log_registers.specs.Words.{taken_text, told_field, told_register, told_text, value_text, word_text}
 use Rattle.fw_log_registers.specs.declared.place.RegisterPlace.{RegisterPlace}
@@ -38,9 +37,11 @@ use Rattle.fw_log_registers.specs.declared.register.NamedRegister.TheVariants.{
 use Rattle.fw_log_registers.specs.declared.shown.Shown.{Shown}
 use Rattle.fw_log_registers.specs.declared.shown.Shown.TheVariants.{Decimal, Company, Rate, Node, Counted}
 use Rattle.fw_log_registers.specs.declared.told.RegisterValue.TheVariants.{Word}
+use Rattle.fw_log_registers.specs.declared.shown.TheConstants.{RATES}
+use Rattle.fw_text.specs.Names.{name_in, rows}
 use Rattle.fw_words.specs.Quadlet.{field}
 use Rattle.fw_explore_laws.proofs.Lines.{is_one_line}
-use Rattle.fw_explore_laws.proofs.Texts.{AreOneLine, IsOneLine, hex_one, if_name, if_one, lit, more, named_one, no_name, none, number, quadlet_one, some_name}
+use Rattle.fw_explore_laws.proofs.Texts.{AreOneLine, IsOneLine, hex_one, if_one, lit, more, named_one, names_one, none, number, quadlet_one}
 
 register_one : (r : NamedRegister) → IsOneLine (register_name r)
 register_one StateClear = lit (codes "STATE_CLEAR") refl
@@ -77,10 +78,8 @@ unfolding place_text
 place_one (Named register index) = more (register_one register) (if_one (is_row register) (more (more (lit (codes "[") refl) (number index)) (lit (codes "]") refl)) none)
 place_one (Unnamed offset) = more (lit (codes "offset ") refl) (hex_one 12 offset)
 
-rate_one : (rate : ℕ) → AreOneLine (rate_name rate)
-rate_one rate =
-    if_name (rate == 0) (some_name (codes "S100") refl) (if_name (rate == 1) (some_name (codes "S200") refl)
-    (if_name (rate == 2) (some_name (codes "S400") refl) (if_name (rate == 3) (some_name (codes "3") refl) no_name)))
+rate_one : (rate : ℕ) → AreOneLine (name_in (rows RATES) rate)
+rate_one rate = names_one (rows RATES) rate refl
 
 value_one : (shown : Shown) (value : ℕ) → IsOneLine (value_text shown value)
 value_one Decimal value = number value

@@ -1,7 +1,7 @@
 -- Texts of one line: what is told of events, outcomes and shown words.
 use Rattle.fw_explore_laws.proofs.Common.{ℕ, zero, suc, ◌≡◌, ◌+◌, ◌<◌, ◌==◌, not, List, [], ◌∷◌, ◌++◌, Bool, true, false, Option, Some, None, codes, decimal, if◌then◌else◌, refl, subst, arith}
 use Rattle.fw_explore_laws.proofs.Common.{list_all, and_parts, nat_tests, same_Some}
-use Rattle.std.proofs.Common.{◌/◌, ◌%◌, ◌||◌, nat_lt}
+use Rattle.std.proofs.Common.{◌/◌, ◌%◌, ◌||◌, map, nat_lt}
 use Rattle.std.specs.Fmt.{digit_glyph}
 use Rattle.fw_log_entry.specs.Rows.{event_form, has_tape}
 use Rattle.fw_log_entry.specs.declared.codes.TheConstants.{NO_DEVICE}
@@ -9,8 +9,10 @@ use Rattle.fw_log_entry.specs.declared.codes.outcome.TheConstants as Outcomes
 use Rattle.fw_log_entry.specs.declared.entry.EventEntry.{EventEntry}
 use Rattle.fw_log_entry.specs.declared.entry.OutcomeEntry.{OutcomeEntry}
 use Rattle.fw_log_explain.specs.Lines.{device_text, ended_text, event_text, outcome_text, rcode_text, saying_text, slot_text, tape_text, value_text}
-use Rattle.fw_log_names.specs.Names.{EventWords, event_saying, event_word, event_words, name_in, outcome_names, rcode_name, system_name}
-use Rattle.fw_log_names.specs.Texts.{hex, named, quadlet_text}
+use Rattle.fw_log_names.specs.Names.{event_saying, rcode_name, system_name}
+use Rattle.fw_log_names.specs.declared.entries.TheConstants.{EVENTS, OUTCOMES, SYSTEMS}
+use Rattle.fw_text.specs.Names.{name_in, rows}
+use Rattle.fw_text.specs.Texts.{hex, named, quadlet_text}
 use Rattle.fw_explore_laws.proofs.Lines.{is_one_line}
 use Rattle.fw_explore_laws.proofs.Words.{both_true, one_more}
 use Rattle.fw_explore_laws.proofs.Decimals.{decimal_all}
@@ -73,17 +75,11 @@ pub named_one : {o : Option (List ℕ)} {other : List ℕ} (n : ℕ) → AreOneL
 named_one {o = None} n names p = more (more p (lit (codes " ") refl)) (number n)
 named_one {o = Some name} n names p = names.so name refl
 
-words_one : (column : EventWords → List ℕ) (rows : List EventWords) (code : ℕ) → list_all (λ r. is_one_line (column r)) rows ≡ true → AreOneLine (event_word column rows code)
-words_one column [] code all = no_name
-words_one column (r ∷ rows) code all =
-    let parts = and_parts (is_one_line (column r)) (list_all (λ s. is_one_line (column s)) rows) all in
-    if_name (code == r.code) (some_name (column r) parts.0) (words_one column rows code parts.1)
-
-names_one : (rows : List (ℕ × List ℕ)) (code : ℕ) → list_all (λ (r : ℕ × List ℕ). is_one_line r.1) rows ≡ true → AreOneLine (name_in rows code)
+pub names_one : (table : List (ℕ × List ℕ)) (code : ℕ) → list_all (λ (r : ℕ × List ℕ). is_one_line r.1) table ≡ true → AreOneLine (name_in table code)
 names_one [] code all = no_name
-names_one (r ∷ rows) code all =
-    let parts = and_parts (is_one_line r.1) (list_all (λ (s : ℕ × List ℕ). is_one_line s.1) rows) all in
-    if_name (code == r.0) (some_name r.1 parts.0) (names_one rows code parts.1)
+names_one (r ∷ table) code all =
+    let parts = and_parts (is_one_line r.1) (list_all (λ (s : ℕ × List ℕ). is_one_line s.1) table) all in
+    if_name (code == r.0) (some_name r.1 parts.0) (names_one table code parts.1)
 
 pub rcode_one : (rcode : ℕ) → AreOneLine (rcode_name rcode)
 rcode_one rcode =
@@ -92,7 +88,7 @@ rcode_one rcode =
     (if_name (rcode == 7) (some_name (codes "address_error") refl) no_name))))
 
 system_one : (system : ℕ) → AreOneLine (system_name system)
-system_one system = if_name (system == 525) (some_name (codes "525-60") refl) (if_name (system == 625) (some_name (codes "625-50") refl) no_name)
+system_one system = names_one (rows SYSTEMS) system refl
 
 -- ---- entries
 
@@ -104,9 +100,9 @@ saying_one (Some saying) names = names.so saying refl
 pub event_one : (e : EventEntry) → IsOneLine (event_text e)
 unfolding event_text device_text tape_text
 event_one e =
-    more (more (more (more (more (lit (codes "event ") refl) (named_one e.code (words_one (λ r. r.name) event_words e.code refl) (lit (codes "code") refl)))
+    more (more (more (more (more (lit (codes "event ") refl) (named_one e.code (names_one (map (λ r. (r.0, r.1.now)) EVENTS) e.code refl) (lit (codes "code") refl)))
     (if_one (e.device == NO_DEVICE) none (more (lit (codes " device ") refl) (number e.device)))) (lit (codes ": ") refl))
-    (saying_one (event_saying e.code) (words_one (λ r. r.saying) event_words e.code refl)))
+    (saying_one (event_saying e.code) (names_one (map (λ r. (r.0, r.2.now)) EVENTS) e.code refl)))
     (if_one (has_tape (event_form e.code)) (more (more (more (lit (codes " tape ") refl) (number e.tape)) (lit (codes ", system ") refl))
     (named_one e.system (system_one e.system) (lit (codes "lines") refl))) none)
 
@@ -125,6 +121,6 @@ value_one code value =
 pub outcome_one : (o : OutcomeEntry) → IsOneLine (outcome_text o)
 unfolding outcome_text ended_text slot_text
 outcome_one o =
-    more (more (more (lit (codes "outcome ") refl) (named_one o.code (names_one outcome_names o.code refl) (lit (codes "code") refl)))
+    more (more (more (lit (codes "outcome ") refl) (named_one o.code (names_one (rows OUTCOMES) o.code refl) (lit (codes "code") refl)))
     (more (more (more (lit (codes " device ") refl) (number o.device)) (lit (codes " slot ") refl)) (number o.slot)))
     (value_one o.code o.value)

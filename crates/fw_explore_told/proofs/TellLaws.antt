@@ -1,35 +1,15 @@
 -- How the bytes of entries are told of.
-use Rattle.std.proofs.Common.{◌≡◌, ℕ, suc, ◌+◌, ◌*◌, ◌/◌, ◌%◌, ◌<◌, List, [], ◌∷◌, ◌++◌, length, take, drop, get_or, Option, Some, None, true, refl, ap, sym, ◌∙◌, arith, append-nil, append_assoc}
-use Rattle.std.proofs.lemmas.Bool.Decides.{nat_tests}
+use Rattle.std.proofs.Common.{◌≡◌, ℕ, suc, List, [], ◌∷◌, ◌++◌, length, take, drop, Option, Some, None, refl, ap, sym, ◌∙◌, arith, append-nil, append_assoc}
 use Rattle.std.proofs.lemmas.List.Concat.{flat_map-append}
 use Rattle.std.proofs.Math.Seq.{take-append_seam, drop-append_seam}
 use Rattle.std.specs.List.{All}
-use Rattle.fw_log_entry.specs.Log.{body, kind_of, epoch_after, entry_bytes, entries_bytes, TimedFits}
+use Rattle.fw_log_entry.specs.Log.{epoch_after, entry_bytes, entries_bytes, TimedFits}
 use Rattle.fw_log_entry.specs.declared.version.Version.TheVariants.{Two}
 use Rattle.fw_log_entry.specs.declared.entry.Entry.{Entry}
 use Rattle.fw_log_entry.specs.declared.entry.Entry.TheVariants as Entries
 use Rattle.fw_log_entry.specs.declared.entry.Timed.{Timed}
-use Rattle.fw_log.specs.Reading.{is_length}
-use Rattle.fw_log.proofs.SizeLaws.{has_length}
 use Rattle.fw_explore_told.specs.declared.past.ToldEntry.{ToldEntry}
 use Rattle.fw_explore_told.specs.Histories.{told_in, first_of, told_entries, with_one}
-
--- ---- sizes
-
-few_quadlets : (kind n : ℕ) → is_length kind n ≡ true → n < 65536
-few_quadlets kind n h = grind (arith, nat_tests)
-
-by_length : (n q a b : ℕ) → n ≡ 4 * q → q < 65536 → a ≡ n / 4 / 256 % 256 → b ≡ n / 4 % 256 → 4 * (256 * a + b) ≡ n
-by_length n q a b e small f g = omega (arith, e, small, f, g)
-
--- an entry's size, by the two bytes of its length
-pub size_of_first : (epoch : ℕ) (t : Timed) (log more : List ℕ) (a b : ℕ) → TimedFits t → log ≡ entry_bytes Two epoch t ++ more → a ≡ get_or log 2 0 → b ≡ get_or log 3 0
-    → 16 + 4 * (256 * a + b) ≡ length (entry_bytes Two epoch t)
-size_of_first epoch t log more a b f e high low =
-    let h = has_length t.what f.entry in
-    let size = by_length (length (body t.what)) h.quadlets a b h.size (few_quadlets (kind_of t.what) h.quadlets h.right)
-    (high ∙ ap (λ (l : List ℕ). get_or l 2 0) e) (low ∙ ap (λ (l : List ℕ). get_or l 3 0) e) in
-    omega (arith, size)
 
 -- ---- one entry more
 

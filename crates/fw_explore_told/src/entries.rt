@@ -1,6 +1,6 @@
 //! Entries of which is told, from their bytes.
 
-ghost use Rattle.std.specs.Prelude.{ℕ, ◌≡◌, ◌≤◌, ◌^◌, ◌*◌, ◌++◌, [], List, length, IfSome, Some, None, IsTrue, ◌==◌, ◌||◌};
+ghost use Rattle.std.specs.Prelude.{ℕ, ◌≡◌, ◌≤◌, ◌^◌, ◌*◌, length, IsTrue, ◌==◌, ◌||◌};
 ghost use Rattle.fw_log_entry.specs.Log.{entry_bytes, TimedFits, quads, event_quads, outcome_quads, shown_quads, EventFits, OutcomeFits, ShownFits};
 ghost use Rattle.fw_log_entry.specs.declared.version.Version.TheVariants.{Two};
 ghost use Rattle.fw_log_entry.specs.declared.entry.Timed.{Timed};
@@ -13,20 +13,6 @@ use fw_words::quadlet_at;
 
 /// How many bytes of an entry of version 2 stand before its body.
 const HEAD: usize = 16;
-
-/// How many bytes the first entry takes, if they are all there.
-pub(crate) fn entry_size(log: &[u8]) -> Option<usize>
-    ensures first { (epoch : ℕ) (t : Timed) (more : List ℕ) → TimedFits t → log.now ≡ entry_bytes Two epoch t ++ more → result ≡ Some (length (entry_bytes Two epoch t)) }
-    ensures none { log.now ≡ [] → result ≡ None }
-    ensures within { IfSome result (λ n. (16 ≤ n) × (n ≤ length log.now)) }
-{
-    if log.len() < HEAD {
-        return None;
-    }
-    let quadlets = 256 * usize::from(log[2]) + usize::from(log[3]);
-    let size = HEAD + 4 * quadlets;
-    if log.len() < size { None } else { Some(size) }
-}
 
 // The event with this body.
 fn event_in(body: &[u8]) -> EventEntry

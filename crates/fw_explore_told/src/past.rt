@@ -7,10 +7,10 @@ ghost use Rattle.fw_log_entry.specs.declared.version.Version.TheVariants.{Two};
 ghost use Rattle.fw_log_entry.specs.declared.entry.Timed.{Timed as TimedEntry};
 ghost use Rattle.fw_explore_told.specs.Histories.{first_history, told_entries, with_one};
 
-use crate::entries::{entry_size, told_in};
+use crate::entries::told_in;
 use fw_explore_movers::MOST_MOVERS;
 use fw_kept_parts::{Part, mixed};
-use fw_log_entry::{EventEntry, OutcomeEntry, ShownEntry};
+use fw_log_entry::{EventEntry, OutcomeEntry, ShownEntry, entry_size};
 use std::alloc::{AllocError, Global};
 use std::marker::Model;
 

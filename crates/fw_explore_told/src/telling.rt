@@ -69,7 +69,7 @@ fn put_what(text: &mut Vec<u8>, pairs: &Pairs, told: &ToldEntry) -> Result<(), A
     match told {
         ToldEntry::Event(event) => put_event(text, event),
         ToldEntry::Outcome(outcome) => put_outcome(text, pairs, outcome),
-        ToldEntry::Shown(shown) => put_shown(text, pairs, shown),
+        ToldEntry::Shown(shown) => put_shown(text, shown),
     }
 }
 

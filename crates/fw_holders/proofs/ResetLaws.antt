@@ -30,7 +30,7 @@ use Rattle.std.proofs.Common.{slice_get}
 use Rattle.fw_model_account.specs.Events.{after_reset}
 use Rattle.fw_audit.proofs.Audits.{other_clear}
 use Rattle.fw_holders_text.specs.Names.{count_text, who}
-use Rattle.fw_holders.specs.Buses.{IsBusOf}
+use Rattle.fw_log_latest.specs.Latest.{IsBusOf}
 use Rattle.fw_holders.specs.Deeds.{initiator_text, manager_text, reset_text}
 use Rattle.fw_holders.proofs.PassLaws.{entry_at}
 

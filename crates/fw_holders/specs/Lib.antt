@@ -6,4 +6,3 @@ pub mod Counts
 pub mod Table
 pub mod Found
 pub mod Told
-pub mod Buses

@@ -4,6 +4,7 @@ use Rattle.fw_terms.specs.declared.plug.PlugAt.{PlugAt}
 use Rattle.fw_terms.specs.Tables.{at_plug}
 use Rattle.fw_log_entry.specs.declared.nodes.NodeRow.{NodeRow}
 use Rattle.fw_model_account.specs.Account.{Account, Connections, Owner, Of, Dead, has_connection, remainder}
+use Rattle.fw_audit.specs.Unjudged.{unjudged_text}
 use Rattle.fw_holders_text.specs.declared.holding.How.{How}
 use Rattle.fw_holders_text.specs.declared.holding.How.TheVariants.{Pending, Connected, Orphaned, Continues, Reclaimable}
 use Rattle.fw_holders_text.specs.declared.holding.Holding.{Holding}
@@ -96,9 +97,13 @@ plug_lines (suc n) l = plug_lines n l ++ lines_below 31 n (output_line l) ++ lin
 
 -- ---- the end
 
--- the units that are left
-unfoldable pub left_line : ℕ → List ℕ
-left_line units = codes "left " ++ decimal units ++ codes " of 4915 units\n"
+-- this, if there are locks that were not judged
+unfoldable pub if_unjudged : ℕ → List ℕ → List ℕ
+if_unjudged unjudged text = if unjudged == 0 then [] else text
+
+-- the units that are left; of what other labels take no account knows
+unfoldable pub left_line : ℕ → ℕ → List ℕ
+left_line units unjudged = codes "left " ++ decimal units ++ codes " of 4915 units" ++ if_unjudged unjudged (codes " by label 0 alone") ++ codes "\n"
 
 -- no answer and no shown word was judged
 abbrev pub is_nothing : Judged → Bool
@@ -110,10 +115,11 @@ amount_text j =
     if is_nothing j then codes "nothing: no answer with label 0 of a watched register, no shown word of one,"
     else count_text j.reads (codes "read") ++ codes ", " ++ count_text j.made (codes "swap") ++ codes " made, " ++ decimal j.unmade ++ codes " not made, " ++ count_text j.shown (codes "shown word")
 
--- how much was judged; if it is nothing, this log's yes says nothing
-unfoldable pub judged_line : Judged → List ℕ
-judged_line j = codes "judged " ++ amount_text j ++ codes " in " ++ count_text j.resets (codes "bus reset") ++ codes "\n"
+-- how much was judged, and how many locks were not; if it is nothing, this log's yes says nothing
+unfoldable pub judged_line : Judged → ℕ → List ℕ
+judged_line j unjudged =
+    codes "judged " ++ amount_text j ++ codes " in " ++ count_text j.resets (codes "bus reset") ++ unjudged_text unjudged ++ if_unjudged unjudged (codes ": see watch") ++ codes "\n"
 
 -- the table
-unfoldable pub table_text : Account → Judged → List ℕ
-table_text l j = channel_lines 64 l ++ plug_lines 63 l ++ left_line (remainder l) ++ judged_line j
+unfoldable pub table_text : Account → Judged → ℕ → List ℕ
+table_text l j unjudged = channel_lines 64 l ++ plug_lines 63 l ++ left_line (remainder l) unjudged ++ judged_line j unjudged

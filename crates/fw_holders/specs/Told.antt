@@ -9,6 +9,7 @@ use Rattle.fw_model_audit.specs.Faults.{HasNoFault, IsVerdict}
 use Rattle.fw_model_audit.specs.Looked.{looked}
 use Rattle.fw_model_audit.specs.declared.fault.AuditFault.{AuditFault}
 use Rattle.fw_audit.specs.Found.{IsPassedOver}
+use Rattle.fw_audit.specs.Unjudged.{unjudged}
 use Rattle.fw_account_tables.specs.Stands.{StandsFor}
 use Rattle.fw_account_tables.specs.declared.tables.Tables.{Tables}
 use Rattle.fw_holders.specs.declared.judged.Judged.{Judged}
@@ -77,10 +78,10 @@ pub record IsQuiet (e : Entry) : Type 0 where
   pub uncounted : (l : Account) (j : Judged) → entry_judged l e j ≡ j
 
 -- the table after entries, by their account
-abbrev pub table_by : Option Account → Judged → List ℕ
-table_by None j = []
-table_by (Some l) j = table_text l j
+abbrev pub table_by : Option Account → Judged → ℕ → List ℕ
+table_by None j unjudged = []
+table_by (Some l) j unjudged = table_text l j unjudged
 
 -- what is written at the end of these entries
 abbrev pub table_of : List Timed → List ℕ
-table_of entries = table_by (account_of (entries_of entries)) (judged_of entries)
+table_of entries = table_by (account_of (entries_of entries)) (judged_of entries) (unjudged entries)

@@ -15,7 +15,8 @@ ghost use Rattle.fw_model_audit.specs.declared.fault.AuditFault.{AuditFault as F
 ghost use Rattle.fw_ledger.specs.Resets.{HasNoNewOutput};
 ghost use Rattle.fw_account_tables.specs.Stands.{StandsFor};
 ghost use Rattle.fw_audit.specs.Found.{Judges};
-ghost use Rattle.fw_holders.specs.Buses.{IsBusOf};
+ghost use Rattle.fw_audit.specs.Unjudged.{unjudged as not_judged};
+ghost use Rattle.fw_log_latest.specs.Latest.{IsBusOf};
 ghost use Rattle.fw_holders.specs.Deeds.{event_told};
 ghost use Rattle.fw_holders.specs.Told.{Holds, Takes, holders, table_of};
 
@@ -230,12 +231,12 @@ impl Holders {
         Ok(true)
     }
 
-    /// The table of what is held after the entries. An error says that memory ran out.
-    pub fn table(&self, alloc: Global) -> Result<Vec<u8>, AllocError>
-        ensures { (entries : List TimedEntry) → Holds entries self.now → IfOk result (λ text. text.items ≡ table_of entries) }
+    /// The table of what is held after the entries, of which no audit judges so many locks. An error says that memory ran out.
+    pub fn table(&self, alloc: Global, unjudged: u64) -> Result<Vec<u8>, AllocError>
+        ensures { (entries : List TimedEntry) → Holds entries self.now → unjudged ≡ not_judged entries → IfOk result (λ text. text.items ≡ table_of entries) }
     {
         let mut text = Vec::with_capacity(alloc, TEXT_ROOM)?;
-        put_table(&mut text, self.ledger.tables(), &self.judged)?;
+        put_table(&mut text, self.ledger.tables(), &self.judged, unjudged)?;
         Ok(text)
     }
 }

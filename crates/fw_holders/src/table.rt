@@ -1,14 +1,16 @@
 //! The table at a log's end.
 
-ghost use Rattle.std.specs.Prelude.{◌≡◌, ◌++◌, OnOk, decimal};
+ghost use Rattle.std.specs.Prelude.{◌≡◌, ◌++◌, OnOk};
 ghost use Rattle.fw_model_account.specs.Account.{Account};
 ghost use Rattle.fw_account_tables.specs.Stands.{Stands, StandsFor};
-ghost use Rattle.fw_holders.specs.Table.{how_word, units_words, by_text, channel_line, channel_lines, amount_text, judged_line, left_line, table_text};
+ghost use Rattle.fw_audit.specs.Unjudged.{unjudged_text};
+ghost use Rattle.fw_holders.specs.Table.{how_word, units_words, by_text, channel_line, channel_lines, amount_text, if_unjudged, judged_line, left_line, table_text};
 
 use crate::holding::taken_on;
 use crate::judged::Judged;
 use crate::plugs::put_plugs;
 use fw_account_tables::Tables;
+use fw_audit::unjudged_text;
 use fw_holders_text::{CHANNELS, Holding, How, Side, put_count, put_plug, put_who};
 use fw_log_entry::NodeRow;
 use fw_log_names::{put_number, put_word};
@@ -108,40 +110,63 @@ fn put_amount(text: &mut Vec<u8>, judged: &Judged) -> Result<(), AllocError>
     put_count(text, judged.shown, "shown word")
 }
 
-// Appends how much was judged.
+// Appends how many locks were not judged, if there are any.
+fn put_unjudged(text: &mut Vec<u8>, unjudged: u64) -> Result<(), AllocError>
+    ensures { OnOk result (text.new.items ≡ text.old.items ++ unjudged_text unjudged) }
+{
+    text.extend_from_slice(unjudged_text(unjudged).as_slice())
+}
+
+// Appends a word if there are locks that were not judged.
+#[tactic(auto, unfolding(crate::specs::Table::if_unjudged))]
+fn put_if_unjudged(text: &mut Vec<u8>, unjudged: u64, word: &str) -> Result<(), AllocError>
+    ensures { OnOk result (text.new.items ≡ text.old.items ++ if_unjudged unjudged word.now) }
+{
+    if unjudged == 0 {
+        return Ok(());
+    }
+    put_word(text, word)
+}
+
+// Appends how much was judged, and how many locks were not.
 #[tactic(auto, unfolding(crate::specs::Table::judged_line))]
-fn put_judged(text: &mut Vec<u8>, judged: &Judged) -> Result<(), AllocError>
-    ensures { OnOk result (text.new.items ≡ text.old.items ++ judged_line judged.now) }
+fn put_judged(text: &mut Vec<u8>, judged: &Judged, unjudged: u64) -> Result<(), AllocError>
+    ensures { OnOk result (text.new.items ≡ text.old.items ++ judged_line judged.now unjudged) }
 {
     put_word(text, "judged ")?;
     put_amount(text, judged)?;
     put_word(text, " in ")?;
     put_count(text, judged.resets, "bus reset")?;
+    put_unjudged(text, unjudged)?;
+    put_if_unjudged(text, unjudged, ": see watch")?;
     put_word(text, "\n")
 }
 
 // Appends the units that are left.
 #[tactic(auto, unfolding(crate::specs::Table::left_line))]
-fn put_left(text: &mut Vec<u8>, units: u32) -> Result<(), AllocError>
-    ensures { OnOk result (text.new.items ≡ text.old.items ++ left_line units) }
+fn put_left(text: &mut Vec<u8>, units: u32, unjudged: u64) -> Result<(), AllocError>
+    ensures { OnOk result (text.new.items ≡ text.old.items ++ left_line units unjudged) }
 {
     put_word(text, "left ")?;
     put_number(text, u64::from(units))?;
-    put_word(text, " of 4915 units\n")
+    put_word(text, " of 4915 units")?;
+    put_if_unjudged(text, unjudged, " by label 0 alone")?;
+    put_word(text, "\n")
 }
 
 /// Appends the table: a line for each channel that is held, a line for each plug that has connections, the units that are left, and
-/// how much was judged.
+/// how much was judged, and how many locks were not.
 pub(crate) fn put_table(
     text: &mut Vec<u8>,
     tables: &Tables,
     judged: &Judged,
+    unjudged: u64,
 ) -> Result<(), AllocError>
     requires stands { Stands tables.now }
-    ensures { (l : Account) → StandsFor tables.now l → OnOk result (text.new.items ≡ text.old.items ++ table_text l judged.now) }
+    ensures { (l : Account) → StandsFor tables.now l → OnOk result (text.new.items ≡ text.old.items ++ table_text l judged.now unjudged) }
 {
     put_channels(text, tables)?;
     put_plugs(text, tables)?;
-    put_left(text, tables.left)?;
-    put_judged(text, judged)
+    put_left(text, tables.left, unjudged)?;
+    put_judged(text, judged, unjudged)
 }

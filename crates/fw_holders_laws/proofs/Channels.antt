@@ -8,6 +8,7 @@ use Rattle.fw_model_account.specs.Account.{Account, Allocation, Flow, Holder, Pe
 use Rattle.fw_model_account.specs.Fold.{account_of, entries_of}
 use Rattle.fw_model_account.specs.Sound.{IsSound}
 use Rattle.fw_model_account.specs.Words.{BandwidthAvailable, word_of}
+use Rattle.fw_audit.specs.Unjudged.{unjudged}
 use Rattle.fw_holders.specs.Counts.{judged_of}
 use Rattle.fw_holders.specs.Held.{holding, holding_of, unallocated, allocated}
 use Rattle.fw_holders_text.specs.Names.{nodes_of, plug_text, side_text}
@@ -48,10 +49,11 @@ lines_are (suc n) l =
     ∙ ap (λ xs. account_lines n l ++ xs) (line_at (nodes_of l.latest) n l.continues (l.allocations n) (l.reclaimable n))
 
 pub table_is : (entries : List Timed) (l : Account) → account_of (entries_of entries) ≡ Some l
-    → table_of entries ≡ account_lines 64 l ++ plug_lines 63 l ++ left_line (word_of l BandwidthAvailable) ++ judged_line (judged_of entries)
+    → table_of entries ≡ account_lines 64 l ++ plug_lines 63 l ++ left_line (word_of l BandwidthAvailable) (unjudged entries) ++ judged_line (judged_of entries) (unjudged entries)
 unfolding table_text
 table_is entries l at =
-    ap (λ o. table_by o (judged_of entries)) at ∙ ap (λ xs. xs ++ plug_lines 63 l ++ left_line (remainder l) ++ judged_line (judged_of entries)) (lines_are 64 l)
+    ap (λ o. table_by o (judged_of entries) (unjudged entries)) at
+    ∙ ap (λ xs. xs ++ plug_lines 63 l ++ left_line (remainder l) (unjudged entries) ++ judged_line (judged_of entries) (unjudged entries)) (lines_are 64 l)
 
 second_runs : (l : Account) (b : Bool) (ch : ℕ) (f : Flow) → l.reclaiming ≡ b → IsSound l → l.reclaimable ch ≡ Some f → IsTrue l.reclaiming
 second_runs l true ch f t s e = t

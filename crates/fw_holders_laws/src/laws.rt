@@ -9,6 +9,7 @@ ghost use Rattle.fw_model_account.specs.Account.{Account, Flow, has_connection, 
 ghost use Rattle.fw_model_account.specs.Fold.{account_of, entries_of, next_account};
 ghost use Rattle.fw_model_account.specs.Sound.{IsSound};
 ghost use Rattle.fw_model_account.specs.Words.{BandwidthAvailable, word_of};
+ghost use Rattle.fw_audit.specs.Unjudged.{unjudged};
 ghost use Rattle.fw_holders.specs.Counts.{judged_of};
 ghost use Rattle.fw_holders.specs.Deeds.{told};
 ghost use Rattle.fw_holders.specs.Table.{input_line, judged_line, left_line, output_line, plug_lines};
@@ -21,7 +22,7 @@ ghost use Rattle.fw_holders_laws.specs.Between.{HasSameHolders};
 /// reclaimable, in the second that runs; the lines of plugs; and what BANDWIDTH_AVAILABLE says, which is 4915 with all that is allocated.
 pub fn tables_tell_the_account()
     ensures table { (entries : List Timed) (l : Account) → account_of (entries_of entries) ≡ Some l
-        → table_of entries ≡ account_lines 64 l ++ plug_lines 63 l ++ left_line (word_of l BandwidthAvailable) ++ judged_line (judged_of entries) }
+        → table_of entries ≡ account_lines 64 l ++ plug_lines 63 l ++ left_line (word_of l BandwidthAvailable) (unjudged entries) ++ judged_line (judged_of entries) (unjudged entries) }
     ensures flows { (l : Account) (ch : ℕ) (f : Flow) → IsSound l → l.reclaimable ch ≡ Some f → IsTrue l.reclaiming }
     ensures left { (l : Account) → IsSound l → total l.allocations + word_of l BandwidthAvailable ≡ 4915 }
 {}

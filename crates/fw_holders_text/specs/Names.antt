@@ -6,7 +6,7 @@ use Rattle.fw_log_entry.specs.declared.entry.ResetEntry.{ResetEntry}
 use Rattle.fw_log_entry.specs.declared.nodes.NodeRow.{NodeRow}
 use Rattle.fw_log_entry.specs.Network.{node_of_device}
 use Rattle.fw_log_names.specs.Names.{device_name}
-use Rattle.fw_log_names.specs.Texts.{named}
+use Rattle.fw_text.specs.Texts.{named}
 use Rattle.fw_holders_text.specs.declared.names.Side.{Side}
 use Rattle.fw_holders_text.specs.declared.names.Side.TheVariants.{Output, Input}
 

@@ -14,6 +14,7 @@ mod laws;
 mod nodes;
 mod room;
 mod rows;
+mod size;
 mod version;
 mod write;
 mod write_body;
@@ -28,5 +29,6 @@ pub use room::CycleRoom;
 pub use rows::{
     EVENTS, EventForm, OUTCOMES, OutcomeForm, event_form, has_tape, may_bring, may_have,
 };
+pub use size::entry_size;
 pub use version::Version;
-pub use write::{body_of, head_of, write_async, write_entry, write_header};
+pub use write::{body_of, head_of, long_head, short_head, write_async, write_entry, write_header};

@@ -17,7 +17,7 @@ use fw_outside::{Failed, Sink};
 use fw_words::{Bytes, Quadlet, put_quadlet};
 
 /// How many bytes the head of an entry of version 2 has.
-const HEAD: usize = 16;
+pub(crate) const HEAD: usize = 16;
 
 /// How many bytes of a packet stand after such a head in one row of a sink.
 const SHORT: usize = 32;
@@ -52,8 +52,8 @@ fn kind_of(what: &Entry) -> u8
     }
 }
 
-// An entry's head in version 1.
-fn short_head(kind: u8, quadlets: u16, cycle: u64) -> [u8; 12]
+/// The head of an entry in version 1: its kind, the length of its body in quadlets and its cycle.
+pub fn short_head(kind: u8, quadlets: u16, cycle: u64) -> [u8; 12]
     ensures { result ≡ entry_head One 0 kind quadlets cycle }
 {
     let mut head = [kind, 0, 0, 0, 0, 0, 0, 0, 0, 0, 0, 0];
@@ -62,8 +62,8 @@ fn short_head(kind: u8, quadlets: u16, cycle: u64) -> [u8; 12]
     head
 }
 
-// An entry's head in version 2.
-pub(crate) fn long_head(kind: u8, quadlets: u16, epoch: u32, cycle: u64) -> [u8; 16]
+/// The head of an entry in version 2, with the epoch of the latest bus reset up to and including the entry.
+pub fn long_head(kind: u8, quadlets: u16, epoch: u32, cycle: u64) -> [u8; 16]
     ensures { result ≡ entry_head Two epoch kind quadlets cycle }
 {
     let mut head = [kind, 0, 0, 0, 0, 0, 0, 0, 0, 0, 0, 0, 0, 0, 0, 0];

@@ -19,7 +19,7 @@ use Rattle.fw_log_entry.specs.declared.entry.ShownEntry.{ShownEntry}
 use Rattle.fw_log_entry.specs.declared.entry.Entry.{Entry}
 use Rattle.fw_log_entry.specs.declared.entry.Entry.TheVariants.{Reset, Async, Iso, Event, Outcome, Shown, End}
 use Rattle.fw_log_entry.specs.declared.entry.Timed.{Timed}
-use Rattle.fw_log_names.specs.Texts.{hex, blank_hex, quadlet_text, quadlets_text, named}
+use Rattle.fw_text.specs.Texts.{hex, blank_hex, quadlet_text, quadlets_text, named}
 use Rattle.fw_log_entry.specs.Rows.{event_form, has_tape}
 use Rattle.fw_log_entry.specs.declared.codes.TheConstants.{NO_DEVICE}
 use Rattle.fw_log_entry.specs.declared.codes.outcome.TheConstants as Outcomes

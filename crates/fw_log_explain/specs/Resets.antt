@@ -5,7 +5,7 @@ use Rattle.fw_phy.specs.declared.packet.PhyPacket.TheVariants.{SelfId as FirstPa
 use Rattle.fw_phy.specs.declared.packet.SelfId.{SelfId}
 use Rattle.fw_log_entry.specs.declared.nodes.NodeRow.{NodeRow}
 use Rattle.fw_log_entry.specs.declared.entry.ResetEntry.{ResetEntry}
-use Rattle.fw_log_names.specs.Texts.{named}
+use Rattle.fw_text.specs.Texts.{named}
 use Rattle.fw_log_names.specs.Names.{speed_name, port_name, device_name}
 
 -- a port of a node, unless it is not there

@@ -15,7 +15,7 @@ use fw_log_names::{
     Pairs, event_name, event_saying, format_name, outcome_name, put_hex4, put_hex6, put_word,
     system_name,
 };
-use fw_log_registers::{RegisterPlace, put_register_word};
+use fw_log_registers::{RegisterPlace, append_register_word};
 use std::alloc::AllocError;
 
 // Appends the format of an isochronous packet with its time stamp, or FMT and FDF.
@@ -202,8 +202,8 @@ fn put_shown_device(text: &mut Vec<u8>, device: u8) -> Result<(), AllocError>
     put_part(text, "shown device ", u64::from(device))
 }
 
-// What stands where a word is shown.
-fn shown_place(s: &ShownEntry) -> RegisterPlace
+/// What stands where a word is shown.
+pub fn shown_place(s: &ShownEntry) -> RegisterPlace
     ensures { result ≡ shown_place s.now }
 {
     RegisterPlace::of(REGISTER_SPACE + u64::from(s.offset))
@@ -211,11 +211,11 @@ fn shown_place(s: &ShownEntry) -> RegisterPlace
 
 /// Appends a shown word as a line tells it after its cycle.
 #[tactic(auto, unfolding(crate::specs::Lines::shown_text))]
-pub fn put_shown(text: &mut Vec<u8>, pairs: &Pairs, s: &ShownEntry) -> Result<(), AllocError>
+pub fn put_shown(text: &mut Vec<u8>, s: &ShownEntry) -> Result<(), AllocError>
     ensures { OnOk result (text.new.items ≡ text.old.items ++ shown_text s.now) }
 {
     let place = shown_place(s);
     put_shown_device(text, s.device)?;
-    put_at(text, pairs, place)?;
-    put_register_word(text, pairs, place, s.word)
+    put_at(text, place)?;
+    append_register_word(text, place, s.word)
 }

@@ -11,7 +11,9 @@ mod reset;
 mod response;
 mod tail;
 
-pub use events::{put_event, put_iso, put_outcome, put_saying, put_shown, put_tape, put_value};
+pub use events::{
+    put_event, put_iso, put_outcome, put_saying, put_shown, put_tape, put_value, shown_place,
+};
 pub use line::put_what;
 pub use packet::{head_of, put_head};
 pub use reset::{put_epoch, put_further, put_later, put_manager, put_row, put_self};

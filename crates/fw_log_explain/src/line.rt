@@ -28,7 +28,7 @@ pub fn put_what(
         Entry::Iso(packet) => put_iso(text, pairs, packet),
         Entry::Event(event) => put_event(text, event),
         Entry::Outcome(outcome) => put_outcome(text, pairs, outcome),
-        Entry::Shown(shown) => put_shown(text, pairs, shown),
+        Entry::Shown(shown) => put_shown(text, shown),
         Entry::End => put_word(text, "end"),
     }
 }

@@ -9,22 +9,18 @@ ghost use Rattle.fw_log_explain.specs.Lines.{at_text, function_text, swap_text, 
 
 use crate::parts::put_named_part;
 use fw_log_names::{Pairs, function_name, put_quadlet, put_quadlets, put_word};
-use fw_log_registers::{RegisterPlace, RegisterValue, put_place, put_told};
+use fw_log_registers::{RegisterPlace, RegisterValue, append_place, append_told};
 use fw_log_requests::Asked;
 use fw_words::{COMPARE_SWAP, Swap, quadlet_at};
 use std::alloc::AllocError;
 
 // Appends where a request is.
 #[tactic(auto, unfolding(crate::specs::Lines::at_text))]
-pub(crate) fn put_at(
-    text: &mut Vec<u8>,
-    pairs: &Pairs,
-    place: RegisterPlace,
-) -> Result<(), AllocError>
+pub(crate) fn put_at(text: &mut Vec<u8>, place: RegisterPlace) -> Result<(), AllocError>
     ensures { OnOk result (text.new.items ≡ text.old.items ++ at_text place) }
 {
     put_word(text, " ")?;
-    put_place(text, pairs, place)
+    append_place(text, place)
 }
 
 // Appends a lock's function.
@@ -64,7 +60,7 @@ pub(crate) fn put_swap(
     put_quadlet(text, pairs, s.argument)?;
     put_word(text, " to")?;
     put_quadlet(text, pairs, s.new)?;
-    put_told(text, pairs, place, told(s))
+    append_told(text, place, told(s))
 }
 
 // Appends a lock request.
@@ -79,7 +75,7 @@ pub(crate) fn put_lock(
     ensures { OnOk result (text.new.items ≡ text.old.items ++ lock_text place function bytes.now (quadlet_swap function bytes.now)) }
 {
     put_function(text, function)?;
-    put_at(text, pairs, place)?;
+    put_at(text, place)?;
     match Swap::of_lock(function, bytes) {
         Some(s) => put_swap(text, pairs, place, s),
         None => put_quadlets(text, pairs, bytes),
@@ -89,7 +85,6 @@ pub(crate) fn put_lock(
 // Appends words, and what is told of a place.
 fn put_verdict(
     text: &mut Vec<u8>,
-    pairs: &Pairs,
     words: &str,
     place: RegisterPlace,
     told: RegisterValue,
@@ -97,24 +92,18 @@ fn put_verdict(
     ensures { OnOk result (text.new.items ≡ text.old.items ++ (words.now ++ told_text told place)) }
 {
     put_word(text, words)?;
-    put_told(text, pairs, place, told)
+    append_told(text, place, told)
 }
 
 // Appends whether a swap was made that found this word, and what that changed or left.
 #[tactic(auto, unfolding(crate::specs::Lines::made_text))]
-fn put_made(
-    text: &mut Vec<u8>,
-    pairs: &Pairs,
-    place: RegisterPlace,
-    s: Swap,
-    old: u32,
-) -> Result<(), AllocError>
+fn put_made(text: &mut Vec<u8>, place: RegisterPlace, s: Swap, old: u32) -> Result<(), AllocError>
     ensures { OnOk result (text.new.items ≡ text.old.items ++ made_text place s old) }
 {
     if old == s.argument {
-        put_verdict(text, pairs, ", swap made", place, told(s))
+        put_verdict(text, ", swap made", place, told(s))
     } else {
-        put_verdict(text, pairs, ", no swap", place, RegisterValue::Word(old))
+        put_verdict(text, ", no swap", place, RegisterValue::Word(old))
     }
 }
 
@@ -130,7 +119,7 @@ pub(crate) fn put_swapped(
     ensures { OnOk result (text.new.items ≡ text.old.items ++ swapped_text place s old) }
 {
     put_quadlet(text, pairs, old)?;
-    put_made(text, pairs, place, s, old)
+    put_made(text, place, s, old)
 }
 
 // Appends the old value that a lock brings from a place, by the swap that was asked there.

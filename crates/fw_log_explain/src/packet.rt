@@ -8,9 +8,9 @@ use crate::lock::{put_at, put_lock};
 use crate::parts::{put_block, put_part};
 use crate::response::put_response;
 use fw_async::{Head, Packet};
-use fw_log_frames::put_frame;
+use fw_log_frames::append_frame;
 use fw_log_names::{Pairs, put_node, put_number, put_word, tcode_name};
-use fw_log_registers::{NamedRegister, RegisterPlace, put_register_word};
+use fw_log_registers::{NamedRegister, RegisterPlace, append_register_word};
 use fw_log_requests::Requests;
 use std::alloc::AllocError;
 
@@ -29,17 +29,16 @@ fn takes_frames(place: RegisterPlace) -> bool
 #[tactic(auto, unfolding(crate::specs::Lines::written_quadlet))]
 pub(crate) fn put_written_quadlet(
     text: &mut Vec<u8>,
-    pairs: &Pairs,
     place: RegisterPlace,
     value: u32,
 ) -> Result<(), AllocError>
     ensures { OnOk result (text.new.items ≡ text.old.items ++ (at_text place ++ written_quadlet place value)) }
 {
-    put_at(text, pairs, place)?;
+    put_at(text, place)?;
     if takes_frames(place) {
-        put_frame(text, pairs, &value.to_be_bytes())
+        append_frame(text, &value.to_be_bytes())
     } else {
-        put_register_word(text, pairs, place, value)
+        append_register_word(text, place, value)
     }
 }
 
@@ -53,9 +52,9 @@ pub(crate) fn put_written_block(
 ) -> Result<(), AllocError>
     ensures { OnOk result (text.new.items ≡ text.old.items ++ (at_text place ++ written_block place bytes.now)) }
 {
-    put_at(text, pairs, place)?;
+    put_at(text, place)?;
     if takes_frames(place) {
-        put_frame(text, pairs, bytes)
+        append_frame(text, bytes)
     } else {
         put_block(text, pairs, bytes)
     }
@@ -73,20 +72,20 @@ fn put_details(
 {
     match p {
         Packet::WriteQuadlet { offset, value, .. } => {
-            put_written_quadlet(text, pairs, RegisterPlace::of(*offset), *value)
+            put_written_quadlet(text, RegisterPlace::of(*offset), *value)
         }
         Packet::WriteBlock { offset, bytes, .. } => {
             put_written_block(text, pairs, RegisterPlace::of(*offset), bytes.as_slice())
         }
-        Packet::ReadQuadlet { offset, .. } => put_at(text, pairs, RegisterPlace::of(*offset)),
+        Packet::ReadQuadlet { offset, .. } => put_at(text, RegisterPlace::of(*offset)),
         Packet::ReadBlock { offset, length, .. } => {
-            put_at(text, pairs, RegisterPlace::of(*offset))?;
+            put_at(text, RegisterPlace::of(*offset))?;
             put_word(text, " data_length ")?;
             put_number(text, u64::from(*length))
         }
         Packet::CycleStart { offset, time, .. } => {
-            put_at(text, pairs, RegisterPlace::of(*offset))?;
-            put_register_word(text, pairs, RegisterPlace::of(*offset), *time)
+            put_at(text, RegisterPlace::of(*offset))?;
+            append_register_word(text, RegisterPlace::of(*offset), *time)
         }
         Packet::Lock {
             offset,

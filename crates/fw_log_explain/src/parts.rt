@@ -2,7 +2,7 @@
 
 ghost use Rattle.std.specs.Prelude.{◌≡◌, ◌++◌, OnOk, decimal};
 ghost use Rattle.std.specs.Option.{option_copied};
-ghost use Rattle.fw_log_names.specs.Texts.{named, quadlet_text};
+ghost use Rattle.fw_text.specs.Texts.{named, quadlet_text};
 ghost use Rattle.fw_log_explain.specs.Lines.{block_text};
 ghost use Rattle.fw_log_explain.specs.Resets.{flag_text};
 

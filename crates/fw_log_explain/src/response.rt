@@ -8,7 +8,7 @@ use crate::lock::{put_at, put_function, put_old};
 use crate::parts::{put_block, put_named_part};
 use fw_async::Packet;
 use fw_log_names::{Pairs, put_quadlet, put_word, rcode_name};
-use fw_log_registers::{RegisterPlace, put_register_word};
+use fw_log_registers::{RegisterPlace, append_register_word};
 use fw_log_requests::{Answer, Asked, Requests};
 use std::alloc::AllocError;
 
@@ -25,11 +25,11 @@ pub(crate) fn put_rcode(text: &mut Vec<u8>, rcode: u8) -> Result<(), AllocError>
 
 // Appends if the request was that a response answers.
 #[tactic(auto, unfolding(crate::specs::Lines::asked_text))]
-fn put_asked(text: &mut Vec<u8>, pairs: &Pairs, q: Option<&Asked>) -> Result<(), AllocError>
+fn put_asked(text: &mut Vec<u8>, q: Option<&Asked>) -> Result<(), AllocError>
     ensures { OnOk result (text.new.items ≡ text.old.items ++ asked_text (option_copied q.entry)) }
 {
     match q {
-        Some(q) => put_at(text, pairs, RegisterPlace::of(q.offset)),
+        Some(q) => put_at(text, RegisterPlace::of(q.offset)),
         None => Ok(()),
     }
 }
@@ -47,16 +47,11 @@ fn put_unasked(text: &mut Vec<u8>, q: Option<&Asked>) -> Result<(), AllocError>
 
 // Appends a write response.
 #[tactic(auto, unfolding(crate::specs::Lines::response_text))]
-fn put_write_response(
-    text: &mut Vec<u8>,
-    pairs: &Pairs,
-    q: Option<&Asked>,
-    rcode: u8,
-) -> Result<(), AllocError>
+fn put_write_response(text: &mut Vec<u8>, q: Option<&Asked>, rcode: u8) -> Result<(), AllocError>
     ensures { OnOk result (text.new.items ≡ text.old.items ++ response_text (option_copied q.entry) rcode []) }
 {
     put_rcode(text, rcode)?;
-    put_asked(text, pairs, q)?;
+    put_asked(text, q)?;
     put_unasked(text, q)
 }
 
@@ -71,7 +66,7 @@ fn put_read(
     ensures { OnOk result (text.new.items ≡ text.old.items ++ read_text (option_copied q.entry) value) }
 {
     match q {
-        Some(q) => put_register_word(text, pairs, RegisterPlace::of(q.offset), value),
+        Some(q) => append_register_word(text, RegisterPlace::of(q.offset), value),
         None => put_quadlet(text, pairs, value),
     }
 }
@@ -88,7 +83,7 @@ fn put_quadlet_response(
     ensures { OnOk result (text.new.items ≡ text.old.items ++ response_text (option_copied q.entry) rcode (read_text (option_copied q.entry) value)) }
 {
     put_rcode(text, rcode)?;
-    put_asked(text, pairs, q)?;
+    put_asked(text, q)?;
     if rcode == COMPLETE {
         put_read(text, pairs, q, value)?;
     }
@@ -107,7 +102,7 @@ fn put_block_response(
     ensures { OnOk result (text.new.items ≡ text.old.items ++ response_text (option_copied q.entry) rcode (block_text bytes.now)) }
 {
     put_rcode(text, rcode)?;
-    put_asked(text, pairs, q)?;
+    put_asked(text, q)?;
     if rcode == COMPLETE {
         put_block(text, pairs, bytes)?;
     }
@@ -128,7 +123,7 @@ fn put_lock_response(
 {
     put_rcode(text, rcode)?;
     put_function(text, function)?;
-    put_asked(text, pairs, q)?;
+    put_asked(text, q)?;
     if rcode == COMPLETE {
         put_old(text, pairs, q, function, bytes)?;
     }
@@ -148,7 +143,7 @@ pub(crate) fn put_response(
     match p {
         Packet::WriteReply { head, rcode } => {
             let q = requests.answered(Answer::Write, head);
-            put_write_response(text, pairs, q.as_ref(), *rcode)
+            put_write_response(text, q.as_ref(), *rcode)
         }
         Packet::ReadQuadletReply { head, rcode, value } => {
             let q = requests.answered(Answer::ReadQuadlet, head);

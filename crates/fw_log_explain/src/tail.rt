@@ -8,7 +8,7 @@ use crate::lock::{put_at, put_function, put_swap, put_swapped};
 use crate::packet::{put_written_block, put_written_quadlet};
 use crate::response::{COMPLETE, put_rcode};
 use fw_log_names::{Pairs, put_word};
-use fw_log_registers::{RegisterPlace, put_register_word};
+use fw_log_registers::{RegisterPlace, append_register_word};
 use fw_words::{COMPARE_SWAP, Swap};
 use std::alloc::AllocError;
 
@@ -44,27 +44,22 @@ pub enum TailWords {
 
 // Appends a read.
 #[tactic(auto, unfolding(crate::specs::Tails::reading_text))]
-fn put_asked(text: &mut Vec<u8>, pairs: &Pairs, place: RegisterPlace) -> Result<(), AllocError>
+fn put_asked(text: &mut Vec<u8>, place: RegisterPlace) -> Result<(), AllocError>
     ensures { OnOk result (text.new.items ≡ text.old.items ++ reading_text place) }
 {
     put_word(text, " read_quadlet_request")?;
-    put_at(text, pairs, place)
+    put_at(text, place)
 }
 
 // Appends what a read brings.
 #[tactic(auto, unfolding(crate::specs::Tails::brought_text))]
-fn put_brought(
-    text: &mut Vec<u8>,
-    pairs: &Pairs,
-    place: RegisterPlace,
-    value: u32,
-) -> Result<(), AllocError>
+fn put_brought(text: &mut Vec<u8>, place: RegisterPlace, value: u32) -> Result<(), AllocError>
     ensures { OnOk result (text.new.items ≡ text.old.items ++ brought_text place value) }
 {
     put_word(text, " read_quadlet_response")?;
     put_rcode(text, COMPLETE)?;
-    put_at(text, pairs, place)?;
-    put_register_word(text, pairs, place, value)
+    put_at(text, place)?;
+    append_register_word(text, place, value)
 }
 
 // Appends a compare_swap.
@@ -79,7 +74,7 @@ fn put_change(
 {
     put_word(text, " lock_request")?;
     put_function(text, COMPARE_SWAP)?;
-    put_at(text, pairs, place)?;
+    put_at(text, place)?;
     put_swap(text, pairs, place, s)
 }
 
@@ -97,37 +92,27 @@ fn put_changed(
     put_word(text, " lock_response")?;
     put_rcode(text, COMPLETE)?;
     put_function(text, COMPARE_SWAP)?;
-    put_at(text, pairs, place)?;
+    put_at(text, place)?;
     put_swapped(text, pairs, place, s, old)
 }
 
 // Appends that a read brings nothing.
 #[tactic(auto, unfolding(crate::specs::Tails::failed_text))]
-fn put_failed(
-    text: &mut Vec<u8>,
-    pairs: &Pairs,
-    place: RegisterPlace,
-    rcode: u8,
-) -> Result<(), AllocError>
+fn put_failed(text: &mut Vec<u8>, place: RegisterPlace, rcode: u8) -> Result<(), AllocError>
     ensures { OnOk result (text.new.items ≡ text.old.items ++ failed_text place rcode) }
 {
     put_word(text, " read_quadlet_response")?;
     put_rcode(text, rcode)?;
-    put_at(text, pairs, place)
+    put_at(text, place)
 }
 
 // Appends a write of a quadlet.
 #[tactic(auto, unfolding(crate::specs::Tails::write_text))]
-fn put_write(
-    text: &mut Vec<u8>,
-    pairs: &Pairs,
-    place: RegisterPlace,
-    value: u32,
-) -> Result<(), AllocError>
+fn put_write(text: &mut Vec<u8>, place: RegisterPlace, value: u32) -> Result<(), AllocError>
     ensures { OnOk result (text.new.items ≡ text.old.items ++ write_text place value) }
 {
     put_word(text, " write_quadlet_request")?;
-    put_written_quadlet(text, pairs, place, value)
+    put_written_quadlet(text, place, value)
 }
 
 // The bytes of two quadlets.
@@ -156,17 +141,12 @@ fn put_pair(
 
 // Appends the response to a write.
 #[tactic(auto, unfolding(crate::specs::Tails::written_text))]
-fn put_written(
-    text: &mut Vec<u8>,
-    pairs: &Pairs,
-    place: RegisterPlace,
-    rcode: u8,
-) -> Result<(), AllocError>
+fn put_written(text: &mut Vec<u8>, place: RegisterPlace, rcode: u8) -> Result<(), AllocError>
     ensures { OnOk result (text.new.items ≡ text.old.items ++ written_text place rcode) }
 {
     put_word(text, " write_response")?;
     put_rcode(text, rcode)?;
-    put_at(text, pairs, place)
+    put_at(text, place)
 }
 
 /// Appends what a packet says after its head. An error says that memory ran out, and comes for nothing else.
@@ -176,13 +156,13 @@ pub fn put_tail(text: &mut Vec<u8>, pairs: &Pairs, tail: &Tail) -> Result<(), Al
 {
     let place = RegisterPlace::of(tail.offset);
     match tail.words {
-        TailWords::Read => put_asked(text, pairs, place),
-        TailWords::Value(value) => put_brought(text, pairs, place, value),
+        TailWords::Read => put_asked(text, place),
+        TailWords::Value(value) => put_brought(text, place, value),
         TailWords::Swap(s) => put_change(text, pairs, place, s),
         TailWords::Old(s, old) => put_changed(text, pairs, place, s, old),
-        TailWords::NoValue(rcode) => put_failed(text, pairs, place, rcode),
-        TailWords::Write(value) => put_write(text, pairs, place, value),
+        TailWords::NoValue(rcode) => put_failed(text, place, rcode),
+        TailWords::Write(value) => put_write(text, place, value),
         TailWords::WritePair(first, second) => put_pair(text, pairs, place, first, second),
-        TailWords::Written(rcode) => put_written(text, pairs, place, rcode),
+        TailWords::Written(rcode) => put_written(text, place, rcode),
     }
 }

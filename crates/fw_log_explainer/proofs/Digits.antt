@@ -1,7 +1,7 @@
 -- The digits of numbers of three.
 use Rattle.std.proofs.Common.{◌≡◌, ℕ, ◌+◌, ◌/◌, ◌%◌, ◌≤◌, ◌<◌, List, [], ◌∷◌, ◌++◌, decimal, arith, ap, ◌∙◌}
 use Rattle.std.proofs.lemmas.Fmt.{decimal_step}
-use Rattle.fw_log_names.proofs.DecimalLaws.{two_digits}
+use Rattle.fw_text.proofs.DecimalLaws.{two_digits}
 
 pub three_digits : (n : ℕ) → 100 ≤ n → n < 1000 → decimal n ≡ (48 + n / 100) ∷ (48 + n / 10 % 10) ∷ (48 + n % 10) ∷ []
 three_digits n more less =

@@ -8,6 +8,7 @@ use Rattle.fw_async.specs.Heads.{head_of}
 use Rattle.fw_async.specs.declared.packet.Head.{Head}
 use Rattle.fw_async.specs.declared.packet.Packet.{Packet}
 use Rattle.fw_async.specs.declared.packet.Packet.TheVariants.{WriteQuadlet, WriteBlock, WriteReply, ReadQuadlet, ReadQuadletReply, CycleStart, Lock, LockReply}
+use Rattle.fw_async_glance.proofs.GlanceLaws.{swap_back}
 use Rattle.fw_words.specs.Quadlet.{field, quadlet_at}
 use Rattle.fw_words.specs.Swaps.{quadlet_swap, swap_bytes}
 use Rattle.fw_words.specs.declared.swap.Swap.{Swap as ASwap}
@@ -16,7 +17,7 @@ use Rattle.fw_log_entry.specs.declared.entry.Entry.TheVariants.{Async}
 use Rattle.fw_log_names.specs.Names.{tcode_name}
 use Rattle.fw_log_registers.specs.Places.{place_of}
 use Rattle.fw_csr.specs.declared.offset.TheConstants.{CYCLE_TIME}
-use Rattle.fw_log_names.specs.Texts.{hex}
+use Rattle.fw_text.specs.Texts.{hex}
 use Rattle.fw_log_registers.specs.Words.{place_text, told_field, told_text, word_text}
 use Rattle.fw_log_registers.specs.declared.place.RegisterPlace.{RegisterPlace}
 use Rattle.fw_log_requests.specs.declared.asked.Answer.TheVariants.{Write as WriteResponse, ReadQuadlet as ReadQuadletResponse, Lock as LockResponse}
@@ -70,13 +71,6 @@ pub pair_tail : (list : List Asked) (h : Head) (offset first second : ℕ)
     → tail_text (record { offset = offset; words = Words.WritePair first second }) ≡ after_head list (WriteBlock h offset (to_be_bytes w32 first ++ to_be_bytes w32 second))
 unfolding details words_text pair_text
 pair_tail list h offset first second = refl
-
--- the two quadlets of a swap, back from their bytes
-pub swap_back : (s : ASwap) → s.argument < 2 ^ 32 → s.new < 2 ^ 32 → quadlet_swap COMPARE_SWAP (swap_bytes s) ≡ Some s
-swap_back s low small =
-    let first : quadlet_at (swap_bytes s) 0 ≡ s.argument = from_be_bytes-to_be_bytes_4 s.argument low in
-    let second : quadlet_at (swap_bytes s) 4 ≡ s.new = from_be_bytes-to_be_bytes_4 s.new small in
-    ap (λ (n : ℕ). Some (record { argument = n; new = quadlet_at (swap_bytes s) 4 })) first ∙ ap (λ (n : ℕ). Some (record { argument = s.argument; new = n })) second
 
 swap_told : (o : Option ASwap) (s : ASwap) (function offset : ℕ) (bytes : List ℕ) → o ≡ Some s → function ≡ COMPARE_SWAP
     → change_text (place_of offset) s ≡ codes " lock_request" ++ lock_text (place_of offset) function bytes o

@@ -1,7 +1,7 @@
 -- The line of a usual packet from its parts, and what is there after it was appended.
 use Rattle.std.specs.Prelude.{◌≡◌, ℕ, ◌==◌, List, ◌++◌, codes, decimal, if◌then◌else◌}
 use Rattle.fw_words.specs.Quadlet.{field}
-use Rattle.fw_log_names.specs.Texts.{hex}
+use Rattle.fw_text.specs.Texts.{hex}
 use Rattle.fw_async.specs.declared.packet.Head.{Head}
 use Rattle.fw_async.specs.declared.packet.Packet.{Packet}
 use Rattle.fw_log_entry.specs.declared.entry.Entry.TheVariants.{Async}

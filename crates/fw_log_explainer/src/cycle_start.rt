@@ -1,7 +1,7 @@
 //! The lines of cycle starts, written in place: no two say the same.
 
 ghost use Rattle.std.specs.Prelude.{◌≡◌, ◌≤◌, ◌<◌, ◌+◌, ◌++◌, codes, decimal, length, take};
-ghost use Rattle.fw_log_names.specs.Texts.{hex};
+ghost use Rattle.fw_text.specs.Texts.{hex};
 ghost use Rattle.fw_log_explainer.specs.Lines.{start_line, time_text};
 
 use crate::write::{write_cycle, write_part, write_row};
@@ -13,7 +13,7 @@ pub(crate) const START: usize = 192;
 
 // Writes a number in decimal digits, at most four.
 #[inline(always)]
-#[tactic(auto, using(std::proofs::lemmas::Fmt::decimal_digit, fw_log_names::proofs::DecimalLaws::two_digits, crate::proofs::Digits::three_digits, crate::proofs::Digits::four_digits))]
+#[tactic(auto, using(std::proofs::lemmas::Fmt::decimal_digit, fw_text::proofs::DecimalLaws::two_digits, crate::proofs::Digits::three_digits, crate::proofs::Digits::four_digits))]
 fn write_long(out: &mut [u8], at: usize, n: u32) -> usize
     requires number { n < 10000 }
     requires room { at + 4 ≤ length out.old }

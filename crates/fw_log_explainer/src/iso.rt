@@ -3,7 +3,7 @@
 ghost use Rattle.std.specs.Prelude.{◌≡◌, ◌≤◌, ◌+◌, ◌++◌, ◌%◌, ◌^◌, IfSome, codes, length, take};
 ghost use Rattle.std.specs.Option.{is_some};
 ghost use Rattle.fw_log_names.specs.Names.{format_name};
-ghost use Rattle.fw_log_names.specs.Texts.{hex};
+ghost use Rattle.fw_text.specs.Texts.{hex};
 ghost use Rattle.fw_log_explain.specs.Lines.{block_word, format_text, iso_text, stream_text};
 
 use crate::write::{write_cycle, write_part, write_row};

@@ -18,7 +18,7 @@ pub(crate) fn write_row<const N: usize>(out: &mut [u8], at: usize, row: [u8; N])
 
 /// Writes a number in decimal digits, at most three.
 #[inline(always)]
-#[tactic(auto, using(std::proofs::lemmas::Fmt::decimal_digit, fw_log_names::proofs::DecimalLaws::two_digits, crate::proofs::Digits::three_digits))]
+#[tactic(auto, using(std::proofs::lemmas::Fmt::decimal_digit, fw_text::proofs::DecimalLaws::two_digits, crate::proofs::Digits::three_digits))]
 pub(crate) fn write_number(out: &mut [u8], at: usize, n: u8) -> usize
     requires { at + 3 ≤ length out.old }
     ensures size { length out.new ≡ length out.old }

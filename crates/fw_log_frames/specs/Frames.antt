@@ -1,8 +1,8 @@
 -- The frames that are written to FCP_COMMAND and FCP_RESPONSE in words (own; IEC 61883-1, 9; AV/C General 3.0, frames).
 use Rattle.std.specs.Prelude.{ℕ, ◌/◌, ◌%◌, ◌==◌, ◌&&◌, ◌||◌, not, nat_le, nat_lt, Bool, List, [], ◌∷◌, ◌++◌, ◌+◌, length, drop, slice_index, codes, decimal, Option, Some, None, if◌then◌else◌}
 use Rattle.std.specs.Option.{is_some}
-use Rattle.fw_log_names.specs.Digits.{byte_digits}
-use Rattle.fw_log_names.specs.Texts.{blank_hex, named}
+use Rattle.fw_text.specs.Digits.{byte_digits}
+use Rattle.fw_text.specs.Texts.{blank_hex, named}
 use Rattle.fw_log_frames.specs.declared.operands.OperandRow.{OperandRow}
 use Rattle.fw_log_frames.specs.declared.operands.OperandRow.TheVariants.{TimeCode, Company, Plugs, UnitInfo, Page, Word}
 use Rattle.fw_log_frames.specs.Names.{code_name, subunit_name, tape_opcode_name, opcode_name, tape_operand_name, operand_name}

@@ -2,9 +2,11 @@
 //! Tape Recorder/Player Subunit 2.1).
 #![tactic(auto)]
 
+mod append;
 mod frame;
 mod names;
 mod operands;
 
+pub use append::append_frame;
 pub use frame::put_frame;
 pub use operands::OperandRow;

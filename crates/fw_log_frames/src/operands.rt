@@ -1,14 +1,12 @@
 //! The operands of AV/C frames.
 
-ghost use Rattle.std.specs.Prelude.{◌≡◌, ◌++◌, ◌≤◌, ◌<◌, ◌+◌, OnOk, length, drop, codes};
+ghost use Rattle.std.specs.Prelude.{◌≡◌, ◌++◌, ◌≤◌, ◌<◌, ◌+◌, length, drop, codes};
 ghost use Rattle.std.specs.Option.{option_copied};
-ghost use Rattle.fw_log_names.specs.Texts.{blank_hex};
 ghost use Rattle.fw_log_frames.specs.Names.{tape_operand_name, operand_name};
 ghost use Rattle.fw_log_frames.specs.Frames.{operand, operands_as, time_code, company, plugs, unit_info, takes, tape_row, general_row, first_name, first_text, row_text, tape_operands, general_operands};
 
 use crate::names::{operand_name, tape_operand_name};
-use fw_log_names::{Pairs, put_blank_hex, put_hex2, put_word};
-use std::alloc::AllocError;
+use fw_text::Text;
 
 /// How the first operands of a frame are told.
 #[derive(Clone, Copy)]
@@ -53,133 +51,78 @@ fn general_row(opcode: u8, operands: &[u8]) -> OperandRow
     }
 }
 
-// Appends words, and an operand in two digits.
+// Says words, and an operand in two digits.
 #[tactic(auto, unfolding(crate::specs::Frames::operand))]
-fn put_operand(
-    text: &mut Vec<u8>,
-    pairs: &Pairs,
-    words: &str,
-    operands: &[u8],
-    n: usize,
-) -> Result<(), AllocError>
+fn put_operand(text: &mut Text, words: &str, operands: &[u8], n: usize)
     requires { n < length operands.now }
-    ensures { OnOk result (text.new.items ≡ text.old.items ++ (words.now ++ operand operands.now n)) }
+    ensures { text.new ≡ text.old ++ (words.now ++ operand operands.now n) }
 {
-    put_word(text, words)?;
-    put_hex2(text, pairs, operands[n])
+    text.word(words);
+    text.hex2(operands[n]);
 }
 
-// Appends the operands from the n-th on in digits.
-pub(crate) fn put_rest(
-    text: &mut Vec<u8>,
-    pairs: &Pairs,
-    operands: &[u8],
-    n: usize,
-) -> Result<(), AllocError>
-    requires { n ≤ length operands.now }
-    ensures { OnOk result (text.new.items ≡ text.old.items ++ blank_hex (drop n operands.now)) }
+// Says a company, three operands from the n-th on.
+fn put_company(text: &mut Text, operands: &[u8], n: usize)
+    requires { n + 3 ≤ length operands.now }
+    ensures { text.new ≡ text.old ++ company operands.now n }
 {
-    put_blank_hex(text, pairs, &operands[n..])
+    put_operand(text, "company ", operands, n);
+    put_operand(text, "", operands, n + 1);
+    put_operand(text, "", operands, n + 2);
 }
 
-// Appends the word that the first operand has, and the operands after it; or all of them in digits.
-fn put_first(
-    text: &mut Vec<u8>,
-    pairs: &Pairs,
-    name: Option<&str>,
-    operands: &[u8],
-) -> Result<(), AllocError>
-    ensures { OnOk result (text.new.items ≡ text.old.items ++ first_text (option_copied name.entry) operands.now) }
+// Says the word that the first operand has, and the operands after it; or all of them in digits.
+fn put_first(text: &mut Text, name: Option<&str>, operands: &[u8])
+    ensures { text.new ≡ text.old ++ first_text (option_copied name.entry) operands.now }
 {
     let [_, rest @ ..] = operands else {
-        return Ok(());
+        return;
     };
     match name {
         Some(name) => {
-            put_word(text, " ")?;
-            put_word(text, name)?;
-            put_blank_hex(text, pairs, rest)
+            text.word(" ");
+            text.word(name);
+            text.blank_hex(rest);
         }
-        None => put_blank_hex(text, pairs, operands),
+        None => text.blank_hex(operands),
     }
 }
 
-// Appends hours, minutes, seconds and frames.
-fn put_time_code(text: &mut Vec<u8>, pairs: &Pairs, operands: &[u8]) -> Result<(), AllocError>
-    requires { 5 ≤ length operands.now }
-    ensures { OnOk result (text.new.items ≡ text.old.items ++ operands_as (time_code operands.now) 5 operands.now) }
-{
-    put_operand(text, pairs, " ", operands, 4)?;
-    put_operand(text, pairs, ":", operands, 3)?;
-    put_operand(text, pairs, ":", operands, 2)?;
-    put_operand(text, pairs, ":", operands, 1)?;
-    put_rest(text, pairs, operands, 5)
-}
-
-// Appends a company.
+// Says operands by their row.
 #[tactic(auto, unfolding(crate::specs::Frames::operands_as))]
-fn put_vendor(text: &mut Vec<u8>, pairs: &Pairs, operands: &[u8]) -> Result<(), AllocError>
-    requires { 3 ≤ length operands.now }
-    ensures { OnOk result (text.new.items ≡ text.old.items ++ operands_as (company operands.now 0) 3 operands.now) }
-{
-    put_operand(text, pairs, " company ", operands, 0)?;
-    put_operand(text, pairs, "", operands, 1)?;
-    put_operand(text, pairs, "", operands, 2)?;
-    put_rest(text, pairs, operands, 3)
-}
-
-// Appends numbers of plugs.
-#[tactic(auto, unfolding(crate::specs::Frames::operands_as))]
-fn put_plugs(text: &mut Vec<u8>, pairs: &Pairs, operands: &[u8]) -> Result<(), AllocError>
-    requires { 3 ≤ length operands.now }
-    ensures { OnOk result (text.new.items ≡ text.old.items ++ operands_as (plugs operands.now) 3 operands.now) }
-{
-    put_operand(text, pairs, " inputs ", operands, 1)?;
-    put_operand(text, pairs, " outputs ", operands, 2)?;
-    put_rest(text, pairs, operands, 3)
-}
-
-// Appends the type of a unit and its company.
-#[tactic(auto, unfolding(crate::specs::Frames::operands_as))]
-fn put_unit_info(text: &mut Vec<u8>, pairs: &Pairs, operands: &[u8]) -> Result<(), AllocError>
-    requires { 5 ≤ length operands.now }
-    ensures { OnOk result (text.new.items ≡ text.old.items ++ operands_as (unit_info operands.now) 5 operands.now) }
-{
-    put_operand(text, pairs, " type ", operands, 1)?;
-    put_operand(text, pairs, " company ", operands, 2)?;
-    put_operand(text, pairs, "", operands, 3)?;
-    put_operand(text, pairs, "", operands, 4)?;
-    put_rest(text, pairs, operands, 5)
-}
-
-// Appends a page.
-#[tactic(auto, unfolding(crate::specs::Frames::operands_as))]
-fn put_page(text: &mut Vec<u8>, pairs: &Pairs, operands: &[u8]) -> Result<(), AllocError>
-    requires { 1 ≤ length operands.now }
-    ensures { OnOk result (text.new.items ≡ text.old.items ++ operands_as (codes "page " ++ operand operands.now 0) 1 operands.now) }
-{
-    put_operand(text, pairs, " page ", operands, 0)?;
-    put_rest(text, pairs, operands, 1)
-}
-
-// Appends operands by their row.
-fn put_row(
-    text: &mut Vec<u8>,
-    pairs: &Pairs,
-    row: OperandRow,
-    name: Option<&str>,
-    operands: &[u8],
-) -> Result<(), AllocError>
+fn put_row(text: &mut Text, row: OperandRow, name: Option<&str>, operands: &[u8])
     requires { takes row ≤ length operands.now }
-    ensures { OnOk result (text.new.items ≡ text.old.items ++ row_text row (option_copied name.entry) operands.now) }
+    ensures { text.new ≡ text.old ++ row_text row (option_copied name.entry) operands.now }
 {
     match row {
-        OperandRow::TimeCode => put_time_code(text, pairs, operands),
-        OperandRow::Company => put_vendor(text, pairs, operands),
-        OperandRow::Plugs => put_plugs(text, pairs, operands),
-        OperandRow::UnitInfo => put_unit_info(text, pairs, operands),
-        OperandRow::Page => put_page(text, pairs, operands),
-        OperandRow::Word => put_first(text, pairs, name, operands),
+        OperandRow::TimeCode => {
+            put_operand(text, " ", operands, 4);
+            put_operand(text, ":", operands, 3);
+            put_operand(text, ":", operands, 2);
+            put_operand(text, ":", operands, 1);
+            text.blank_hex(&operands[5..]);
+        }
+        OperandRow::Company => {
+            text.word(" ");
+            put_company(text, operands, 0);
+            text.blank_hex(&operands[3..]);
+        }
+        OperandRow::Plugs => {
+            put_operand(text, " inputs ", operands, 1);
+            put_operand(text, " outputs ", operands, 2);
+            text.blank_hex(&operands[3..]);
+        }
+        OperandRow::UnitInfo => {
+            put_operand(text, " type ", operands, 1);
+            text.word(" ");
+            put_company(text, operands, 2);
+            text.blank_hex(&operands[5..]);
+        }
+        OperandRow::Page => {
+            put_operand(text, " page ", operands, 0);
+            text.blank_hex(&operands[1..]);
+        }
+        OperandRow::Word => put_first(text, name, operands),
     }
 }
 
@@ -203,28 +146,18 @@ fn general_word(opcode: u8, operands: &[u8]) -> Option<&'static str>
     }
 }
 
-// Appends the operands of an opcode of the tape subunit.
-pub(crate) fn put_tape_operands(
-    text: &mut Vec<u8>,
-    pairs: &Pairs,
-    opcode: u8,
-    operands: &[u8],
-) -> Result<(), AllocError>
-    ensures { OnOk result (text.new.items ≡ text.old.items ++ tape_operands opcode operands.now) }
+// Says the operands of an opcode of the tape subunit.
+pub(crate) fn put_tape_operands(text: &mut Text, opcode: u8, operands: &[u8])
+    ensures { text.new ≡ text.old ++ tape_operands opcode operands.now }
 {
     let name = tape_word(opcode, operands);
-    put_row(text, pairs, tape_row(opcode, operands), name, operands)
+    put_row(text, tape_row(opcode, operands), name, operands);
 }
 
-// Appends the operands of an opcode of every address.
-pub(crate) fn put_general_operands(
-    text: &mut Vec<u8>,
-    pairs: &Pairs,
-    opcode: u8,
-    operands: &[u8],
-) -> Result<(), AllocError>
-    ensures { OnOk result (text.new.items ≡ text.old.items ++ general_operands opcode operands.now) }
+// Says the operands of an opcode of every address.
+pub(crate) fn put_general_operands(text: &mut Text, opcode: u8, operands: &[u8])
+    ensures { text.new ≡ text.old ++ general_operands opcode operands.now }
 {
     let name = general_word(opcode, operands);
-    put_row(text, pairs, general_row(opcode, operands), name, operands)
+    put_row(text, general_row(opcode, operands), name, operands);
 }

@@ -9,8 +9,8 @@ pub use Rattle.fw_log_json_packets.proofs.Joins.{coded, counted, moved, one_text
 pub use Rattle.fw_log_json_packets.specs.Values.{name_value, number_value}
 unfoldable pub use Rattle.fw_log_json_packets.specs.Values.{array, code, field, quoted}
 pub use Rattle.fw_log_names.specs.Names.{format_name, function_name, port_name, rcode_name, retry_name, tcode_name}
-pub use Rattle.fw_log_names.specs.Texts.{hex_bytes}
-unfoldable pub use Rattle.fw_log_names.specs.Texts.{hex}
+pub use Rattle.fw_text.specs.Texts.{hex_bytes}
+unfoldable pub use Rattle.fw_text.specs.Texts.{hex}
 pub use Rattle.fw_phy.specs.declared.packet.PhyPacket.{PhyPacket}
 pub use Rattle.std.proofs.Common.{Bool, IfSome, List, None, OnOk, Option, Some, [], ap, append_assoc, arith, codes, decimal, drop, false, get_or, if◌then◌else◌, length, map, refl, subst, suc, sym}
 pub use Rattle.std.proofs.Common.{true, ℕ, ◌&&◌, ◌++◌, ◌+◌, ◌<◌, ◌==◌, ◌^◌, ◌∙◌, ◌∷◌, ◌≡◌, ◌≤◌}

@@ -11,7 +11,7 @@ use Rattle.fw_log_entry.specs.declared.entry.ShownEntry.{ShownEntry}
 use Rattle.fw_log_entry.specs.declared.entry.Entry.{Entry}
 use Rattle.fw_log_entry.specs.declared.entry.Entry.TheVariants.{Reset, Async as AsyncEntry, Iso as IsoEntry, Event, Outcome, Shown, End}
 use Rattle.fw_log_entry.specs.declared.entry.Timed.{Timed}
-use Rattle.fw_log_names.specs.Texts.{hex}
+use Rattle.fw_text.specs.Texts.{hex}
 use Rattle.fw_log_names.specs.Names.{kind_name, system_name, event_name, outcome_name}
 use Rattle.fw_log_json_packets.specs.Values.{field, quoted, array, code, number_value, cycle_value}
 use Rattle.fw_log_json.specs.Ids.{id_object, node_objects}

@@ -1,7 +1,7 @@
 //! The digits of bytes: of the data of a lock, of long blocks.
 
 ghost use Rattle.std.specs.Prelude.{◌≡◌, ◌≤◌, ◌++◌, OnOk, length};
-ghost use Rattle.fw_log_names.specs.Texts.{hex_bytes};
+ghost use Rattle.fw_text.specs.Texts.{hex_bytes};
 
 use crate::values::put_text;
 use fw_log_json_packets::{LONGEST, digits_of, write_digits};

@@ -2,7 +2,7 @@
 
 ghost use Rattle.std.specs.Prelude.{◌≡◌, ◌++◌, IsTrue, OnOk, codes, decimal};
 ghost use Rattle.fw_log_names.specs.Names.{retry_name};
-ghost use Rattle.fw_log_names.specs.Texts.{hex};
+ghost use Rattle.fw_text.specs.Texts.{hex};
 ghost use Rattle.fw_log_json_packets.specs.Values.{field, quoted, code};
 ghost use Rattle.fw_log_json_packets.specs.Packets.{head_fields};
 

@@ -3,7 +3,7 @@
 ghost use Rattle.std.specs.Prelude.{◌≡◌, ◌++◌, OnOk, Some, codes, decimal};
 ghost use Rattle.fw_cip.specs.Iso.{bit, data_length};
 ghost use Rattle.fw_log_names.specs.Names.{format_name};
-ghost use Rattle.fw_log_names.specs.Texts.{hex};
+ghost use Rattle.fw_text.specs.Texts.{hex};
 ghost use Rattle.fw_log_json_packets.specs.Values.{field, quoted, code, name_value};
 ghost use Rattle.fw_log_json_packets.specs.Packets.{cip_fields, iso_fields};
 

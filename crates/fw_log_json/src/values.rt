@@ -2,7 +2,7 @@
 
 ghost use Rattle.std.specs.Prelude.{◌≡◌, ◌++◌, OnOk, decimal};
 ghost use Rattle.std.specs.Option.{option_copied};
-ghost use Rattle.fw_log_names.specs.Texts.{hex, hex_bytes};
+ghost use Rattle.fw_text.specs.Texts.{hex, hex_bytes};
 ghost use Rattle.fw_log_json_packets.specs.Values.{field, quoted, name_value, number_value, flag_value, code, comma};
 
 use crate::digits::put_digits;

@@ -3,7 +3,7 @@ use Rattle.std.proofs.Common.{◌≡◌, refl, ap, sym, ◌∙◌, ℕ, Bool, fa
 use Rattle.fw_cip.specs.Iso.{bit}
 use Rattle.fw_cip.specs.declared.packet.CipHeader.{CipHeader}
 use Rattle.fw_log_names.specs.Names.{format_name}
-use Rattle.fw_log_names.specs.Texts.{hex}
+use Rattle.fw_text.specs.Texts.{hex}
 use Rattle.fw_log_json_packets.specs.Values.{field, quoted, name_value}
 use Rattle.fw_log_json_packets.specs.Packets.{cip_fields}
 use Rattle.fw_log_json_packets.specs.Usual.{IsUsualCip}

@@ -2,7 +2,7 @@
 use Rattle.std.proofs.Common.{◌≡◌, ◌++◌, codes, decimal, ℕ, List, arith, ap, refl, sym, ◌∙◌, append_assoc}
 use Rattle.fw_async.specs.declared.packet.Head.{Head}
 use Rattle.fw_log_names.specs.Names.{retry_name}
-use Rattle.fw_log_names.specs.Texts.{hex}
+use Rattle.fw_text.specs.Texts.{hex}
 use Rattle.fw_log_json_packets.specs.Values.{code, field, quoted}
 use Rattle.fw_log_json_packets.specs.Packets.{head_fields}
 use Rattle.fw_log_json_packets.specs.Usual.{IsUsualHead}

@@ -1,10 +1,10 @@
 -- The texts of isochronous packets that are put together beforehand.
 use Rattle.std.proofs.Common.{◌≡◌, refl, ap, sym, ◌∙◌, ℕ, ◌+◌, ◌/◌, ◌%◌, ◌≤◌, ◌<◌, List, [], ◌∷◌, ◌++◌, Some, codes, decimal, arith, append_assoc}
 use Rattle.std.proofs.lemmas.Fmt.{decimal_digit, decimal_step}
-use Rattle.fw_log_names.proofs.DecimalLaws.{two_digits}
+use Rattle.fw_text.proofs.DecimalLaws.{two_digits}
 use Rattle.fw_cip.specs.declared.packet.CipHeader.{CipHeader}
 use Rattle.fw_log_names.specs.Names.{format_name}
-use Rattle.fw_log_names.specs.Texts.{hex}
+use Rattle.fw_text.specs.Texts.{hex}
 use Rattle.fw_log_json_packets.specs.Values.{field, quoted, code, name_value}
 use Rattle.fw_log_json_packets.proofs.Joins.{longer_text}
 

@@ -1,7 +1,7 @@
 -- Pieces of text, one after another.
 use Rattle.std.proofs.Common.{◌≡◌, ap, sym, ◌∙◌, ℕ, ◌+◌, ◌/◌, ◌%◌, ◌≤◌, ◌<◌, List, [], ◌∷◌, ◌++◌, decimal, Option, Some, append_assoc}
 use Rattle.std.proofs.lemmas.Fmt.{decimal_digit}
-use Rattle.fw_log_names.proofs.DecimalLaws.{two_digits}
+use Rattle.fw_text.proofs.DecimalLaws.{two_digits}
 use Rattle.fw_log_json_packets.specs.Values.{field, quoted, code}
 
 -- one piece after another

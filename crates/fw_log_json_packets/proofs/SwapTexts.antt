@@ -3,7 +3,7 @@ use Rattle.std.proofs.Common.{◌≡◌, refl, ap, sym, ◌∙◌, ℕ, List, []
 use Rattle.std.proofs.lemmas.Fmt.{decimal_digit}
 use Rattle.fw_log_names.specs.Names.{function_name}
 use Rattle.std.proofs.Common.{length}
-use Rattle.fw_log_names.specs.Texts.{hex_bytes}
+use Rattle.fw_text.specs.Texts.{hex_bytes}
 use Rattle.fw_log_json_packets.specs.Values.{field, code, quoted}
 use Rattle.fw_log_json_packets.specs.Packets.{lock_fields}
 use Rattle.fw_log_json_packets.proofs.Joins.{then}

@@ -7,7 +7,7 @@ use Rattle.fw_async.specs.declared.packet.Head.{Head}
 use Rattle.fw_cip.specs.Iso.{bit, block_bytes, data_length}
 use Rattle.fw_cip.specs.declared.packet.CipHeader.{CipHeader}
 use Rattle.fw_cip.specs.declared.packet.IsoPacket.{IsoPacket}
-use Rattle.fw_log_names.specs.Texts.{hex, hex_bytes}
+use Rattle.fw_text.specs.Texts.{hex, hex_bytes}
 use Rattle.fw_log_names.specs.Names.{tcode, tcode_name, rcode_name, function_name, retry_name, format_name}
 use Rattle.fw_log_json_packets.specs.Values.{field, quoted, code, name_value}
 

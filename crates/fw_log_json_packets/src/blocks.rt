@@ -1,7 +1,7 @@
 //! Blocks of data, written in place.
 
 ghost use Rattle.std.specs.Prelude.{◌≡◌, ◌≤◌, ◌<◌, ◌+◌, ◌++◌, codes, decimal, length, take};
-ghost use Rattle.fw_log_names.specs.Texts.{hex_bytes};
+ghost use Rattle.fw_text.specs.Texts.{hex_bytes};
 ghost use Rattle.fw_log_json_packets.specs.Values.{field, quoted};
 ghost use Rattle.fw_log_json_packets.specs.Packets.{block_fields, place_fields};
 

@@ -2,8 +2,8 @@
 
 ghost use Rattle.std.specs.Prelude.{◌≡◌, ◌≤◌, ◌<◌, ◌+◌, ◌*◌, ◌++◌, false, length, take};
 ghost use Rattle.std.specs.Fmt.{digit_glyph};
-ghost use Rattle.fw_log_names.specs.Digits.{byte_digits};
-ghost use Rattle.fw_log_names.specs.Texts.{hex_bytes};
+ghost use Rattle.fw_text.specs.Digits.{byte_digits};
+ghost use Rattle.fw_text.specs.Texts.{hex_bytes};
 
 use fw_log_names::Pairs;
 

@@ -20,7 +20,7 @@ pub(crate) const ADDRESS_ERROR: u8 = 7;
 
 // Writes a number of one byte.
 #[inline(always)]
-#[tactic(auto, using(std::proofs::lemmas::Fmt::decimal_digit, fw_log_names::proofs::DecimalLaws::two_digits, crate::proofs::IsoTexts::three_digits))]
+#[tactic(auto, using(std::proofs::lemmas::Fmt::decimal_digit, fw_text::proofs::DecimalLaws::two_digits, crate::proofs::IsoTexts::three_digits))]
 pub(crate) fn write_number(out: &mut [u8], at: usize, n: u8) -> usize
     requires { at + 3 ≤ length out.old }
     ensures size { length out.new ≡ length out.old }

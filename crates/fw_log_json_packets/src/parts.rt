@@ -1,7 +1,7 @@
 //! Parts of the text of a packet that have one length.
 
 ghost use Rattle.std.specs.Prelude.{◌≡◌, ◌++◌, codes};
-ghost use Rattle.fw_log_names.specs.Texts.{hex};
+ghost use Rattle.fw_text.specs.Texts.{hex};
 ghost use Rattle.fw_log_json_packets.specs.Values.{field, quoted};
 ghost use Rattle.fw_log_json_packets.specs.Packets.{place_fields, quadlet_field};
 

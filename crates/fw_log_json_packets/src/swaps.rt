@@ -2,7 +2,7 @@
 
 ghost use Rattle.std.specs.Prelude.{◌≡◌, ◌≤◌, ◌+◌, ◌++◌, codes, decimal, length, take};
 ghost use Rattle.fw_log_names.specs.Names.{function_name};
-ghost use Rattle.fw_log_names.specs.Texts.{hex_bytes};
+ghost use Rattle.fw_text.specs.Texts.{hex_bytes};
 ghost use Rattle.fw_log_json_packets.specs.Values.{code, field};
 ghost use Rattle.fw_log_json_packets.specs.Packets.{place_fields, rcode_fields, lock_fields};
 ghost use Rattle.fw_log_json_packets.specs.Usual.{IsUsualCode};

@@ -3,7 +3,7 @@
 ghost use Rattle.std.specs.Prelude.{◌≡◌, ◌≤◌, ◌+◌, ◌++◌, IsTrue, Some, false, codes, decimal, length, take};
 ghost use Rattle.fw_cip.specs.Iso.{bit, block_bytes, data_length};
 ghost use Rattle.fw_log_names.specs.Names.{format_name};
-ghost use Rattle.fw_log_names.specs.Texts.{hex};
+ghost use Rattle.fw_text.specs.Texts.{hex};
 ghost use Rattle.fw_log_json_packets.specs.Values.{code, field, name_value, quoted};
 ghost use Rattle.fw_log_json_packets.specs.Packets.{cip_fields, iso_fields};
 ghost use Rattle.fw_log_json_packets.specs.Usual.{IsUsualCip, IsUsualIso};

@@ -49,7 +49,7 @@ fn nodes_of(bytes: &[u8], count: usize) -> NodeList
 }
 
 /// Puts the epoch, the resource manager, the initiator and the nodes of the bus reset whose body these bytes are into room for one. No fault is looked for.
-pub(crate) fn read_bus(reset: &mut ResetEntry, bytes: &[u8])
+pub fn read_bus(reset: &mut ResetEntry, bytes: &[u8])
     requires { (r : AReset) × ResetFits r × (body (Reset r) ≡ bytes.now) }
     ensures { (r : AReset) → ResetFits r → body (Reset r) ≡ bytes.now → IsBusOf r reset.new }
 {

@@ -9,7 +9,7 @@ ghost use Rattle.fw_log_entry.specs.declared.entry.Entry.TheVariants.{Reset};
 ghost use Rattle.fw_log_entry.specs.declared.entry.ResetEntry.{ResetEntry as AReset};
 ghost use Rattle.fw_log_latest.specs.Latest.{IsBusOf, TellsBus};
 
-use crate::bus::read_bus;
+pub use bus::read_bus;
 use fw_log_entry::{NodeList, ResetEntry};
 use fw_phy::SelfIds;
 use fw_words::quadlet_at;

@@ -29,6 +29,13 @@ pub decoded_first : {form : Form} (e : IsEach form.text) (Took : List Timed → 
     → DecodedTo form Took left left held held r limit
 decoded_first e Took left held r h t = record { entries = []; bytes = []; taken = Takes-nothing left; read = h; took = t; grew = nothing_grew e [] held; count = omega arith }
 
+-- nothing was read or written since
+pub decoded_still : {form : Form} {Took : List Timed → Type 0} {left left1 left2 held held1 held2 : Option (List ℕ)} {r : State} {room : ℕ} → left2 ≡ left1 → held2 ≡ held1
+    → DecodedTo form Took left left1 held held1 r room → DecodedTo form Took left left2 held held2 r room
+decoded_still {form} {Took} {left} {left1} {left2} {held} {held1} {held2} {r} {room} same kept d =
+    let R : Option (List ℕ) → Option (List ℕ) → Type 0 = λ l h. DecodedTo form Took left l held h r room in
+    subst (R left2) (sym kept) (subst (λ l. R l held1) (sym same) d)
+
 -- all of a piece was within the limit
 pub decoded_more : {form : Form} (e : IsEach form.text) {Took Took' : List Timed → Type 0} {left left1 held held1 : Option (List ℕ)} {r : State} {room : ℕ} (left2 held2 : Option (List ℕ))
     (new : State) (piece : List ℕ) (d : DecodedTo form Took left left1 held held1 r room)

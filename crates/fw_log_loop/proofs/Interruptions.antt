@@ -15,8 +15,8 @@ use Rattle.fw_log_loop.specs.Endings.{opened, piece_size, Faulted, Rejected, Pas
 use Rattle.fw_log_loop.specs.declared.ending.LogEnd.TheVariants.{Whole}
 use Rattle.fw_log_loop.specs.declared.ending.LogEnding.{LogEnding}
 use Rattle.fw_log_loop.specs.declared.ending.LogEnding.TheVariants.{Done, NoLog, Refused, Stopped}
-use Rattle.fw_log_loop.specs.Pieces.{PrintsMore, PrintsTo, PrintsLast, PrintsPrefix, StopsAt, DecodedTo, ReadsTo}
-use Rattle.fw_log_loop.proofs.Texts.{grows_due, prefix_due, prefix_later, opened_is, none_before, prefix_of_none}
+use Rattle.fw_log_loop.specs.Pieces.{PrintsTo, PrintsLast, PrintsPrefix, StopsAt, DecodedTo, ReadsTo}
+use Rattle.fw_log_loop.proofs.Texts.{grows_due, prefix_due, prefix_later, opened_is, none_before, prefix_of_none, prefix_of_all}
 use Rattle.fw_log_loop.proofs.Printings.{begins_of}
 use Rattle.fw_log_loop.proofs.Decodings.{pending_of}
 
@@ -36,6 +36,19 @@ interrupted took d = record {
   pending = pending_of d.read;
   accepted = took d.entries d.took;
   grew = d.grew;
+}
+
+-- the sink failed before more was read
+pub unpassed : {form : Form} {Took : List Timed → Type 0} {left left1 held held1 : Option (List ℕ)} {r : State} {room : ℕ} → DecodedTo form Took left left1 held held1 r room
+    → PartRead (bare form) left left1 held held1
+unpassed {form} {Took} {left} {left1} {held} {held1} d = record {
+  entries = d.entries;
+  bytes = d.bytes;
+  taken = d.taken;
+  part = _;
+  begins = begins_of d.read;
+  end = Whole;
+  grew = prefix_of_all held held1 (opened form.head (length d.bytes) ++ form.text [] d.entries) d.grew;
 }
 
 -- nothing was read
@@ -155,31 +168,25 @@ stopped_in each rules Took' {left1 = left1} left2 held2 piece following e d t wi
     (omega (arith, few, ap length s.2, length-append s.0 s.1, length-append s.1 following)) s.3
 
 -- more bytes came than the limit
-pub passed : {form : Form} (each : IsEach form.text) {accepts : List Timed → Type 0} {Took Took' : List Timed → Type 0} {left left1 held held1 : Option (List ℕ)} {r : State} {room : ℕ}
-    → ((es : List Timed) → Took' es → accepts es) → (left2 held2 : Option (List ℕ)) (new : State) (piece following : List ℕ)
-    (d : DecodedTo form Took left left1 held held1 r room) → Takes left1 left2 (piece ++ following) → length piece ≡ room → 0 < length following → length following ≤ piece_size
-    → PrintsMore form Took' held1 held2 d.entries d.bytes piece new → PassedLimit (bare form) accepts left left2 held held2
-passed {form} each {accepts} {Took} {Took'} {left} {left1} {held} {held1} {r} {room} took left2 held2 new piece following d t full some few p =
-    let T : List ℕ → Type 0 = Takes left left2 in
-    record {
-      entries = d.entries ++ p.more;
-      bytes = d.bytes ++ piece;
-      following = following;
-      taken = subst T (sym (append_assoc d.bytes piece following)) (Takes-Takes left left1 left2 d.bytes (piece ++ following) d.taken t);
-      full = omega (arith, d.count, full, length-append d.bytes piece);
-      more = some;
-      few = few;
-      part = new.taken;
-      begins = begins_of p.read;
-      pending = pending_of p.read;
-      accepted = took (d.entries ++ p.more) p.took;
-      grew =
-          let size : length (d.bytes ++ piece) ≡ limit = omega (arith, d.count, full, length-append d.bytes piece) in
-          let P : List ℕ → Type 0 = λ x. Grows held held2 (x ++ form.text [] (d.entries ++ p.more)) in
-          subst P (opened_is form.head (length (d.bytes ++ piece)) (omega (arith, size)))
-          (grows_due each form.head d.entries p.more (length d.bytes) (length (d.bytes ++ piece)) held held1 held2 (λ h. omega (arith, h, length-append d.bytes piece))
-          (none_before d.read.version d.entries r.taken d.bytes d.read.same) d.grew p.grew);
-    }
+pub passed : {form : Form} {Took : List Timed → Type 0} {left left1 held held1 : Option (List ℕ)} {r : State} (left2 : Option (List ℕ)) (following : List ℕ)
+    (d : DecodedTo form Took left left1 held held1 r 0) → Takes left1 left2 following → 0 < length following → length following ≤ piece_size → PassedLimit (bare form) Took left left2 held held1
+passed {form} {Took} {left} {left1} {held} {held1} {r} left2 following d t some few = record {
+  entries = d.entries;
+  bytes = d.bytes;
+  following = following;
+  taken = Takes-Takes left left1 left2 d.bytes following d.taken t;
+  full = omega (arith, d.count);
+  more = some;
+  few = few;
+  part = r.taken;
+  begins = begins_of d.read;
+  pending = pending_of d.read;
+  accepted = d.took;
+  grew =
+      let size : length d.bytes ≡ limit = omega (arith, d.count) in
+      let P : List ℕ → Type 0 = λ x. Grows held held1 (x ++ form.text [] d.entries) in
+      subst P (opened_is form.head (length d.bytes) (omega (arith, size))) d.grew;
+}
 
 -- what is read of entries that were taken, by a word that goes on after those that it takes
 pub read_by : {R : Type 0} (form : Form) (rules : Rules R) (Took : List Timed → Type 0) (left left' held held' : Option (List ℕ)) (e : LogEnding R) → ((es : List Timed) → Took es → rules.accepts es)

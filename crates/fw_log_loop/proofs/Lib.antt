@@ -6,6 +6,7 @@ pub mod Openings
 pub mod Readings
 pub mod Decodings
 pub mod Interruptions
+pub mod PartsRead
 pub mod Completions
 pub mod Closings
 pub mod Readies

@@ -14,6 +14,7 @@ use Rattle.fw_log_loop.specs.Endings.{Begins, stop_of, end_of}
 use Rattle.fw_log_loop.specs.declared.ending.LogEnd.{LogEnd}
 use Rattle.fw_log_loop.specs.declared.ending.LogEnding.{LogEnding}
 use Rattle.fw_log_loop.specs.declared.ending.LogEnding.TheVariants.{Done, NoLog, Refused, Stopped}
+use Rattle.fw_log_loop.specs.Parts.{EndsWithin}
 use Rattle.fw_log_loop.specs.Pieces.{TakesPiece, Gathers, GathersUpTo, GathersToLast, Prints, PrintsUpTo, PrintsToLast, PrintsPart, Stops, StopsAt}
 use Rattle.fw_log_loop.proofs.Texts.{prefix_of_none}
 
@@ -123,25 +124,33 @@ printed_nothing text held entries bytes piece r h =
 
 -- ---- counts of faults
 
--- the bytes of a read meet no fault of the source
-pub stops_at_read : {R : Type 0} (form : Form) (rules : Rules R) (Took : List Timed → Type 0) (held held' : Option (List ℕ)) (entries : List Timed) (bytes piece : List ℕ) (e : LogEnding R)
-    (old new : ℕ) → StopsAt form rules Took held held' entries bytes piece e → new ≡ old → ReadCount old new (stop_of e)
-stops_at_read form rules Took held held' entries bytes piece Done old new s is = is
-stops_at_read form rules Took held held' entries bytes piece (NoLog f) old new s is = is
-stops_at_read form rules Took held held' entries bytes piece (Refused u) old new s is = is
-stops_at_read form rules Took held held' entries bytes piece (Stopped ReadFault) old new s is = absurd s
-stops_at_read form rules Took held held' entries bytes piece (Stopped WriteFault) old new s is = is
-stops_at_read form rules Took held held' entries bytes piece (Stopped TooLong) old new s is = absurd s
-stops_at_read form rules Took held held' entries bytes piece (Stopped NoMemory) old new s is = is
+-- a call that is ended so by the bytes of a read
+pub stops_within : {R : Type 0} (form : Form) (rules : Rules R) (Took : List Timed → Type 0) (held held' : Option (List ℕ)) (entries : List Timed) (bytes piece : List ℕ) (e : LogEnding R)
+    → StopsAt form rules Took held held' entries bytes piece e → EndsWithin e
+stops_within form rules Took held held' entries bytes piece Done s = s
+stops_within form rules Took held held' entries bytes piece (NoLog f) s = tt
+stops_within form rules Took held held' entries bytes piece (Refused u) s = tt
+stops_within form rules Took held held' entries bytes piece (Stopped ReadFault) s = s
+stops_within form rules Took held held' entries bytes piece (Stopped WriteFault) s = tt
+stops_within form rules Took held held' entries bytes piece (Stopped TooLong) s = s
+stops_within form rules Took held held' entries bytes piece (Stopped NoMemory) s = tt
 
--- what stops in the bytes of a read and gets an end has written all that was gathered
-pub gets_end : {R : Type 0} (form : Form) (rules : Rules R) (Took : List Timed → Type 0) (held held' : Option (List ℕ)) (entries : List Timed) (bytes piece : List ℕ) (e : LogEnding R) (end : LogEnd)
-    → StopsAt form rules Took held held' entries bytes piece e
-    → end_of e ≡ Some end → stop_of e ≡ None
-gets_end form rules Took held held' entries bytes piece Done end s is = absurd s
-gets_end form rules Took held held' entries bytes piece (NoLog f) end s is = refl
-gets_end form rules Took held held' entries bytes piece (Refused u) end s is = refl
-gets_end form rules Took held held' entries bytes piece (Stopped ReadFault) end s is = absurd s
-gets_end form rules Took held held' entries bytes piece (Stopped WriteFault) end s is = cc is
-gets_end form rules Took held held' entries bytes piece (Stopped TooLong) end s is = absurd s
-gets_end form rules Took held held' entries bytes piece (Stopped NoMemory) end s is = cc is
+-- meets no fault of the source
+pub within_read : {R : Type 0} (e : LogEnding R) (old new : ℕ) → EndsWithin e → new ≡ old → ReadCount old new (stop_of e)
+within_read Done old new s is = is
+within_read (NoLog f) old new s is = is
+within_read (Refused u) old new s is = is
+within_read (Stopped ReadFault) old new s is = absurd s
+within_read (Stopped WriteFault) old new s is = is
+within_read (Stopped TooLong) old new s is = absurd s
+within_read (Stopped NoMemory) old new s is = is
+
+-- and if it gets an end, has written all that was gathered
+pub within_end : {R : Type 0} (e : LogEnding R) (end : LogEnd) → EndsWithin e → end_of e ≡ Some end → stop_of e ≡ None
+within_end Done end s is = absurd s
+within_end (NoLog f) end s is = refl
+within_end (Refused u) end s is = refl
+within_end (Stopped ReadFault) end s is = absurd s
+within_end (Stopped WriteFault) end s is = cc is
+within_end (Stopped TooLong) end s is = absurd s
+within_end (Stopped NoMemory) end s is = cc is

@@ -24,7 +24,7 @@ limit = 268435456
 
 -- how many bytes are read at once, at most
 abbrev pub piece_size : ℕ
-piece_size = 4096
+piece_size = 65536
 
 -- why a call stopped, if it did
 abbrev pub stop_of : {R : Type 0} → LogEnding R → Option Stop
@@ -88,7 +88,7 @@ pub record Decoded {R : Type 0} (form : Form) (rules : Rules R) (left left' held
   pub closed : rules.closes entries last
   pub grew : Grows held held' (form.closed entries Whole (written form entries ++ last))
 
--- A part is refused, after so many bytes before its last one, and at most 4,096 bytes were taken from that one on.
+-- A part is refused, after so many bytes before its last one, and at most 65,536 bytes were taken from that one on.
 pub record RefusesSoon (entries : List Timed) (bytes following : List ℕ) (fault : LogFault) (before : ℕ) : Type 0 where
   pub refuses : Refuses entries bytes fault
   pub place : length (bytes_of refuses.begins.version entries) + refuses.index ≡ before
@@ -108,7 +108,7 @@ pub record Faulted (form : Form) (accepts : List Timed → Type 0) (left left' h
   pub grew : Grows held held' (form.closed entries (EndsNoLog fault) (form.prefix ++ (opened form.head before ++ form.text [] entries)))
 
 -- The bytes up to the end of an entry are those of entries of a log, and the log is refused at that entry and at none before. At most
--- 4,096 bytes after it were taken. What is written of the entries before was written.
+-- 65,536 bytes after it were taken. What is written of the entries before was written.
 pub record Rejected {R : Type 0} (form : Form) (rules : Rules R) (left left' held held' : Option (List ℕ)) (refusal : R) : Type 0 where
   pub before : List Timed
   pub last : Timed
@@ -130,7 +130,7 @@ pub record RefusedWhole {R : Type 0} (form : Form) (rules : Rules R) (left left'
   pub refused : rules.refuses entries refusal
   pub grew : Grows held held' (written form entries)
 
--- More bytes came than the limit, at most 4,096 of them after it, and nothing within it is refused. What is written of the
+-- More bytes came than the limit, at most 65,536 of them after it, and nothing within it is refused. What is written of the
 -- entries that end within it was written.
 pub record PassedLimit (form : Form) (accepts : List Timed → Type 0) (left left' held held' : Option (List ℕ)) : Type 0 where
   pub entries : List Timed

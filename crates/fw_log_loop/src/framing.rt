@@ -11,7 +11,7 @@ use crate::log::read_pieces;
 use crate::piece::print;
 use crate::{LogEnd, LogEnding, Reading};
 use fw_log::{LogReader, ReadBuffers};
-use fw_outside::{Failed, Sink, Source, Stop};
+use fw_outside::{Failed, Flush, Sink, Source, Stop};
 use std::alloc::{AllocError, Global};
 
 /// What a word makes of a log that writes something before anything is read, and something at the end of what was read.
@@ -51,7 +51,7 @@ fn conclude<O: Framed, K: Sink>(output: &mut O, end: LogEnd, sink: &mut K) -> Re
 
 /// Reads a log to its end as `read_log` does, and writes what a word makes of it between what is due before anything is read and what
 /// is due at the end of what was read: at a log's end, if the bytes are not a log, and if more than 268,435,456 of them come.
-pub fn read_framed<O: Framed, S: Source, K: Sink>(
+pub fn read_framed<O: Framed, S: Source, K: Flush>(
     alloc: Global,
     mut output: O,
     source: &mut S,

@@ -8,20 +8,22 @@ ghost use Rattle.fw_log.specs.Reader.{total};
 ghost use Rattle.std.specs.Prelude.{Some};
 ghost use Rattle.fw_log_loop.specs.Readings.{bare, IsBare};
 ghost use Rattle.fw_log_loop.specs.Endings.{stop_of, end_of, ReadsLog};
+ghost use Rattle.fw_log_loop.specs.Parts.{unread};
 ghost use Rattle.fw_log_loop.specs.Pieces.{EndsLog, ReadsTo};
 ghost use Rattle.fw_log_loop.specs.declared.ending.LogEnd.{LogEnd as AnEnd};
 
-use crate::piece::{print, print_bytes};
+use crate::parts::read_parts;
+use crate::piece::print;
 use crate::{LogEnding, Reading};
 use fw_log::{LogReader, ReadBuffers};
-use fw_outside::{Sink, Source, Stop};
+use fw_outside::{Flush, Sink, Source, Stop, ask};
 use std::alloc::Global;
 
 /// How many bytes of a log are read at most.
 const LIMIT: usize = 268_435_456;
 
 /// How many bytes are asked for at a time.
-const PIECE: usize = 4096;
+const PIECE: usize = 65_536;
 
 // How a log ends whose input has ended.
 fn end_log<O: Reading, K: Sink>(
@@ -52,8 +54,18 @@ fn end_log<O: Reading, K: Sink>(
     }
 }
 
+// Why a call stops that was given no more bytes. No limit is met where they are asked for.
+fn unread(stop: Stop) -> Stop
+    ensures { result ≡ unread stop }
+{
+    match stop {
+        Stop::ReadFault | Stop::WriteFault | Stop::NoMemory => stop,
+        Stop::TooLong => Stop::NoMemory,
+    }
+}
+
 // Reads a log from its first byte on. The ending says of the entries, if they were all taken, that the output took them.
-pub(crate) fn read_pieces<O: Reading, S: Source, K: Sink>(
+pub(crate) fn read_pieces<O: Reading, S: Source, K: Flush>(
     alloc: Global,
     reader: &mut LogReader,
     room: &mut ReadBuffers,
@@ -70,24 +82,21 @@ pub(crate) fn read_pieces<O: Reading, S: Source, K: Sink>(
     ensures read_count { ReadCount (S.faults source.old) (S.faults source.new) (stop_of result) }
     ensures write_count { WriteCount (K.faults sink.old) (K.faults sink.new) (stop_of result) }
 {
-    let mut piece = [0; PIECE];
+    let Ok(mut piece) = Box::new(alloc, [0; PIECE]) else {
+        return LogEnding::Stopped(Stop::NoMemory);
+    };
     let mut left = LIMIT;
     loop {
-        let Ok(count) = source.read(&mut piece) else {
-            return LogEnding::Stopped(Stop::ReadFault);
+        let count = match ask(source, sink, &mut *piece) {
+            Ok(count) => count,
+            Err(stop) => return LogEnding::Stopped(unread(stop)),
         };
         if count == 0 {
             return end_log(alloc, reader, output, sink);
         }
         let within = count.min(left);
-        if let Err(ending) = print_bytes(
-            reader,
-            room,
-            output,
-            LIMIT - left,
-            &piece[..within],
-            sink,
-        ) {
+        let bytes = &piece[..within];
+        if let Err(ending) = read_parts(reader, room, output, LIMIT - left, bytes, sink) {
             return ending;
         }
         if within < count {
@@ -99,9 +108,9 @@ pub(crate) fn read_pieces<O: Reading, S: Source, K: Sink>(
 
 /// Reads a log to its end, and writes what a word makes of it that writes nothing before it reads and nothing after.
 ///
-/// What the entries give that ended is written before more is read. A call takes at most 4,095 bytes after the byte that shows a
-/// fault of the log, and 4,096 after an entry that is refused.
-pub fn read_log<O: Reading, S: Source, K: Sink>(
+/// What the entries give that ended is written, and all that the sink keeps back is passed on, before more is read. A call takes at most
+/// 65,535 bytes after the byte that shows a fault of the log, and 65,536 after an entry that is refused.
+pub fn read_log<O: Reading, S: Source, K: Flush>(
     alloc: Global,
     mut output: O,
     source: &mut S,

@@ -2,7 +2,7 @@
 
 ghost use Rattle.std.specs.Prelude.{◌≡◌, ◌++◌, OnOk, decimal};
 ghost use Rattle.std.specs.Option.{option_copied};
-ghost use Rattle.fw_log_names.specs.Texts.{named};
+ghost use Rattle.fw_text.specs.Texts.{named};
 
 use itoa::Buffer;
 use std::alloc::AllocError;
@@ -17,7 +17,7 @@ pub fn put_word(text: &mut Vec<u8>, word: &str) -> Result<(), AllocError>
 
 /// Appends a number in decimal digits.
 #[inline(always)]
-#[tactic(auto, using(std::proofs::lemmas::Fmt::decimal_digit, crate::proofs::DecimalLaws::two_digits))]
+#[tactic(auto, using(std::proofs::lemmas::Fmt::decimal_digit, fw_text::proofs::DecimalLaws::two_digits))]
 pub fn put_number(text: &mut Vec<u8>, n: u64) -> Result<(), AllocError>
     ensures { OnOk result (text.new.items ≡ text.old.items ++ decimal n) }
 {

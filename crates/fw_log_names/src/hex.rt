@@ -1,8 +1,8 @@
 //! Numbers and bytes in hexadecimal digits.
 
 ghost use Rattle.std.specs.Prelude.{◌≡◌, ◌++◌, OnOk};
-ghost use Rattle.fw_log_names.specs.Digits.{byte_digits};
-ghost use Rattle.fw_log_names.specs.Texts.{hex, hex_bytes, blank_hex, quadlet_text, quadlets_text};
+ghost use Rattle.fw_text.specs.Digits.{byte_digits};
+ghost use Rattle.fw_text.specs.Texts.{hex, hex_bytes, blank_hex, quadlet_text, quadlets_text};
 
 use crate::append::put_word;
 use crate::pairs::Pairs;

@@ -13,7 +13,7 @@ mod packets;
 mod pairs;
 
 pub use append::{put_named, put_number, put_word};
-pub use bus::{device_name, port_name, rate_name, speed_name};
+pub use bus::{device_name, port_name, speed_name};
 pub use cycle_row::CycleRow;
 pub use entries::{event_name, event_saying, kind_name, kind_number, outcome_name, system_name};
 pub use hex::{

@@ -9,6 +9,7 @@ use crate::hex::put_hex4;
 use crate::pairs::Pairs;
 use fw_async::{Packet, local_number};
 use fw_cip::CipHeader;
+use fw_text::name_in;
 use std::alloc::AllocError;
 
 /// The node_ID of all nodes.
@@ -102,20 +103,22 @@ pub fn rcode_name(rcode: u8) -> Option<&'static str>
     rcode_row!(rcode, None, some_name)
 }
 
+/// The functions of locks, by their extended_tcode.
+pub const FUNCTIONS: [(u16, &str); 7] = [
+    (1, "mask_swap"),
+    (2, "compare_swap"),
+    (3, "fetch_add"),
+    (4, "little_add"),
+    (5, "bounded_add"),
+    (6, "wrap_add"),
+    (7, "vendor_dependent"),
+];
+
 /// The name of a lock's function, its extended_tcode; 1 to 7 have one.
 pub fn function_name(function: u8) -> Option<&'static str>
     ensures { option_copied result ≡ function_name function }
 {
-    match function {
-        1 => Some("mask_swap"),
-        2 => Some("compare_swap"),
-        3 => Some("fetch_add"),
-        4 => Some("little_add"),
-        5 => Some("bounded_add"),
-        6 => Some("wrap_add"),
-        7 => Some("vendor_dependent"),
-        _ => None,
-    }
+    name_in(&FUNCTIONS, u16::from(function))
 }
 
 /// The name of a retry code; each of two bits has one.

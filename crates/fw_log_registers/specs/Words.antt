@@ -1,8 +1,10 @@
 -- What the word of a register says, and what a swap of one word for another changes (own words over the fields of the standards).
-use Rattle.std.specs.Prelude.{ℕ, zero, suc, ◌+◌, ◌-◌, ◌^◌, ◌==◌, nat_lt, bit_and, List, [], ◌∷◌, ◌++◌, Bool, true, false, flat_map, codes, decimal, if◌then◌else◌}
+use Rattle.std.specs.Prelude.{ℕ, zero, suc, ◌+◌, ◌-◌, ◌^◌, ◌==◌, nat_le, nat_lt, ◌&&◌, bit_and, List, [], ◌++◌, Bool, true, false, flat_map, map, codes, decimal, if◌then◌else◌}
 use Rattle.fw_words.specs.Quadlet.{field}
-use Rattle.fw_log_names.specs.Texts.{hex, named, quadlet_text}
-use Rattle.fw_log_names.specs.Names.{rate_name}
+use Rattle.fw_text.specs.Texts.{hex, named, quadlet_text}
+use Rattle.fw_text.specs.Names.{name_in, rows}
+use Rattle.fw_log_registers.specs.declared.fields.TheConstants.{BANDWIDTH, BUS_MANAGER, OUTPUT_PLUG, INPUT_PLUG, OUTPUT_MASTER, INPUT_MASTER, NODE_IDS, TIMEOUT_HI, TIMEOUT_LO, CYCLE_TIME, BUS_OPTIONS, EUI64_HI}
+use Rattle.fw_log_registers.specs.declared.shown.TheConstants.{RATES}
 use Rattle.fw_log_registers.specs.declared.register.NamedRegister.{NamedRegister}
 use Rattle.fw_log_registers.specs.declared.register.NamedRegister.TheVariants.{StateClear, StateSet, NodeIds, ResetStart, SplitTimeoutHi, SplitTimeoutLo, CycleTime, BusTime, BusyTimeout, PriorityBudget}
 use Rattle.fw_log_registers.specs.declared.register.NamedRegister.TheVariants.{BusManagerId, BandwidthAvailable, ChannelsAvailableHi, ChannelsAvailableLo}
@@ -90,42 +92,31 @@ pub record Field : Type 0 where
 abbrev pub field_at : List ℕ → ℕ → ℕ → Shown → Field
 field_at label first last shown = record { label = label; first = first; last = last; shown = shown }
 
--- the fields of the plug control registers (IEC 61883-1, 7.7 and 7.9)
-abbrev pub output_plug_fields : List Field
-output_plug_fields = field_at (codes "on-line") 0 0 Decimal ∷ field_at (codes "broadcast") 1 1 (Counted BroadcastConnections)
-    ∷ field_at (codes "point-to-point") 2 7 (Counted PointToPointConnections) ∷ field_at (codes "channel") 10 15 Decimal
-    ∷ field_at (codes "rate") 16 17 Rate ∷ field_at (codes "overhead_ID") 18 21 Decimal ∷ field_at (codes "payload") 22 31 Decimal ∷ []
-
--- the fields of an iPCR
-abbrev pub input_plug_fields : List Field
-input_plug_fields = field_at (codes "on-line") 0 0 Decimal ∷ field_at (codes "broadcast") 1 1 (Counted BroadcastConnections)
-    ∷ field_at (codes "point-to-point") 2 7 (Counted PointToPointConnections) ∷ field_at (codes "channel") 10 15 Decimal ∷ []
-
--- the fields of the registers that each node has (IEEE 1394-1995, 8.3.2)
-abbrev pub node_fields : NamedRegister → List Field
-node_fields NodeIds = field_at (codes "bus_ID") 0 9 Decimal ∷ field_at (codes "physical_ID") 10 15 Decimal ∷ []
-node_fields SplitTimeoutHi = field_at (codes "seconds") 29 31 Decimal ∷ []
-node_fields SplitTimeoutLo = field_at (codes "cycles") 0 12 Decimal ∷ []
-node_fields CycleTime = field_at (codes "second_count") 0 6 Decimal ∷ field_at (codes "cycle_count") 7 19 Decimal ∷ field_at (codes "cycle_offset") 20 31 Decimal ∷ []
-node_fields BusOptions = field_at (codes "irmc") 0 0 Decimal ∷ field_at (codes "cmc") 1 1 Decimal ∷ field_at (codes "isc") 2 2 Decimal ∷ field_at (codes "bmc") 3 3 Decimal ∷ []
-node_fields Eui64Hi = field_at (codes "vendor") 0 23 Company ∷ []
-node_fields _ = []
+-- its bits stand in order, within a quadlet
+abbrev pub is_field : Field → Bool
+is_field f = nat_le f.first f.last && nat_le f.last 31
 
 -- the fields of a register, in the order in which they are told
 abbrev pub fields_of : NamedRegister → List Field
-fields_of BusManagerId = field_at (codes "bus manager") 26 31 Node ∷ []
-fields_of BandwidthAvailable = field_at (codes "units left") 19 31 (Counted Units) ∷ []
-fields_of OutputMasterPlug = field_at (codes "rate") 0 1 Rate ∷ field_at (codes "broadcast base") 2 7 Decimal ∷ field_at (codes "plugs") 27 31 Decimal ∷ []
-fields_of InputMasterPlug = field_at (codes "rate") 0 1 Rate ∷ field_at (codes "plugs") 27 31 Decimal ∷ []
-fields_of OutputPlug = output_plug_fields
-fields_of InputPlug = input_plug_fields
-fields_of register = node_fields register
+fields_of BandwidthAvailable = map (λ f. field_at f.0.now f.1 f.2 f.3) BANDWIDTH
+fields_of BusManagerId = map (λ f. field_at f.0.now f.1 f.2 f.3) BUS_MANAGER
+fields_of OutputPlug = map (λ f. field_at f.0.now f.1 f.2 f.3) OUTPUT_PLUG
+fields_of InputPlug = map (λ f. field_at f.0.now f.1 f.2 f.3) INPUT_PLUG
+fields_of OutputMasterPlug = map (λ f. field_at f.0.now f.1 f.2 f.3) OUTPUT_MASTER
+fields_of InputMasterPlug = map (λ f. field_at f.0.now f.1 f.2 f.3) INPUT_MASTER
+fields_of NodeIds = map (λ f. field_at f.0.now f.1 f.2 f.3) NODE_IDS
+fields_of SplitTimeoutHi = map (λ f. field_at f.0.now f.1 f.2 f.3) TIMEOUT_HI
+fields_of SplitTimeoutLo = map (λ f. field_at f.0.now f.1 f.2 f.3) TIMEOUT_LO
+fields_of CycleTime = map (λ f. field_at f.0.now f.1 f.2 f.3) CYCLE_TIME
+fields_of BusOptions = map (λ f. field_at f.0.now f.1 f.2 f.3) BUS_OPTIONS
+fields_of Eui64Hi = map (λ f. field_at f.0.now f.1 f.2 f.3) EUI64_HI
+fields_of _ = []
 
 -- the value of a field as it is shown
 abbrev pub value_text : Shown → ℕ → List ℕ
 value_text Decimal value = decimal value
 value_text Company value = hex 6 value
-value_text Rate value = named (rate_name value) (codes "rate") value
+value_text Rate value = named (name_in (rows RATES) value) (codes "rate") value
 value_text Node value = if value == 63 then codes "none" else codes "node " ++ decimal value
 value_text (Counted amount) value = decimal value
 

@@ -1,10 +1,12 @@
 //! How the value of a field is shown.
 
-ghost use Rattle.std.specs.Prelude.{◌≡◌, ◌++◌, OnOk};
+ghost use Rattle.std.specs.Prelude.{◌≡◌, ◌++◌};
 ghost use Rattle.fw_log_registers.specs.Words.{less, more, noun, value_text};
 
-use fw_log_names::{Pairs, put_hex6, put_named, put_number, put_word, rate_name};
-use std::alloc::AllocError;
+use fw_text::{Text, name_in};
+
+/// The names of a plug register's data rates.
+pub const RATES: [(u16, &str); 4] = [(0, "S100"), (1, "S200"), (2, "S400"), (3, "3")];
 
 /// If no node is bus manager, BUS_MANAGER_ID has this number (IEEE 1394-1995, 8.3.2.3.6).
 const NO_NODE: u32 = 63;
@@ -68,39 +70,34 @@ pub enum Shown {
     Counted(Amount),
 }
 
-// Appends the value of a field.
-pub(crate) fn put_value(
-    text: &mut Vec<u8>,
-    pairs: &Pairs,
-    shown: Shown,
-    value: u32,
-) -> Result<(), AllocError>
-    ensures { OnOk result (text.new.items ≡ text.old.items ++ value_text shown value) }
+// Says the value of a field.
+pub(crate) fn put_value(text: &mut Text, shown: Shown, value: u32)
+    ensures { text.new ≡ text.old ++ value_text shown value }
 {
     match shown {
-        Shown::Decimal | Shown::Counted(_) => put_number(text, u64::from(value)),
-        Shown::Company => put_hex6(text, pairs, value),
+        Shown::Decimal | Shown::Counted(_) => text.number(u64::from(value)),
+        Shown::Company => text.hex6(value),
         Shown::Rate => put_rate(text, value),
         Shown::Node => put_manager(text, value),
     }
 }
 
-fn put_rate(text: &mut Vec<u8>, rate: u32) -> Result<(), AllocError>
-    ensures { OnOk result (text.new.items ≡ text.old.items ++ value_text Shown.Rate rate) }
+fn put_rate(text: &mut Text, rate: u32)
+    ensures { text.new ≡ text.old ++ value_text Shown.Rate rate }
 {
-    let name = match u8::try_from(rate) {
-        Ok(rate) => rate_name(rate),
+    let name = match u16::try_from(rate) {
+        Ok(rate) => name_in(&RATES, rate),
         Err(_) => None,
     };
-    put_named(text, name, "rate", u64::from(rate))
+    text.named(name, "rate", u64::from(rate));
 }
 
-fn put_manager(text: &mut Vec<u8>, node: u32) -> Result<(), AllocError>
-    ensures { OnOk result (text.new.items ≡ text.old.items ++ value_text Shown.Node node) }
+fn put_manager(text: &mut Text, node: u32)
+    ensures { text.new ≡ text.old ++ value_text Shown.Node node }
 {
     if node == NO_NODE {
-        return put_word(text, "none");
+        return text.word("none");
     }
-    put_word(text, "node ")?;
-    put_number(text, u64::from(node))
+    text.word("node ");
+    text.number(u64::from(node));
 }

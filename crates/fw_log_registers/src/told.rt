@@ -1,12 +1,14 @@
 //! What is told of a field.
 
-ghost use Rattle.std.specs.Prelude.{◌≡◌, ◌++◌, ◌≤◌, OnOk, codes};
-ghost use Rattle.fw_log_registers.specs.Words.{field_at, amount_text, difference_text, change_text, told_field};
+ghost use Rattle.std.specs.Prelude.{◌≡◌, ◌++◌, ◌≤◌, codes};
+ghost use Rattle.fw_log_registers.specs.Words.{amount_text, difference_text, change_text, field_at, told_field};
 
 use crate::shown::{Amount, Shown, put_value};
-use fw_log_names::{Pairs, put_number, put_word};
+use fw_text::Text;
 use fw_words::Quadlet;
-use std::alloc::AllocError;
+
+/// A field of a word: its label, its first and last bit, and how its value is shown.
+pub type Field = (&'static str, u8, u8, Shown);
 
 /// What is told of a register.
 #[derive(Clone, Copy)]
@@ -17,86 +19,70 @@ pub enum RegisterValue {
     Swap { old: u32, new: u32 },
 }
 
-// Appends a label after a comma.
+// Says a label after a comma.
 #[inline(always)]
-fn put_label(text: &mut Vec<u8>, label: &str) -> Result<(), AllocError>
-    ensures { OnOk result (text.new.items ≡ text.old.items ++ codes ", " ++ label.now ++ codes " ") }
+fn put_label(text: &mut Text, label: &str)
+    ensures { text.new ≡ text.old ++ codes ", " ++ label.now ++ codes " " }
 {
-    put_word(text, ", ")?;
-    put_word(text, label)?;
-    put_word(text, " ")
+    text.word(", ");
+    text.word(label);
+    text.word(" ");
 }
 
-// Appends how much less or more there is of an amount.
-fn put_amount(text: &mut Vec<u8>, lead: &str, noun: &str, count: u32) -> Result<(), AllocError>
-    ensures { OnOk result (text.new.items ≡ text.old.items ++ amount_text lead.now noun.now count) }
+// Says how much less or more there is of an amount.
+fn put_amount(text: &mut Text, lead: &str, noun: &str, count: u32)
+    ensures { text.new ≡ text.old ++ amount_text lead.now noun.now count }
 {
-    put_label(text, lead)?;
-    put_number(text, u64::from(count))?;
-    put_word(text, " ")?;
-    put_word(text, noun)?;
-    put_word(text, if count == 1 { "" } else { "s" })
+    put_label(text, lead);
+    text.number(u64::from(count));
+    text.word(" ");
+    text.word(noun);
+    text.word(if count == 1 { "" } else { "s" });
 }
 
-fn put_difference(text: &mut Vec<u8>, amount: Amount, old: u32, new: u32) -> Result<(), AllocError>
-    ensures { OnOk result (text.new.items ≡ text.old.items ++ difference_text amount old new) }
+fn put_difference(text: &mut Text, amount: Amount, old: u32, new: u32)
+    ensures { text.new ≡ text.old ++ difference_text amount old new }
 {
     if new < old {
-        put_amount(text, amount.less(), amount.noun(), old - new)
+        put_amount(text, amount.less(), amount.noun(), old - new);
     } else {
-        put_amount(text, amount.more(), amount.noun(), new - old)
+        put_amount(text, amount.more(), amount.noun(), new - old);
     }
 }
 
-// Appends the change of a field's value.
+// Says the change of a field's value.
 #[inline(never)]
-fn put_change(
-    text: &mut Vec<u8>,
-    pairs: &Pairs,
-    label: &str,
-    shown: Shown,
-    old: u32,
-    new: u32,
-) -> Result<(), AllocError>
-    ensures { OnOk result (text.new.items ≡ text.old.items ++ change_text label.now shown old new) }
+fn put_change(text: &mut Text, label: &str, shown: Shown, old: u32, new: u32)
+    ensures { text.new ≡ text.old ++ change_text label.now shown old new }
 {
     if let Shown::Counted(amount) = shown {
         return put_difference(text, amount, old, new);
     }
-    put_label(text, label)?;
-    put_value(text, pairs, shown, old)?;
-    put_word(text, " to ")?;
-    put_value(text, pairs, shown, new)
+    put_label(text, label);
+    put_value(text, shown, old);
+    text.word(" to ");
+    put_value(text, shown, new);
 }
 
-// Appends what is told of a field: its label and its value, or how a swap changes it if it does.
-#[inline(always)]
+// Says what is told of a field: its label and its value, or how a swap changes it if it does.
 #[tactic(auto, unfolding(crate::specs::Words::told_field))]
-pub(crate) fn put_field(
-    text: &mut Vec<u8>,
-    pairs: &Pairs,
-    told: RegisterValue,
-    label: &str,
-    first: u8,
-    last: u8,
-    shown: Shown,
-) -> Result<(), AllocError>
-    requires order { first ≤ last }
-    requires range { last ≤ 31 }
-    ensures { OnOk result (text.new.items ≡ text.old.items ++ told_field told (field_at label.now first last shown)) }
+pub(crate) fn put_field(text: &mut Text, told: RegisterValue, field: &Field)
+    requires order { field.now.1 ≤ field.now.2 }
+    requires range { field.now.2 ≤ 31 }
+    ensures { text.new ≡ text.old ++ told_field told (field_at field.now.0.now field.now.1 field.now.2 field.now.3) }
 {
+    let (label, first, last, shown) = *field;
     match told {
         RegisterValue::Word(word) => {
-            put_label(text, label)?;
-            put_value(text, pairs, shown, Quadlet(word).field(first, last))
+            put_label(text, label);
+            put_value(text, shown, Quadlet(word).field(first, last));
         }
         RegisterValue::Swap { old, new } => {
             let from = Quadlet(old).field(first, last);
             let to = Quadlet(new).field(first, last);
-            if from == to {
-                return Ok(());
+            if from != to {
+                put_change(text, label, shown, from, to);
             }
-            put_change(text, pairs, label, shown, from, to)
         }
     }
 }

@@ -5,4 +5,3 @@ pub mod WholeLaws
 pub mod WholePassings
 pub mod PassedAudits
 pub mod PassedHoldings
-pub mod BusLaws

@@ -1,10 +1,12 @@
 -- What is held after an entry that is passed over.
-use Rattle.std.proofs.Common.{◌≡◌, ℕ, ◌+◌, ◌^◌, ◌<◌, List, [], ◌∷◌, ◌++◌, length, arith, refl, ap, sym, subst, ◌∙◌, length-append}
+use Rattle.std.proofs.Common.{◌≡◌, ◌+◌, ◌^◌, ◌<◌, List, [], ◌∷◌, ◌++◌, length, refl, ap, sym, subst, ◌∙◌}
 use Rattle.std.proofs.lemmas.List.{append-nil}
 use Rattle.std.proofs.lemmas.Option.{same_Some}
 use Rattle.fw_model_account.specs.Account.{Account}
 use Rattle.fw_model_account.specs.Fold.{no_account}
 use Rattle.fw_audit.specs.Found.{IsPassedOver}
+use Rattle.fw_audit.specs.Unjudged.{Tallies}
+use Rattle.fw_audit.specs.declared.tally.Tally.{Tally}
 use Rattle.fw_log_entry.specs.Log.{kind_of}
 use Rattle.fw_log_entry.specs.declared.entry.Entry.{Entry}
 use Rattle.fw_log_entry.specs.declared.entry.Entry.TheVariants.{Reset, Async, Iso, Event, Outcome, Shown, End}
@@ -27,25 +29,12 @@ quiet_body (Bodies.Reset bytes) e h passed =
     let latest = ap (λ (l : Account). l.latest) same in
     absurd (cc latest)
 
-taken_over : (v : Holding) (count : ℕ) (entries : List Timed) (t : Timed) → length entries + 1 < 2 ^ 64 → Takes v entries → IsQuiet t.what → count ≡ v.count + 1
-    → Takes (record { holders = v.holders; count = count }) (entries ++ t ∷ [])
-taken_over v count entries t few h quiet counts = record {
-  count = omega (arith, h.count, counts, length-append entries (t ∷ []));
-  holds = holds_quiet entries t v.holders few h.holds quiet;
-}
-
--- a quiet entry has no line
-taken_quiet : (v : Holding) (count : ℕ) (entries : List Timed) (t : Timed) → length entries + 1 < 2 ^ 64 → Takes v entries → IsQuiet t.what → count ≡ v.count + 1
-    → TakesText entries t v (record { holders = v.holders; count = count })
-taken_quiet v count entries t few h quiet counts = record {
-  takes = taken_over v count entries t few h quiet counts;
-  text = sym (ap (λ text. v.holders.text ++ text) (text_quiet entries t v.holders h.holds quiet) ∙ append-nil v.holders.text);
-}
-
--- an entry that no audit looks at
-pub passed_over : (v : Holding) (count : ℕ) (entries : List Timed) (t : Timed) (b : PlainBody) → length entries + 1 < 2 ^ 64 → Takes v entries → HasBody b t.what → IsPassedOver t.what
-    → count ≡ v.count + 1 → TakesText entries t v (record { holders = v.holders; count = count })
-passed_over v count entries t b few h made passed counts = taken_quiet v count entries t few h (quiet_body b t.what made passed) counts
+-- an entry that no audit looks at leaves what is held, and has no line
+pub passed_over : (holders : HolderState) (entries : List Timed) (t : Timed) (b : PlainBody) → length entries + 1 < 2 ^ 64 → Holds entries holders → HasBody b t.what → IsPassedOver t.what
+    → Holds (entries ++ t ∷ []) holders × (holders.text ≡ holders.text ++ lines entries (t ∷ []))
+passed_over holders entries t b few h made passed =
+    let quiet = quiet_body b t.what made passed in
+    (holds_quiet entries t holders few h quiet, sym (ap (λ text. holders.text ++ text) (text_quiet entries t holders h quiet) ∙ append-nil holders.text))
 
 -- nor at the outcome of a command
 quiet_outcome : (e : Entry) → kind_of e ≡ 5 → IsQuiet e
@@ -57,14 +46,14 @@ quiet_outcome (Event e) is = cc is
 quiet_outcome (Shown s) is = cc is
 quiet_outcome End is = cc is
 
-pub outcome_taken : (v : Holding) (count : ℕ) (entries : List Timed) (t : Timed) → length entries + 1 < 2 ^ 64 → Takes v entries → kind_of t.what ≡ 5 → count ≡ v.count + 1
-    → TakesText entries t v (record { holders = v.holders; count = count })
-outcome_taken v count entries t few h is counts = taken_quiet v count entries t few h (quiet_outcome t.what is) counts
-
 -- one that was taken has the line that was appended
-pub taken_text : (v : Holding) (holders : HolderState) (count : ℕ) (entries : List Timed) (t : Timed) → Takes v entries → Holds (entries ++ t ∷ []) holders
-    → holders.text ≡ v.holders.text ++ lines entries (t ∷ []) → count ≡ v.count + 1 → TakesText entries t v (record { holders = holders; count = count })
-taken_text v holders count entries t h holds text counts = record {
-  takes = record { count = omega (arith, h.count, counts, length-append entries (t ∷ [])); holds = holds };
-  text = text;
-}
+pub taken_text : (v : Holding) (holders : HolderState) (tally : Tally) (entries : List Timed) (t : Timed) → Holds (entries ++ t ∷ []) holders
+    → holders.text ≡ v.holders.text ++ lines entries (t ∷ []) → Tallies tally (entries ++ t ∷ []) → TakesText entries t v (record { holders = holders; tally = tally })
+taken_text v holders tally entries t holds text counts = record { takes = record { tally = counts; holds = holds }; text = text }
+
+pub outcome_taken : (v : Holding) (tally : Tally) (entries : List Timed) (t : Timed) → length entries + 1 < 2 ^ 64 → Takes v entries → kind_of t.what ≡ 5 → Tallies tally (entries ++ t ∷ [])
+    → TakesText entries t v (record { holders = v.holders; tally = tally })
+outcome_taken v tally entries t few h is counts =
+    let quiet = quiet_outcome t.what is in
+    taken_text v v.holders tally entries t (holds_quiet entries t v.holders few h.holds quiet)
+    (sym (ap (λ text. v.holders.text ++ text) (text_quiet entries t v.holders h.holds quiet) ∙ append-nil v.holders.text)) counts

@@ -1,8 +1,9 @@
 -- What `holders` makes of a log.
-use Rattle.std.proofs.Common.{◌≡◌, List, [], ◌∷◌, ◌++◌, length, refl, ap, sym, ◌∙◌, append_assoc}
+use Rattle.std.proofs.Common.{◌≡◌, List, [], ◌∷◌, ◌++◌, refl, ap, sym, ◌∙◌, append_assoc}
 use Rattle.std.proofs.lemmas.List.{append-nil}
 use Rattle.fw_log_entry.specs.declared.entry.Timed.{Timed}
 use Rattle.fw_model_account.specs.Fold.{entries_of, account_of}
+use Rattle.fw_audit.specs.Unjudged.{Tallies}
 use Rattle.fw_holders.specs.Told.{Holds, holders, table_of, entry_line}
 use Rattle.fw_log_loop.specs.Readings.{Form, Rules, IsAccepted, IsEach, bare_form}
 use Rattle.fw_log_reports.specs.Verdicts.{IsSoundLog, RejectsUnsound, sound_unrefused}
@@ -19,7 +20,7 @@ holders_rules = record { accepts = IsSoundLog; rejects = RejectsUnsound; closes 
 
 -- these entries were taken, and none has a fault
 pub record Takes (v : Holding) (entries : List Timed) : Type 0 where
-  pub count : v.count ≡ length entries
+  pub tally : Tallies v.tally entries
   pub holds : Holds entries v.holders
 
 -- one entry more was taken, and its line was appended, if it has one

@@ -5,3 +5,4 @@ pub mod Verdicts
 pub mod Trees
 pub mod Maps
 pub mod Holdings
+pub mod Unsounds

@@ -22,15 +22,18 @@ pub record HasTree (entries : List Timed) : Type 0 where
   pub tree : Tree
   pub packets : HasPackets reset tree
 
--- the text is that of the tree of the log's last reset
-pub record HasMap (entries : List Timed) (text : List ℕ) : Type 0 where
-  pub has : HasTree entries
-  pub spelled : IsTreeText has.tree text
+-- the text of a tree
+abbrev pub IsTextOf : Tree → ResetEntry → List ℕ → Type 0
+IsTextOf tree reset text = IsTreeText tree text
 
--- the text is the graph of the tree of the log's last reset, and of its nodes
-pub record HasGraph (entries : List Timed) (text : List ℕ) : Type 0 where
+-- its graph, with the nodes of the reset whose packets it has
+abbrev pub IsGraphOf : Tree → ResetEntry → List ℕ → Type 0
+IsGraphOf tree reset text = text ≡ graph_text tree reset.nodes
+
+-- the text shows the tree of the log's last reset
+pub record HasPicture (Shows : Tree → ResetEntry → List ℕ → Type 0) (entries : List Timed) (text : List ℕ) : Type 0 where
   pub has : HasTree entries
-  pub spelled : text ≡ graph_text has.tree has.reset.nodes
+  pub spelled : Shows has.tree has.reset text
 
 -- the log has no reset, or no tree has the packets of its last one
 abbrev pub IsNoMap : List Timed → NoMap → Type 0
@@ -42,13 +45,17 @@ abbrev pub RefusesUnmapped : List Timed → LogRefusal → Type 0
 RefusesUnmapped entries (Map no_map) = IsNoMap entries no_map
 RefusesUnmapped entries _ = ⊥
 
--- at the end of a log the tree of its last reset is written, or the log is refused
-abbrev pub map_rules : Rules LogRefusal
-map_rules = record { accepts = λ entries. ⊤; rejects = λ entries refusal. ⊥; closes = HasMap; refuses = RefusesUnmapped; completes = HasTree }
+-- at the end of a log the tree of its last reset is shown, or the log is refused
+abbrev pub picture_rules : (Tree → ResetEntry → List ℕ → Type 0) → Rules LogRefusal
+picture_rules Shows = record { accepts = λ entries. ⊤; rejects = λ entries refusal. ⊥; closes = HasPicture Shows; refuses = RefusesUnmapped; completes = HasTree }
 
--- the same with its graph
+-- as text
+abbrev pub map_rules : Rules LogRefusal
+map_rules = picture_rules IsTextOf
+
+-- as a graph
 abbrev pub graph_rules : Rules LogRefusal
-graph_rules = record { accepts = λ entries. ⊤; rejects = λ entries refusal. ⊥; closes = HasGraph; refuses = RefusesUnmapped; completes = HasTree }
+graph_rules = picture_rules IsGraphOf
 
 never_unmapped : (entries : List Timed) (m : NoMap) → HasTree entries → IsNoMap entries m → ⊥
 never_unmapped entries NoReset h none = let e : Some h.reset ≡ None = sym h.last ∙ none in cc e
@@ -62,10 +69,6 @@ never_refused_map : (entries : List Timed) (refusal : LogRefusal) → HasTree en
 never_refused_map entries (Map m) h r = never_unmapped entries m h r
 never_refused_map entries _ h r = r
 
--- a log that has its tree is not refused
-pub map_unrefused : (entries : List Timed) → HasTree entries → IsAccepted map_rules entries
-map_unrefused entries h = record { entry = λ prefix rest m is r. r; end = λ refusal r. never_refused_map entries refusal h r }
-
--- nor if its graph is drawn
-pub graph_unrefused : (entries : List Timed) → HasTree entries → IsAccepted graph_rules entries
-graph_unrefused entries h = record { entry = λ prefix rest m is r. r; end = λ refusal r. never_refused_map entries refusal h r }
+-- a log that has its tree is not refused, however it is shown
+pub picture_unrefused : (Shows : Tree → ResetEntry → List ℕ → Type 0) (entries : List Timed) → HasTree entries → IsAccepted (picture_rules Shows) entries
+picture_unrefused Shows entries h = record { entry = λ prefix rest m is r. r; end = λ refusal r. never_refused_map entries refusal h r }

@@ -1,6 +1,7 @@
 -- What words write whose report comes at a log's end.
-use Rattle.std.proofs.Common.{ℕ, List, [], ◌∷◌, ◌++◌, refl}
+use Rattle.std.proofs.Common.{ℕ, List, [], ◌++◌, refl}
 use Rattle.std.specs.Prelude.{codes, decimal}
+use Rattle.fw_audit.specs.Unjudged.{unjudged_text}
 use Rattle.fw_log_entry.specs.declared.entry.Timed.{Timed}
 use Rattle.fw_log_loop.specs.Readings.{Form, IsEach, bare_form}
 
@@ -8,9 +9,9 @@ use Rattle.fw_log_loop.specs.Readings.{Form, IsEach, bare_form}
 abbrev pub nothing : List Timed → List ℕ
 nothing entries = []
 
--- `sound` and a number
-abbrev pub count_text : ℕ → List ℕ
-count_text count = codes "sound " ++ decimal count ++ 10 ∷ []
+-- `sound`, how many entries, and how many of them no audit judges, if any
+unfoldable pub sound_text : ℕ → ℕ → List ℕ
+sound_text entries unjudged = codes "sound " ++ decimal entries ++ unjudged_text unjudged ++ codes "\n"
 
 -- nothing while the log is read
 abbrev pub silent_form : Form

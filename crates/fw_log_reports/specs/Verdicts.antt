@@ -6,7 +6,8 @@ use Rattle.fw_model_audit.specs.Audited.{IsAudited, EndsFaulty}
 use Rattle.fw_audit.specs.Found.{Found}
 use Rattle.fw_audit.proofs.Audits.{never_audited}
 use Rattle.fw_log_loop.specs.Readings.{Rules, IsAccepted}
-use Rattle.fw_log_reports.specs.Texts.{count_text}
+use Rattle.fw_audit.specs.Unjudged.{unjudged, Tallies}
+use Rattle.fw_log_reports.specs.Texts.{sound_text}
 use Rattle.fw_log_reports.specs.declared.refusal.Unsound.{Unsound}
 use Rattle.fw_log_reports.specs.declared.refusal.LogRefusal.{LogRefusal}
 use Rattle.fw_log_reports.specs.declared.refusal.LogRefusal.TheVariants.{Audit}
@@ -16,23 +17,25 @@ use Rattle.fw_log_reports.specs.declared.verdict.Verdict.{Verdict}
 abbrev pub IsSoundLog : List Timed → Type 0
 IsSoundLog entries = IsAudited (entries_of entries)
 
--- the last entry is the first that has a fault, with its number and the first fault that it has
+-- the last entry is the first that has a fault, with its number, the first fault that it has, and how many locks up to it no audit judges
 pub record IsUnsound (entries : List Timed) (u : Unsound) : Type 0 where
   pub last : length entries ≡ u.entry + 1
   pub faulty : EndsFaulty (entries_of entries) u.fault
+  pub locks : u.unjudged ≡ unjudged entries
 
 -- an audit refuses a log with that, and with nothing else
 abbrev pub RejectsUnsound : List Timed → LogRefusal → Type 0
 RejectsUnsound entries (Audit unsound) = IsUnsound entries unsound
 RejectsUnsound entries _ = ⊥
 
--- the first entry that has a fault refuses the log, and at the end of one in which none has their number is written
+-- the first entry that has a fault refuses the log, and at the end of one in which none has their number is written, with that of the locks
+-- that no audit judges
 abbrev pub audit_rules : Rules LogRefusal
-audit_rules = record { accepts = IsSoundLog; rejects = RejectsUnsound; closes = λ entries text. text ≡ count_text (length entries); refuses = λ entries refusal. ⊥; completes = IsSoundLog }
+audit_rules = record { accepts = IsSoundLog; rejects = RejectsUnsound; closes = λ entries text. text ≡ sound_text (length entries) (unjudged entries); refuses = λ entries refusal. ⊥; completes = IsSoundLog }
 
 -- these entries were taken, and none has a fault
 pub record Audits (v : Verdict) (entries : List Timed) : Type 0 where
-  pub count : v.count ≡ length entries
+  pub tally : Tallies v.tally entries
   pub sound : v.audit.fault ≡ None
   pub found : Found (entries_of entries) v.audit None
 

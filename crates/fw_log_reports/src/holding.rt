@@ -1,100 +1,123 @@
 //! `holders`: who holds what, each time that it changes, and at the log's end.
 
-ghost use Rattle.std.specs.Prelude.{◌≡◌, ◌+◌, ◌<◌, ◌^◌, ◌++◌, ℕ, [], List, length, take, None, IfNone, IfOk, IfSome, IsTrue, IsFalse};
-ghost use Rattle.fw_async.specs.Reader.{IsPacket, Spells};
-ghost use Rattle.fw_async.specs.declared.packet.Packet.{Packet as APacket};
-ghost use Rattle.fw_log_entry.specs.Log.{ResetFits, body};
+ghost use Rattle.std.specs.Prelude.{◌≡◌, ◌+◌, ◌<◌, ◌^◌, ◌++◌, ◌∷◌, ℕ, [], List, length, take, None, IfNone, IfOk, IfSome, IsTrue, IsFalse};
+ghost use Rattle.fw_log_entry.specs.Log.{Fits, ResetFits, body};
 ghost use Rattle.fw_log_entry.specs.declared.entry.Entry.{Entry as AnEntry};
-ghost use Rattle.fw_log_entry.specs.declared.entry.Entry.TheVariants.{Async, Reset};
+ghost use Rattle.fw_log_entry.specs.declared.entry.Entry.TheVariants.{Reset};
 ghost use Rattle.fw_log_entry.specs.declared.entry.ResetEntry.{ResetEntry as AReset};
 ghost use Rattle.fw_log_entry.specs.declared.entry.Timed.{Timed as TimedEntry};
 ghost use Rattle.fw_log.specs.History.{HasRead};
 ghost use Rattle.fw_log.specs.Passing.{CountsUp, HasBody};
 ghost use Rattle.fw_log.specs.Reader.{total};
 ghost use Rattle.fw_log_loop.specs.Endings.{ReadsLog};
-ghost use Rattle.fw_log_loop.specs.Readings.{Passes};
+ghost use Rattle.fw_log_loop.specs.Readings.{Passes, TakesEntry};
+ghost use Rattle.fw_holders.specs.Told.{Holds, holders as lines, table_of};
 ghost use Rattle.fw_log_reports.specs.Holdings.{holders_form, holders_rules, Takes, TakesText};
+ghost use Rattle.fw_log_reports.specs.Verdicts.{RejectsUnsound};
 ghost use Rattle.fw_log_text.specs.Resets.{IsResetBody};
 
-use crate::passing::{is_passed_body, may_pass};
-use crate::whole_bus::read_whole_bus;
+use crate::passing::{is_passed_body, is_unjudged_body, may_pass};
 use crate::whole_reset::no_reset;
 use crate::{LogRefusal, Unsound};
+use fw_audit::{Tally, is_unjudged};
 use fw_holders::Holders;
 use fw_log::{LogReader, PlainBody, ReadBuffers, Timed};
 use fw_log_entry::codes::kind;
+use fw_log_latest::read_bus;
 use fw_log_loop::{Closing, LogEnding, Reading, Stop, read_log};
-use fw_outside::{Failed, Sink, Source};
+use fw_outside::{Failed, Flush, Sink, Source};
 use std::alloc::{AllocError, Global};
 
-// Who holds what after the entries that were taken, and how many they are.
+/// Who holds what after the entries that were taken, and how many they are.
 #[derive(Drop)]
-struct Holding {
+pub struct Holding {
     holders: Holders,
-    count: u64,
+    tally: Tally,
+}
+
+// The bus reset of this cycle whose body these bytes are is taken, if a short look finds that it has no fault. If it does not, nothing
+// is changed. Not in line: it is long, and would slow the packets down.
+#[inline(never)]
+fn pass_reset(holders: &mut Holders, cycle: u64, bytes: &[u8]) -> Result<bool, AllocError>
+    requires { IsResetBody bytes.now }
+    ensures passed { (entries : List TimedEntry) (t : TimedEntry) (r : AReset) → t.cycle ≡ cycle → t.what ≡ Reset r → ResetFits r → body (Reset r) ≡ bytes.now
+        → length entries + 1 < 2 ^ 64 → Holds entries holders.old → IfOk result (λ passed. IsTrue passed → Holds (entries ++ t ∷ []) holders.new × (holders.new.text ≡ holders.old.text ++ lines entries (t ∷ []))) }
+    ensures kept { IfOk result (λ passed. IsFalse passed → holders.new ≡ holders.old) }
+{
+    let mut bus = no_reset();
+    read_bus(&mut bus, bytes);
+    holders.pass_reset(cycle, &bus)
+}
+
+// The same of the entry that has this body. One that no audit looks at has no line.
+#[inline(always)]
+fn pass(holders: &mut Holders, cycle: u64, body: &PlainBody) -> Result<bool, AllocError>
+    requires { (e : AnEntry) × HasBody body.now e }
+    ensures passed { (entries : List TimedEntry) (t : TimedEntry) → t.cycle ≡ cycle → HasBody body.now t.what
+        → length entries + 1 < 2 ^ 64 → Holds entries holders.old → IfOk result (λ passed. IsTrue passed → Holds (entries ++ t ∷ []) holders.new × (holders.new.text ≡ holders.old.text ++ lines entries (t ∷ []))) }
+    ensures kept { IfOk result (λ passed. IsFalse passed → holders.new ≡ holders.old) }
+{
+    if is_passed_body(body) {
+        return Ok(true);
+    }
+    match body {
+        PlainBody::Packet(bytes) => holders.pass_packet(cycle, bytes.as_slice()),
+        PlainBody::Reset(bytes) => pass_reset(holders, cycle, bytes.as_slice()),
+        PlainBody::Iso(_) => Ok(false),
+    }
 }
 
 impl Holding {
-    fn new(alloc: Global) -> Result<Holding, AllocError>
+    /// Of no entries. An error says that memory ran out.
+    pub fn new(alloc: Global) -> Result<Holding, AllocError>
         ensures text { IfOk result (λ h. h.holders.text ≡ []) }
         ensures took { IfOk result (λ h. Takes h []) }
     {
         Ok(Holding {
             holders: Holders::new(alloc)?,
-            count: 0,
+            tally: Tally::nothing(),
         })
     }
 
-    // Takes the packet of this cycle that these bytes are, if a short look finds that it has no fault. If it does not, nothing
-    // is changed.
-    #[inline(always)]
-    fn pass_packet(&mut self, cycle: u64, bytes: &[u8]) -> Result<bool, AllocError>
-        requires { IsPacket bytes.now }
-        ensures passed { (entries : List TimedEntry) (t : TimedEntry) (p : APacket) → t.cycle ≡ cycle → t.what ≡ Async p → Spells p bytes.now
-            → length entries + 1 < 2 ^ 64 → Takes self.old entries → IfOk result (λ passed. IsTrue passed → TakesText entries t self.old self.new) }
-        ensures kept { IfOk result (λ passed. IsFalse passed → self.new ≡ self.old) }
+    /// Takes an entry more, and answers its fault, if any, as what the log is refused with.
+    pub(crate) fn judge(&mut self, entry: &Timed) -> Result<Option<LogRefusal>, AllocError>
+        requires { Fits entry.now.what }
+        ensures { (entries : List TimedEntry) → length entries + 1 < 2 ^ 64 → Takes self.old entries
+            → IfOk result (TakesEntry holders_form.text RejectsUnsound (Takes self.new) self.old.holders.text self.new.holders.text entries entry.now) }
     {
-        if !self.holders.pass_packet(cycle, bytes)? {
-            return Ok(false);
+        let number = self.tally.entries;
+        self.tally.take(is_unjudged(&entry.what));
+        match self.holders.take(entry)? {
+            Some(fault) => Ok(Some(LogRefusal::Audit(Unsound {
+                entry: number,
+                fault,
+                unjudged: self.tally.unjudged,
+            }))),
+            None => Ok(None),
         }
-        self.count = self.count.saturating_add(1);
-        Ok(true)
     }
 
-    // The same of the bus reset whose body these bytes are. Not in line: it is long, and would slow the packets down.
-    #[inline(never)]
-    fn pass_reset(&mut self, cycle: u64, bytes: &[u8]) -> Result<bool, AllocError>
-        requires { IsResetBody bytes.now }
-        ensures passed { (entries : List TimedEntry) (t : TimedEntry) (r : AReset) → t.cycle ≡ cycle → t.what ≡ Reset r → ResetFits r → body (Reset r) ≡ bytes.now
-            → length entries + 1 < 2 ^ 64 → Takes self.old entries → IfOk result (λ passed. IsTrue passed → TakesText entries t self.old self.new) }
-        ensures kept { IfOk result (λ passed. IsFalse passed → self.new ≡ self.old) }
-    {
-        let mut bus = no_reset();
-        read_whole_bus(&mut bus, bytes);
-        if !self.holders.pass_reset(cycle, &bus)? {
-            return Ok(false);
-        }
-        self.count = self.count.saturating_add(1);
-        Ok(true)
-    }
-
-    // The same of the entry that has this body. One that no audit looks at has no line.
+    /// Takes the entry of this cycle that has this body, if a short look finds that it has no fault. If it does not, nothing is
+    /// changed.
     #[inline(always)]
-    fn pass_body(&mut self, cycle: u64, body: &PlainBody) -> Result<bool, AllocError>
+    pub fn pass_body(&mut self, cycle: u64, body: &PlainBody) -> Result<bool, AllocError>
         requires { (e : AnEntry) × HasBody body.now e }
         ensures passed { (entries : List TimedEntry) (t : TimedEntry) → t.cycle ≡ cycle → HasBody body.now t.what
             → length entries + 1 < 2 ^ 64 → Takes self.old entries → IfOk result (λ passed. IsTrue passed → TakesText entries t self.old self.new) }
         ensures kept { IfOk result (λ passed. IsFalse passed → self.new ≡ self.old) }
     {
-        if is_passed_body(body) {
-            self.count = self.count.saturating_add(1);
-            return Ok(true);
+        if !pass(&mut self.holders, cycle, body)? {
+            return Ok(false);
         }
-        match body {
-            PlainBody::Packet(bytes) => self.pass_packet(cycle, bytes.as_slice()),
-            PlainBody::Reset(bytes) => self.pass_reset(cycle, bytes.as_slice()),
-            PlainBody::Iso(_) => Ok(false),
-        }
+        self.tally.take(is_unjudged_body(body));
+        Ok(true)
+    }
+
+    /// The table of what is held after the entries. An error says that memory ran out.
+    pub fn table(&self, alloc: Global) -> Result<Vec<u8>, AllocError>
+        ensures { (entries : List TimedEntry) → Takes self.now entries → IfOk result (λ text. text.items ≡ table_of entries) }
+    {
+        self.holders.table(alloc, self.tally.unjudged)
     }
 
     // Takes the entry that ends in a piece if it is the outcome of a command, which no audit looks at and which has no line.
@@ -116,7 +139,7 @@ impl Holding {
             return None;
         }
         let annotation = reader.pass_annotation(kind::OUTCOME, piece, room)?;
-        self.count = self.count.saturating_add(1);
+        self.tally.take(false);
         Some(annotation.used)
     }
 }
@@ -139,16 +162,7 @@ impl Reading for Holding {
     }
 
     fn take(&mut self, entry: &Timed, _bytes: &[u8]) -> Result<Option<LogRefusal>, AllocError> {
-        match self.holders.take(entry)? {
-            Some(fault) => Ok(Some(LogRefusal::Audit(Unsound {
-                entry: self.count,
-                fault,
-            }))),
-            None => {
-                self.count = self.count.saturating_add(1);
-                Ok(None)
-            }
-        }
+        self.judge(entry)
     }
 
     // No fault of a packet of a usual form is looked for twice.
@@ -180,7 +194,7 @@ impl Reading for Holding {
     }
 
     fn close(&self, alloc: Global) -> Result<Closing<LogRefusal>, AllocError> {
-        Ok(Closing::Bytes(self.holders.table(alloc)?))
+        Ok(Closing::Bytes(self.table(alloc)?))
     }
 
     ghost each = { λ v. holders_each };
@@ -192,7 +206,7 @@ impl Reading for Holding {
 
 /// Reads a log, and writes a line each time that an allocation or a connection changes, with what is left and who holds what, and at
 /// the log's end a table of all that is held. It refuses what `audit` refuses.
-pub fn holders<S: Source, K: Sink>(
+pub fn holders<S: Source, K: Flush>(
     alloc: Global,
     source: &mut S,
     sink: &mut K,

@@ -8,6 +8,8 @@ pub struct Unsound {
     pub entry: u64,
     /// What is wrong with it.
     pub fault: AuditFault,
+    /// How many locks up to it no audit judges: those at watched registers with another label than that of procedures.
+    pub unjudged: u64,
 }
 
 /// Why a log has no map.

@@ -11,7 +11,7 @@ use fw_cip::whole_iso;
 use fw_log::{LogReader, PlainBody, ReadBuffers, Timed};
 use fw_log_loop::{Closing, LogEnding, Reading, read_log};
 use fw_log_text::StreamReport;
-use fw_outside::{Failed, Sink, Source};
+use fw_outside::{Failed, Flush, Sink, Source};
 use std::alloc::{AllocError, Global};
 
 // What the channels of the entries carry.
@@ -79,7 +79,7 @@ impl Reading for Streams {
 
 /// Reads a log, and writes at its end a line for each channel that has isochronous packets: how many, how many with a block of
 /// data and without one, and how many at which data is missing. Nothing is written before.
-pub fn dv<S: Source, K: Sink>(alloc: Global, source: &mut S, sink: &mut K) -> LogEnding<LogRefusal>
+pub fn dv<S: Source, K: Flush>(alloc: Global, source: &mut S, sink: &mut K) -> LogEnding<LogRefusal>
     ensures { ReadsLog silent_form (never_refused report_text) (record { left = S.left; faults = S.faults; old = source.old; new = source.new })
         (record { held = K.held; faults = K.faults; old = sink.old; new = sink.new }) result }
 {

@@ -1,11 +1,9 @@
 //! `audit`: whether the registers of a log ran as a sound account.
 
-ghost use Rattle.std.specs.Prelude.{◌≡◌, ◌+◌, ◌<◌, ◌^◌, ◌++◌, ◌∷◌, ℕ, [], List, length, take, None, IfNone, IfOk, IfSome, IsTrue, IsFalse, string_bytes};
-ghost use Rattle.fw_async.specs.Reader.{IsPacket, Spells};
-ghost use Rattle.fw_async.specs.declared.packet.Packet.{Packet as APacket};
+ghost use Rattle.std.specs.Prelude.{◌≡◌, ◌+◌, ◌<◌, ◌^◌, ◌++◌, ◌∷◌, ℕ, [], List, length, take, None, IfNone, IfOk, IfSome, IsTrue, IsFalse};
 ghost use Rattle.fw_log_entry.specs.Log.{Fits, ResetFits, body};
 ghost use Rattle.fw_log_entry.specs.declared.entry.Entry.{Entry as AnEntry};
-ghost use Rattle.fw_log_entry.specs.declared.entry.Entry.TheVariants.{Async, Reset};
+ghost use Rattle.fw_log_entry.specs.declared.entry.Entry.TheVariants.{Reset};
 ghost use Rattle.fw_log_entry.specs.declared.entry.ResetEntry.{ResetEntry as AReset};
 ghost use Rattle.fw_log_entry.specs.declared.entry.Timed.{Timed as TimedEntry};
 ghost use Rattle.fw_log.specs.History.{HasRead};
@@ -13,35 +11,74 @@ ghost use Rattle.fw_log.specs.Passing.{CountsUp, HasBody};
 ghost use Rattle.fw_log.specs.Reader.{total};
 ghost use Rattle.fw_log_loop.specs.Endings.{ReadsLog};
 ghost use Rattle.fw_log_loop.specs.Readings.{Passes};
-ghost use Rattle.fw_log_reports.specs.Texts.{silent_form, count_text};
+ghost use Rattle.fw_audit.specs.Found.{Found};
+ghost use Rattle.fw_log_reports.specs.Texts.{silent_form, sound_text};
 ghost use Rattle.fw_log_reports.specs.Verdicts.{audit_rules, Audits, Judges};
 ghost use Rattle.fw_log_text.specs.Resets.{IsResetBody};
 
-use crate::passing::{is_passed_body, may_pass};
-use crate::whole_bus::read_whole_bus;
+use crate::passing::{is_passed_body, is_unjudged_body, may_pass};
 use crate::whole_reset::no_reset;
 use crate::{LogRefusal, Unsound};
-use fw_audit::Audit;
+use fw_audit::{Audit, Tally, is_unjudged, unjudged_text};
 use fw_log::{LogReader, PlainBody, ReadBuffers, Timed};
 use fw_log_entry::codes::kind;
+use fw_log_latest::read_bus;
 use fw_log_loop::{Closing, LogEnding, Reading, Stop, read_log};
-use fw_outside::{Failed, Sink, Source};
+use fw_log_names::{put_number, put_word};
+use fw_outside::{Failed, Flush, Sink, Source};
 use std::alloc::{AllocError, Global};
 
 // An audit, and how many entries it took.
 #[derive(Drop)]
 struct Verdict {
     audit: Audit,
-    count: u64,
+    tally: Tally,
 }
 
 // The text of a log in which no entry has a fault.
-fn sound_text(alloc: Global, count: u64) -> Result<String, AllocError>
-    ensures { IfOk result (λ s. string_bytes s ≡ count_text count) }
+#[tactic(auto, unfolding(crate::specs::Texts::sound_text))]
+fn sound_text(alloc: Global, tally: Tally) -> Result<Vec<u8>, AllocError>
+    ensures { IfOk result (λ text. text.items ≡ sound_text tally.entries tally.unjudged) }
 {
-    let mut text = String::new(alloc);
-    write!(text, "sound {count}\n")?;
+    let mut text = Vec::new(alloc);
+    put_word(&mut text, "sound ")?;
+    put_number(&mut text, tally.entries)?;
+    text.extend_from_slice(unjudged_text(tally.unjudged).as_slice())?;
+    put_word(&mut text, "\n")?;
     Ok(text)
+}
+
+// An audit takes the bus reset whose body these bytes are, if a short look finds that it has no fault. If it does not, nothing is
+// changed. Not in line: it is long, and would slow the packets down.
+#[inline(never)]
+fn pass_reset(audit: &mut Audit, bytes: &[u8]) -> bool
+    requires { IsResetBody bytes.now }
+    ensures fresh { audit.new.fault ≡ audit.old.fault }
+    ensures found { IsTrue result → (entries : List AnEntry) (r : AReset) → ResetFits r → body (Reset r) ≡ bytes.now → Found entries audit.old None
+        → Found (entries ++ Reset r ∷ []) audit.new None }
+    ensures kept { IsFalse result → audit.new ≡ audit.old }
+{
+    let mut bus = no_reset();
+    read_bus(&mut bus, bytes);
+    audit.pass_reset(bus.manager, bus.nodes.as_slice())
+}
+
+// The same of the entry that has this body. One that no audit looks at changes none.
+#[inline(always)]
+fn pass(audit: &mut Audit, body: &PlainBody) -> bool
+    requires { (e : AnEntry) × HasBody body.now e }
+    ensures fresh { audit.new.fault ≡ audit.old.fault }
+    ensures found { IsTrue result → (entries : List AnEntry) (e : AnEntry) → HasBody body.now e → Found entries audit.old None → Found (entries ++ e ∷ []) audit.new None }
+    ensures kept { IsFalse result → audit.new ≡ audit.old }
+{
+    if is_passed_body(body) {
+        return true;
+    }
+    match body {
+        PlainBody::Packet(bytes) => audit.pass_packet(bytes.as_slice()),
+        PlainBody::Reset(bytes) => pass_reset(audit, bytes.as_slice()),
+        PlainBody::Iso(_) => false,
+    }
 }
 
 impl Verdict {
@@ -51,7 +88,7 @@ impl Verdict {
     {
         Ok(Verdict {
             audit: Audit::new(alloc)?,
-            count: 0,
+            tally: Tally::nothing(),
         })
     }
 
@@ -61,51 +98,19 @@ impl Verdict {
         ensures { (entries : List TimedEntry) → length entries + 1 < 2 ^ 64 → Audits self.old entries
             → IfOk result (λ refusal. Judges self.new (entries ++ entry.now ∷ []) refusal) }
     {
+        let number = self.tally.entries;
+        self.tally.take(is_unjudged(&entry.what));
         match self.audit.take(entry)? {
             Some(fault) => Ok(Some(LogRefusal::Audit(Unsound {
-                entry: self.count,
+                entry: number,
                 fault,
+                unjudged: self.tally.unjudged,
             }))),
-            None => {
-                self.count = self.count.saturating_add(1);
-                Ok(None)
-            }
+            None => Ok(None),
         }
     }
 
-    // Takes the packet that these bytes are, if a short look finds that it has no fault. If it does not, nothing is changed.
-    #[inline(always)]
-    fn pass_packet(&mut self, bytes: &[u8]) -> bool
-        requires { IsPacket bytes.now }
-        ensures passed { IsTrue result → (entries : List TimedEntry) (t : TimedEntry) (p : APacket) → t.what ≡ Async p → Spells p bytes.now
-            → length entries + 1 < 2 ^ 64 → Audits self.old entries → Audits self.new (entries ++ t ∷ []) }
-        ensures kept { IsFalse result → self.new ≡ self.old }
-    {
-        if !self.audit.pass_packet(bytes) {
-            return false;
-        }
-        self.count = self.count.saturating_add(1);
-        true
-    }
-
-    // The same of the bus reset whose body these bytes are. Not in line: it is long, and would slow the packets down.
-    #[inline(never)]
-    fn pass_reset(&mut self, bytes: &[u8]) -> bool
-        requires { IsResetBody bytes.now }
-        ensures passed { IsTrue result → (entries : List TimedEntry) (t : TimedEntry) (r : AReset) → t.what ≡ Reset r → ResetFits r → body (Reset r) ≡ bytes.now
-            → length entries + 1 < 2 ^ 64 → Audits self.old entries → Audits self.new (entries ++ t ∷ []) }
-        ensures kept { IsFalse result → self.new ≡ self.old }
-    {
-        let mut bus = no_reset();
-        read_whole_bus(&mut bus, bytes);
-        if !self.audit.pass_reset(bus.manager, bus.nodes.as_slice()) {
-            return false;
-        }
-        self.count = self.count.saturating_add(1);
-        true
-    }
-
-    // The same of the entry that has this body.
+    // Takes the entry that has this body, if a short look finds that it has no fault. If it does not, nothing is changed.
     #[inline(always)]
     fn pass_body(&mut self, body: &PlainBody) -> bool
         requires { (e : AnEntry) × HasBody body.now e }
@@ -113,15 +118,11 @@ impl Verdict {
             → length entries + 1 < 2 ^ 64 → Audits self.old entries → Audits self.new (entries ++ t ∷ []) }
         ensures kept { IsFalse result → self.new ≡ self.old }
     {
-        if is_passed_body(body) {
-            self.count = self.count.saturating_add(1);
-            return true;
+        if !pass(&mut self.audit, body) {
+            return false;
         }
-        match body {
-            PlainBody::Packet(bytes) => self.pass_packet(bytes.as_slice()),
-            PlainBody::Reset(bytes) => self.pass_reset(bytes.as_slice()),
-            PlainBody::Iso(_) => false,
-        }
+        self.tally.take(is_unjudged_body(body));
+        true
     }
 
     // Takes the entry that ends in a piece if it is the outcome of a command, which no audit looks at.
@@ -143,7 +144,7 @@ impl Verdict {
             return None;
         }
         let annotation = reader.pass_annotation(kind::OUTCOME, piece, room)?;
-        self.count = self.count.saturating_add(1);
+        self.tally.take(false);
         Some(annotation.used)
     }
 }
@@ -197,7 +198,7 @@ impl Reading for Verdict {
     fn clear(&mut self) {}
 
     fn close(&self, alloc: Global) -> Result<Closing<LogRefusal>, AllocError> {
-        Ok(Closing::Text(sound_text(alloc, self.count)?))
+        Ok(Closing::Bytes(sound_text(alloc, self.tally)?))
     }
 
     ghost each = { λ v. silent_each };
@@ -209,7 +210,7 @@ impl Reading for Verdict {
 
 /// Reads a log, and writes how many entries it has if none of them has a fault. The first that has one ends the call as soon as
 /// it was read; nothing is written then.
-pub fn audit<S: Source, K: Sink>(
+pub fn audit<S: Source, K: Flush>(
     alloc: Global,
     source: &mut S,
     sink: &mut K,

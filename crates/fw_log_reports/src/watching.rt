@@ -1,6 +1,6 @@
 //! `watch`: what a log shows of channels, bandwidth and plugs, as its entries end.
 
-ghost use Rattle.std.specs.Prelude.{◌≡◌, ◌++◌, ◌∷◌, [], List, IfOk, OnOk};
+ghost use Rattle.std.specs.Prelude.{◌≡◌, ◌++◌, ◌∷◌, [], List, IfOk, OnOk, string_bytes};
 ghost use Rattle.fw_log_entry.specs.declared.entry.Entry.{Entry as AnEntry};
 ghost use Rattle.fw_log_entry.specs.declared.entry.Timed.{Timed as TimedEntry};
 ghost use Rattle.fw_log.specs.Passing.{HasBody};
@@ -11,26 +11,27 @@ ghost use Rattle.fw_log_reports.specs.Watching.{watched_form};
 ghost use Rattle.fw_log_reports.specs.Silences.{never_refused};
 
 use crate::LogRefusal;
-use crate::whole_bus::read_whole_bus;
 use crate::whole_reset::no_reset;
 use fw_cip::whole_iso;
 use fw_log::{LogReader, PlainBody, ReadBuffers, Timed};
 use fw_log_entry::ResetEntry;
+use fw_log_latest::read_bus;
 use fw_log_loop::{Closing, LogEnding, Reading, Stop, read_log};
-use fw_outside::{Failed, Sink, Source};
+use fw_outside::{Failed, Flush, Sink, Source};
 use fw_watch::Watch;
 use std::alloc::{AllocError, Global};
 
-// What the entries have shown.
+/// What the entries have shown.
 #[derive(Drop)]
-struct Watching {
+pub struct Watching {
     watch: Watch,
     // Room for what is looked at of a bus reset.
     reset: Box<ResetEntry>,
 }
 
 impl Watching {
-    fn new(alloc: Global) -> Result<Watching, AllocError>
+    /// Of no entries. An error says that memory ran out.
+    pub fn new(alloc: Global) -> Result<Watching, AllocError>
         ensures text { IfOk result (λ w. w.watch.told.text ≡ []) }
         ensures watches { IfOk result (λ w. Watches w.watch []) }
     {
@@ -39,12 +40,10 @@ impl Watching {
             reset: Box::new(alloc, no_reset())?,
         })
     }
-}
 
-impl Watching {
-    // Takes an entry that has a body of a usual form.
+    /// Takes the entry of this cycle that has this body, and appends its lines. An error says that memory ran out.
     #[inline(always)]
-    fn put(&mut self, cycle: u64, body: &PlainBody) -> Result<(), AllocError>
+    pub fn put(&mut self, cycle: u64, body: &PlainBody) -> Result<(), AllocError>
         requires { (e : AnEntry) × HasBody body.now e }
         ensures lines { (e : AnEntry) → HasBody body.now e → (before : List TimedEntry) → Watches self.old.watch before
             → OnOk result (self.new.watch.told.text ≡ self.old.watch.told.text ++ watched before (at_cycle cycle e ∷ [])) }
@@ -55,10 +54,17 @@ impl Watching {
             PlainBody::Packet(bytes) => self.watch.put_packet(cycle, bytes.as_slice()),
             PlainBody::Iso(bytes) => self.watch.put_iso(cycle, &whole_iso(bytes.as_slice())),
             PlainBody::Reset(bytes) => {
-                read_whole_bus(&mut self.reset, bytes.as_slice());
+                read_bus(&mut self.reset, bytes.as_slice());
                 self.watch.put_reset(cycle, &self.reset)
             }
         }
+    }
+
+    /// The last line: how much was judged of all entries. An error says that memory ran out.
+    pub fn last_line(&self, alloc: Global) -> Result<String, AllocError>
+        ensures { (entries : List TimedEntry) → Watches self.now.watch entries → IfOk result (λ s. string_bytes s ≡ watched_end entries) }
+    {
+        self.watch.end(alloc)
     }
 }
 
@@ -108,7 +114,7 @@ impl Reading for Watching {
     }
 
     fn close(&self, alloc: Global) -> Result<Closing<LogRefusal>, AllocError> {
-        Ok(Closing::Text(self.watch.end(alloc)?))
+        Ok(Closing::Text(self.last_line(alloc)?))
     }
 
     ghost each = { λ s. watched_each };
@@ -122,7 +128,7 @@ impl Reading for Watching {
 /// judged. It refuses no log that `decode` reads.
 ///
 /// The lines of the entries that ended are written before more is read, as those of `decode` are.
-pub fn watch<S: Source, K: Sink>(
+pub fn watch<S: Source, K: Flush>(
     alloc: Global,
     source: &mut S,
     sink: &mut K,

@@ -24,7 +24,9 @@ use Rattle.fw_log_entry.specs.declared.entry.ShownEntry.{ShownEntry}
 use Rattle.fw_log_entry.specs.declared.entry.Entry.{Entry}
 use Rattle.fw_log_entry.specs.declared.entry.Entry.TheVariants.{Reset, Async as AsyncEntry, Iso as IsoEntry, Event, Outcome, Shown, End}
 use Rattle.fw_log_entry.specs.declared.entry.Timed.{Timed}
-use Rattle.fw_log_names.specs.Names.{EventWords, event_words, event_word, event_name, outcome_names, name_in, outcome_name}
+use Rattle.fw_log_names.specs.Names.{event_name, outcome_name}
+use Rattle.fw_log_names.specs.declared.entries.TheConstants.{EVENTS, OUTCOMES}
+use Rattle.fw_text.specs.Names.{name_in, rows}
 use Rattle.fw_log_text.specs.Names.{packet_name}
 use Rattle.fw_log_text.specs.Line.{hex, quadlet_text, first_quadlets, quadlets_text, id_text, manager_text, reset_text, packet_text, iso_text}
 use Rattle.fw_log_text.specs.Line.{name_text, device_text, tape_text, event_text, outcome_text, offset_text, shown_text, what_text, entry_line}
@@ -65,23 +67,13 @@ word : (bs : List ℕ) → plain bs ≡ true → Plain bs
 word bs e = record { all = bytes_by bs e }
 
 -- the names in a table are ASCII
-event_at : (rows : List EventWords) → all_plain (map (λ (r : EventWords). r.name) rows) ≡ true → (code : ℕ)
-    → Plain (name_text (event_word (λ (r : EventWords). r.name) rows code))
-event_at [] e code = nothing
-event_at (r ∷ rows) e code =
-    let names : List (List ℕ) = map (λ (w : EventWords). w.name) rows in
-    elim (code == r.code) as (λ b. Plain (name_text (if b then Some r.name else event_word (λ (w : EventWords). w.name) rows code))) [
-      | true ↦ word r.name (both_left (plain r.name) (all_plain names) e)
-      | false ↦ event_at rows (both_right (plain r.name) (all_plain names) e) code
-    ]
-
-outcome_at : (rows : List (ℕ × List ℕ)) → all_plain (map (λ (r : ℕ × List ℕ). r.1) rows) ≡ true → (code : ℕ) → Plain (name_text (name_in rows code))
-outcome_at [] e code = nothing
-outcome_at (r ∷ rows) e code =
-    let names : List (List ℕ) = map (λ (w : ℕ × List ℕ). w.1) rows in
-    elim (code == r.0) as (λ b. Plain (name_text (if b then Some r.1 else name_in rows code))) [
+name_at : (table : List (ℕ × List ℕ)) → all_plain (map (λ (r : ℕ × List ℕ). r.1) table) ≡ true → (code : ℕ) → Plain (name_text (name_in table code))
+name_at [] e code = nothing
+name_at (r ∷ table) e code =
+    let names : List (List ℕ) = map (λ (w : ℕ × List ℕ). w.1) table in
+    elim (code == r.0) as (λ b. Plain (name_text (if b then Some r.1 else name_in table code))) [
       | true ↦ word r.1 (both_left (plain r.1) (all_plain names) e)
-      | false ↦ outcome_at rows (both_right (plain r.1) (all_plain names) e) code
+      | false ↦ name_at table (both_right (plain r.1) (all_plain names) e) code
     ]
 
 two : (xs ys : List ℕ) → Plain xs → Plain ys → Plain (xs ++ ys)
@@ -179,12 +171,12 @@ tape e t s = by (has_tape (event_form e.code))
 
 event : (e : EventEntry) → EventFits e → e.system < 2 ^ 16 → Plain (event_text e)
 event e f s =
-    let a = two (codes "event ") (name_text (event_name e.code)) (word (codes "event ") refl) (event_at event_words refl e.code) in
+    let a = two (codes "event ") (name_text (event_name e.code)) (word (codes "event ") refl) (name_at (map (λ r. (r.0, r.1.now)) EVENTS) refl e.code) in
     two _ (tape_text e) (two _ (device_text e.device) a (device e.device f.device)) (tape e f.tape s)
 
 outcome : (o : OutcomeEntry) → OutcomeFits o → Plain (outcome_text o)
 outcome o f =
-    let a = two (codes "outcome ") (name_text (outcome_name o.code)) (word (codes "outcome ") refl) (outcome_at outcome_names refl o.code) in
+    let a = two (codes "outcome ") (name_text (outcome_name o.code)) (word (codes "outcome ") refl) (name_at (rows OUTCOMES) refl o.code) in
     let b = count _ o.device (omega (arith, f.device)) (say _ (codes " ") refl a) in
     two _ (quadlet_text o.value) (count _ o.slot (omega (arith, f.slot)) (say _ (codes " ") refl b)) (quadlet o.value)
 

@@ -4,9 +4,9 @@ use Rattle.std.proofs.lemmas.Bool.{cases_order}
 use Rattle.std.proofs.lemmas.List.{get_or-set_same, get_or-set_other}
 use Rattle.std.proofs.Math.ListN.{set}
 use Rattle.std.specs.Fmt.{digit_glyph}
-use Rattle.fw_log_names.proofs.HexLaws.{eight_digits}
-use Rattle.fw_log_names.specs.Digits.{byte_digits}
-use Rattle.fw_log_names.specs.Texts.{hex}
+use Rattle.fw_text.proofs.HexLaws.{eight_digits}
+use Rattle.fw_text.specs.Digits.{byte_digits}
+use Rattle.fw_text.specs.Texts.{hex}
 use Rattle.fw_log_text.specs.Digits.{IsNumber, IsNumbers}
 
 abbrev glyph : ℕ → ℕ

@@ -17,8 +17,8 @@ use Rattle.fw_log_entry.specs.declared.entry.Timed.{Timed}
 use Rattle.fw_log_entry.specs.declared.codes.TheConstants.{NO_DEVICE}
 use Rattle.fw_log_entry.specs.Rows.{event_form, has_tape}
 use Rattle.fw_log_names.specs.Names.{event_name, outcome_name}
-unfoldable pub use Rattle.fw_log_names.specs.Texts.{hex}
-pub use Rattle.fw_log_names.specs.Texts.{quadlet_text, first_quadlets, quadlets_text}
+unfoldable pub use Rattle.fw_text.specs.Texts.{hex}
+pub use Rattle.fw_text.specs.Texts.{quadlet_text, first_quadlets, quadlets_text}
 use Rattle.fw_log_text.specs.Names.{packet_name}
 
 -- the first quadlet of a self-ID packet

@@ -1,6 +1,13 @@
 pub mod Rewritings
 pub mod Conversions
 pub mod WholePassings
-pub mod PagePassings
+pub mod VerdictLaws
+pub mod StopLaws
+pub mod HeldLaws
+pub mod PageLaws
 pub mod SwapLaws
-pub mod LatestLaws
+pub mod MarkParts
+pub mod ClearTexts
+pub mod WordLines
+pub mod EntryMarks
+pub mod GivesBack

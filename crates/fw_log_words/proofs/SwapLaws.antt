@@ -5,7 +5,7 @@ use Rattle.fw_words.specs.Quadlet.{quadlet_at}
 use Rattle.fw_words.specs.Swaps.{quadlet_swap}
 use Rattle.fw_words.specs.declared.swap.Swap.{Swap as Words}
 use Rattle.fw_words.specs.declared.swap.TheConstants.{COMPARE_SWAP}
-use Rattle.fw_log_names.specs.Texts.{quadlet_text, quadlets_text}
+use Rattle.fw_text.specs.Texts.{quadlet_text, quadlets_text}
 use Rattle.fw_log_registers.specs.declared.place.RegisterPlace.{RegisterPlace}
 use Rattle.fw_log_registers.specs.declared.told.RegisterValue.TheVariants.{Word, Swap}
 use Rattle.fw_log_registers.specs.Places.{place_of}

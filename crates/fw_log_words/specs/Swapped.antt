@@ -3,7 +3,7 @@ use Rattle.std.specs.Prelude.{◌≡◌, ℕ, ◌==◌, ◌&&◌, Bool, true, fa
 use Rattle.fw_words.specs.Quadlet.{quadlet_at}
 use Rattle.fw_async.specs.declared.packet.Head.{Head}
 use Rattle.fw_async.specs.declared.packet.Packet.TheVariants.{Lock}
-use Rattle.fw_log_names.specs.Texts.{quadlet_text, quadlets_text}
+use Rattle.fw_text.specs.Texts.{quadlet_text, quadlets_text}
 use Rattle.fw_log_registers.specs.declared.place.RegisterPlace.{RegisterPlace}
 use Rattle.fw_log_registers.specs.declared.told.RegisterValue.TheVariants.{Word, Swap}
 use Rattle.fw_log_registers.specs.Places.{place_of}

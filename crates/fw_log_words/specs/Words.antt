@@ -7,12 +7,13 @@ use Rattle.fw_log_text.specs.Report.{report_text}
 use Rattle.fw_watch.specs.Watched.{watched_end}
 use Rattle.fw_log_loop.specs.Readings.{Form, Rules, IsAccepted}
 use Rattle.fw_log_reports.specs.Texts.{nothing, silent_form}
-use Rattle.fw_log_words.specs.Texts.{each_form, explained_form, log_form, page_form}
+use Rattle.fw_log_words.specs.Texts.{each_form, explained_form, log_form}
+use Rattle.fw_log_words.specs.Pages.{page_form}
 use Rattle.fw_log_reports.specs.Watching.{watched_form}
 use Rattle.fw_log_reports.specs.Silences.{never_refused}
 use Rattle.fw_log_reports.specs.Verdicts.{audit_rules, sound_unrefused}
 use Rattle.fw_log_reports.specs.Holdings.{holders_form, holders_rules, held_unrefused}
-use Rattle.fw_log_reports.specs.Maps.{map_rules, graph_rules, map_unrefused, graph_unrefused}
+use Rattle.fw_log_reports.specs.Maps.{IsGraphOf, IsTextOf, map_rules, graph_rules, picture_unrefused}
 use Rattle.fw_log_reports.specs.declared.refusal.LogRefusal.{LogRefusal}
 use Rattle.fw_log_words.specs.declared.LogWord.{LogWord}
 use Rattle.fw_log_words.specs.declared.LogWord.TheVariants.{Decode, Explain, Json, Page, Dv, Convert, Audit, Holders, Watch, Map, Graph}
@@ -53,6 +54,6 @@ Accepts word entries = (rules_by word).completes entries
 pub accepts_by : (word : LogWord) (entries : List Timed) → Accepts word entries → IsAccepted (rules_by word) entries
 accepts_by Audit entries h = sound_unrefused entries h
 accepts_by Holders entries h = held_unrefused entries h
-accepts_by Map entries h = map_unrefused entries h
-accepts_by Graph entries h = graph_unrefused entries h
+accepts_by Map entries h = picture_unrefused IsTextOf entries h
+accepts_by Graph entries h = picture_unrefused IsGraphOf entries h
 accepts_by _ entries h = record { entry = λ prefix rest refusal is r. r; end = λ refusal r. r }

@@ -1,8 +1,6 @@
 //! Entries of a log that are appended in place.
 
 ghost use Rattle.std.specs.Prelude.{◌≡◌, ◌≤◌, ◌+◌, ◌++◌, [], length, IfOk, OnOk, take};
-ghost use Rattle.fw_log_entry.specs.Log.{entry_head};
-ghost use Rattle.fw_log_entry.specs.declared.version.Version.TheVariants.{One, Two};
 
 use std::alloc::{AllocError, Global};
 use std::marker::Model;
@@ -10,27 +8,6 @@ use std::marker::Model;
 /// How many bytes there is room for at first: more than the entries have of 4,096 bytes of a log and of the longest entry after
 /// them, in the longer version.
 const ROOM: usize = 12_288;
-
-/// The head of an entry in version 1.
-pub(crate) fn short_head(kind: u8, quadlets: u16, cycle: u64) -> [u8; 12]
-    ensures { result ≡ entry_head One 0 kind quadlets cycle }
-{
-    let mut head = [kind, 0, 0, 0, 0, 0, 0, 0, 0, 0, 0, 0];
-    head[2..4].copy_from_slice(&quadlets.to_be_bytes());
-    head[4..].copy_from_slice(&cycle.to_be_bytes());
-    head
-}
-
-/// The head of an entry in version 2.
-pub(crate) fn long_head(kind: u8, quadlets: u16, epoch: u32, cycle: u64) -> [u8; 16]
-    ensures { result ≡ entry_head Two epoch kind quadlets cycle }
-{
-    let mut head = [kind, 0, 0, 0, 0, 0, 0, 0, 0, 0, 0, 0, 0, 0, 0, 0];
-    head[2..4].copy_from_slice(&quadlets.to_be_bytes());
-    head[4..8].copy_from_slice(&epoch.to_be_bytes());
-    head[8..].copy_from_slice(&cycle.to_be_bytes());
-    head
-}
 
 /// The bytes of entries, and room after them: the room for an entry is asked for once.
 #[derive(Drop)]

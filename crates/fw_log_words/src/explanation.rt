@@ -20,19 +20,20 @@ use fw_log::{LogReader, PlainBody, ReadBuffers, Timed};
 use fw_log_explainer::Explainer;
 use fw_log_loop::{Closing, LogEnding, Reading, Stop, read_log};
 use fw_log_reports::WholeRoom;
-use fw_outside::{Failed, Sink, Source};
+use fw_outside::{Failed, Flush, Sink, Source};
 use fw_words::quadlet_at;
 use std::alloc::{AllocError, Global};
 
-// The lines of entries in words, and the outstanding requests after them.
+/// The lines of entries in words, and the outstanding requests after them.
 #[derive(Drop)]
-struct Explanation {
+pub(crate) struct Explanation {
     explainer: Explainer,
     whole: WholeRoom,
 }
 
 impl Explanation {
-    fn new(alloc: Global) -> Result<Explanation, AllocError>
+    /// Of no entries. An error says that memory ran out.
+    pub(crate) fn new(alloc: Global) -> Result<Explanation, AllocError>
         ensures text { IfOk result (λ e. e.explainer.text ≡ []) }
         ensures requests { IfOk result (λ e. e.explainer.requests ≡ []) }
     {
@@ -40,6 +41,28 @@ impl Explanation {
             explainer: Explainer::new(alloc)?,
             whole: WholeRoom::new(alloc)?,
         })
+    }
+
+    /// Appends the line of an entry of this cycle that has this body. An error says that memory ran out.
+    pub(crate) fn put_body(&mut self, cycle: u64, body: &PlainBody) -> Result<(), AllocError>
+        requires { (e : AnEntry) × HasBody body.now e }
+        ensures line { (e : AnEntry) → HasBody body.now e
+            → OnOk result (self.new.explainer.text ≡ self.old.explainer.text ++ line self.old.explainer.requests (record { cycle = cycle; what = e })) }
+        ensures requests { (e : AnEntry) → HasBody body.now e → OnOk result (self.new.explainer.requests ≡ standing_after e self.old.explainer.requests) }
+    {
+        match body {
+            PlainBody::Packet(bytes) => self.explainer.put_packet_from(cycle, bytes.as_slice()),
+            PlainBody::Iso(bytes) => {
+                self.explainer
+                    .put_iso_from(cycle, &whole_iso(bytes.as_slice()))
+            }
+            PlainBody::Reset(bytes) => put_reset(
+                &mut self.explainer,
+                &mut self.whole,
+                cycle,
+                bytes.as_slice(),
+            ),
+        }
     }
 }
 
@@ -62,24 +85,6 @@ fn put_reset(
         return Ok(());
     }
     explainer.put_reset_from(cycle, whole.make_reset(bytes), later)
-}
-
-// Appends the line of an entry of this cycle that has this body.
-fn put_body(
-    explainer: &mut Explainer,
-    whole: &mut WholeRoom,
-    cycle: u64,
-    body: &PlainBody,
-) -> Result<(), AllocError>
-    requires { (e : AnEntry) × HasBody body.now e }
-    ensures line { (e : AnEntry) → HasBody body.now e → OnOk result (explainer.new.text ≡ explainer.old.text ++ line explainer.old.requests (record { cycle = cycle; what = e })) }
-    ensures requests { (e : AnEntry) → HasBody body.now e → OnOk result (explainer.new.requests ≡ standing_after e explainer.old.requests) }
-{
-    match body {
-        PlainBody::Packet(bytes) => explainer.put_packet_from(cycle, bytes.as_slice()),
-        PlainBody::Iso(bytes) => explainer.put_iso_from(cycle, &whole_iso(bytes.as_slice())),
-        PlainBody::Reset(bytes) => put_reset(explainer, whole, cycle, bytes.as_slice()),
-    }
 }
 
 impl Reading for Explanation {
@@ -116,12 +121,7 @@ impl Reading for Explanation {
         let Some(passed) = reader.pass_body(piece, room) else {
             return Ok(None);
         };
-        put_body(
-            &mut self.explainer,
-            &mut self.whole,
-            passed.cycle,
-            &passed.body,
-        )?;
+        self.put_body(passed.cycle, &passed.body)?;
         Ok(Some(passed.used))
     }
 
@@ -147,7 +147,7 @@ impl Reading for Explanation {
 /// Reads a log, and writes each entry in words in a line of its own; a response is told by the request that it answers.
 ///
 /// The lines of the entries that ended are written before more is read, as those of `decode` are.
-pub fn explain<S: Source, K: Sink>(
+pub fn explain<S: Source, K: Flush>(
     alloc: Global,
     source: &mut S,
     sink: &mut K,

@@ -8,13 +8,15 @@ ghost use Rattle.fw_log_loop.specs.Endings.{ReadsLog};
 ghost use Rattle.fw_log_words.specs.Words.{form_by, rules_by};
 
 use fw_log::Version;
-use fw_outside::{Sink, Source};
+use fw_outside::{Flush, Source};
 use std::alloc::Global;
 
 mod entry_room;
 mod explanation;
+mod held;
 mod laws;
 mod lines;
+mod marked;
 mod objects;
 mod paging;
 mod rewriting;
@@ -24,7 +26,7 @@ pub use fw_log_loop::{LogEnding, Stop};
 pub use fw_log_reports::{
     LogRefusal, NoMap, Unsound, audit, dv, holders, map, map_graph, sound_logs_are_vouched, watch,
 };
-pub use laws::{logs_convert_back, swaps_are_told};
+pub use laws::{logs_convert_back, marks_give_words_back, swaps_are_told};
 pub use lines::decode;
 pub use objects::json;
 pub use paging::page;
@@ -39,7 +41,7 @@ pub enum LogWord {
     Explain,
     /// `json`: a JSON object with every field for each entry, as it ends.
     Json,
-    /// `page`: the log as a page of HTML, a row an entry, as they end.
+    /// `page`: the log as a page of HTML, with the lines of `json`, `explain`, `holders` and `watch` of each entry, as they end.
     Page,
     /// `dv`: at the log's end a line for each channel that has isochronous packets.
     Dv,
@@ -58,7 +60,7 @@ pub enum LogWord {
 }
 
 /// Reads a log as a word does.
-pub fn read_as<S: Source, K: Sink>(
+pub fn read_as<S: Source, K: Flush>(
     alloc: Global,
     word: LogWord,
     source: &mut S,

@@ -14,7 +14,7 @@ use fw_cip::whole_iso;
 use fw_log::{LogReader, PlainBody, ReadBuffers, Timed};
 use fw_log_loop::{Closing, LogEnding, Reading, Stop, read_log};
 use fw_log_text::{LineRoom, put_entry_from, put_iso_from, put_packet_from, put_reset_from};
-use fw_outside::{Failed, Sink, Source};
+use fw_outside::{Failed, Flush, Sink, Source};
 use std::alloc::{AllocError, Global};
 
 // The lines of entries.
@@ -95,7 +95,7 @@ impl Reading for Lines {
 ///
 /// The lines of the entries that ended are written before more is read, so after a read fault or a fault of the log all lines
 /// of the entries before it are there. A call takes at most 4,095 bytes after the byte that shows a fault of the log.
-pub fn decode<S: Source, K: Sink>(
+pub fn decode<S: Source, K: Flush>(
     alloc: Global,
     source: &mut S,
     sink: &mut K,

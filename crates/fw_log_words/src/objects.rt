@@ -21,25 +21,42 @@ use fw_log_json::{
 };
 use fw_log_loop::{Closing, LogEnding, Reading, Stop, read_log};
 use fw_log_reports::WholeRoom;
-use fw_outside::{Failed, Sink, Source};
+use fw_outside::{Failed, Flush, Sink, Source};
 use fw_words::quadlet_at;
 use std::alloc::{AllocError, Global};
 
-// The objects of entries.
+/// The objects of entries.
 #[derive(Drop)]
-struct Objects {
+pub(crate) struct Objects {
     room: ObjectRoom,
     whole: WholeRoom,
 }
 
 impl Objects {
-    fn new(alloc: Global) -> Result<Objects, AllocError>
+    /// None. An error says that memory ran out.
+    pub(crate) fn new(alloc: Global) -> Result<Objects, AllocError>
         ensures { IfOk result (λ o. o.room ≡ []) }
     {
         Ok(Objects {
             room: ObjectRoom::new(alloc)?,
             whole: WholeRoom::new(alloc)?,
         })
+    }
+
+    /// Appends the object of an entry of this cycle that has this body. An error says that memory ran out.
+    pub(crate) fn put_body(&mut self, cycle: u64, body: &PlainBody) -> Result<(), AllocError>
+        requires { (e : AnEntry) × HasBody body.now e }
+        ensures { (e : AnEntry) → HasBody body.now e → OnOk result (self.new.room ≡ self.old.room ++ object (record { cycle = cycle; what = e })) }
+    {
+        match body {
+            PlainBody::Packet(bytes) => put_packet_from(&mut self.room, cycle, bytes.as_slice()),
+            PlainBody::Iso(bytes) => {
+                put_iso_from(&mut self.room, cycle, &whole_iso(bytes.as_slice()))
+            }
+            PlainBody::Reset(bytes) => {
+                put_reset(&mut self.room, &mut self.whole, cycle, bytes.as_slice())
+            }
+        }
     }
 }
 
@@ -60,23 +77,6 @@ fn put_reset(
         return Ok(());
     }
     put_reset_from(room, cycle, whole.make_reset(bytes), later)
-}
-
-// Appends the object of an entry of this cycle that has this body.
-fn put_body(
-    room: &mut ObjectRoom,
-    whole: &mut WholeRoom,
-    cycle: u64,
-    body: &PlainBody,
-) -> Result<(), AllocError>
-    requires { (e : AnEntry) × HasBody body.now e }
-    ensures { (e : AnEntry) → HasBody body.now e → OnOk result (room.new ≡ room.old ++ object (record { cycle = cycle; what = e })) }
-{
-    match body {
-        PlainBody::Packet(bytes) => put_packet_from(room, cycle, bytes.as_slice()),
-        PlainBody::Iso(bytes) => put_iso_from(room, cycle, &whole_iso(bytes.as_slice())),
-        PlainBody::Reset(bytes) => put_reset(room, whole, cycle, bytes.as_slice()),
-    }
 }
 
 impl Reading for Objects {
@@ -112,7 +112,7 @@ impl Reading for Objects {
         let Some(passed) = reader.pass_body(piece, room) else {
             return Ok(None);
         };
-        put_body(&mut self.room, &mut self.whole, passed.cycle, &passed.body)?;
+        self.put_body(passed.cycle, &passed.body)?;
         Ok(Some(passed.used))
     }
 
@@ -138,7 +138,7 @@ impl Reading for Objects {
 /// Reads a log, and writes each entry as a JSON object in a line of its own, with every field.
 ///
 /// The lines of the entries that ended are written before more is read, as those of `decode` are.
-pub fn json<S: Source, K: Sink>(
+pub fn json<S: Source, K: Flush>(
     alloc: Global,
     source: &mut S,
     sink: &mut K,

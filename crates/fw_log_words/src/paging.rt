@@ -1,64 +1,82 @@
-//! `page`: a log as a page of HTML.
+//! `page`: a log as a page of HTML, in which a viewer draws what four words say of each entry.
 
-ghost use Rattle.std.specs.Prelude.{◌≡◌};
-ghost use Rattle.fw_log_entry.specs.Log.{body};
+ghost use Rattle.std.specs.Prelude.{◌≡◌, ◌+◌, ◌<◌, ◌^◌, ◌++◌, ◌∷◌, [], List, length, IfOk, OnOk};
 ghost use Rattle.fw_log_entry.specs.declared.entry.Entry.{Entry as AnEntry};
+ghost use Rattle.fw_log_entry.specs.declared.entry.Timed.{Timed as TimedEntry};
 ghost use Rattle.fw_log.specs.Passing.{HasBody};
 ghost use Rattle.fw_log_loop.specs.Endings.{ReadsLog};
+ghost use Rattle.fw_log_loop.specs.declared.ending.LogEnd.TheVariants.{Whole};
 ghost use Rattle.fw_log_reports.specs.Texts.{nothing};
 ghost use Rattle.fw_log_reports.specs.Silences.{never_refused};
-ghost use Rattle.fw_log_words.specs.Texts.{page_form, break_of};
+ghost use Rattle.fw_log_words.specs.Pages.{page_form, entry_lines, closing_lines};
+ghost use Rattle.fw_log_words.specs.Paged.{Begun, Pages};
 
 use crate::LogRefusal;
+use crate::explanation::Explanation;
+use crate::held::Held;
+use crate::marked::{put_gathered, put_lines};
+use crate::objects::Objects;
 use fw_log::{LogReader, PlainBody, ReadBuffers, Timed};
 use fw_log_loop::{Closing, Framed, LogEnd, LogEnding, Reading, Stop, read_framed};
-use fw_log_reports::WholeRoom;
-use fw_outside::{Failed, Sink, Source};
-use fw_page::{Break, HEAD, Sheet};
+use fw_log_names::put_word;
+use fw_log_reports::Watching;
+use fw_outside::{Failed, Flush, Sink, Source};
+use fw_page::{EXPLAIN, HEAD, TAIL, WATCH, put_log_line, put_marked};
 use std::alloc::{AllocError, Global};
 
-// The pieces of entries, and what the next ones need of them.
+/// How many bytes of lines there is room for at first: more than 4,096 bytes of an ordinary log give.
+const TEXT_ROOM: usize = 65_536;
+
+// The lines of entries, and the words that they are of.
 #[derive(Drop)]
 struct Paging {
-    sheet: Sheet,
-    whole: WholeRoom,
+    text: Vec<u8>,
+    objects: Objects,
+    explanation: Explanation,
+    held: Held,
+    watching: Watching,
 }
 
 impl Paging {
-    ghost use Rattle.std.specs.Prelude.{◌≡◌, [], IfOk};
-    ghost use Rattle.fw_page.specs.State.{first_state};
-    ghost use Rattle.fw_page.specs.Sheets.{IsSheetOf, text_of};
-
     fn new(alloc: Global) -> Result<Paging, AllocError>
-        ensures sheet { IfOk result (λ p. IsSheetOf first_state p.sheet) }
-        ensures empty { IfOk result (λ p. text_of p.sheet ≡ []) }
+        ensures text { IfOk result (λ p. p.text.items ≡ []) }
+        ensures pages { IfOk result (λ p. Pages p []) }
     {
         Ok(Paging {
-            sheet: Sheet::new(alloc)?,
-            whole: WholeRoom::new(alloc)?,
+            text: Vec::with_capacity(alloc, TEXT_ROOM)?,
+            objects: Objects::new(alloc)?,
+            explanation: Explanation::new(alloc)?,
+            held: Held::new(alloc)?,
+            watching: Watching::new(alloc)?,
         })
     }
-}
 
-// The bytes of a body.
-fn bytes_of<'a>(plain: &PlainBody<'a>) -> &'a [u8]
-    ensures { (e : AnEntry) → HasBody plain.now e → result.now ≡ body e }
-{
-    match plain {
-        PlainBody::Packet(bytes) => bytes.as_slice(),
-        PlainBody::Iso(bytes) => bytes.as_slice(),
-        PlainBody::Reset(bytes) => bytes.as_slice(),
+    // Appends the lines of the entry of this cycle that has this body, which `holders` has passed.
+    fn put_body(&mut self, cycle: u64, body: &PlainBody) -> Result<(), AllocError>
+        requires { (e : AnEntry) × HasBody body.now e }
+        ensures { (entries : List TimedEntry) (t : TimedEntry) → t.cycle ≡ cycle → HasBody body.now t.what → Begun entries t self.old
+            → OnOk result ((self.new.text.items ≡ self.old.text.items ++ entry_lines entries t) × Pages self.new (entries ++ t ∷ [])) }
+    {
+        self.objects.put_body(cycle, body)?;
+        put_gathered(&mut self.text, &mut self.objects)?;
+        self.explanation.put_body(cycle, body)?;
+        put_lines(&mut self.text, EXPLAIN, &mut self.explanation)?;
+        self.held.put_passed(&mut self.text)?;
+        self.watching.put(cycle, body)?;
+        put_lines(&mut self.text, WATCH, &mut self.watching)
     }
-}
 
-// Why a page ends, if the log does not end as it should.
-fn break_of(end: LogEnd) -> Option<Break>
-    ensures { result ≡ break_of end }
-{
-    match end {
-        LogEnd::Whole => None,
-        LogEnd::NoLog(fault) => Some(Break::NoLog(fault)),
-        LogEnd::TooLong => Some(Break::TooLong),
+    // Appends the closing lines of `watch` and `holders`, if the log ended as it should.
+    fn put_closing(&mut self, end: LogEnd) -> Result<(), AllocError>
+        ensures { (entries : List TimedEntry) → Pages self.old entries → OnOk result (self.new.text.items ≡ self.old.text.items ++ closing_lines entries end) }
+    {
+        if !matches!(end, LogEnd::Whole) {
+            return Ok(());
+        }
+        let alloc = *self.text.allocator();
+        let last = self.watching.last_line(alloc)?;
+        put_marked(&mut self.text, WATCH, last.as_bytes())?;
+        self.held.put_table(&mut self.text, alloc)
     }
 }
 
@@ -66,24 +84,28 @@ impl Reading for Paging {
     type Refusal = LogRefusal;
 
     ghost use Rattle.fw_log_reports.specs.Silences.{none_unrefused};
-    ghost use Rattle.fw_page.specs.Page.{state_of};
-    ghost use Rattle.fw_page.specs.Sheets.{IsSheetOf, text_of};
-    ghost use Rattle.fw_log_words.specs.Texts.{page_each};
+    ghost use Rattle.fw_log_words.specs.Pages.{page_each};
 
     ghost form = { λ s. page_form };
 
     ghost rules = { never_refused nothing };
 
-    ghost took = { λ s entries. IsSheetOf (state_of entries) s.sheet };
+    ghost took = { λ s entries. Pages s entries };
 
-    ghost gathered = { λ s. text_of s.sheet };
+    ghost gathered = { λ s. s.text.items };
 
     fn open<K: Sink>(&self, _sink: &mut K) -> Result<(), Failed> {
         Ok(())
     }
 
     fn take(&mut self, entry: &Timed, bytes: &[u8]) -> Result<Option<LogRefusal>, AllocError> {
-        self.sheet.take(entry, bytes)?;
+        self.objects.take(entry, bytes)?;
+        put_gathered(&mut self.text, &mut self.objects)?;
+        self.explanation.take(entry, bytes)?;
+        put_lines(&mut self.text, EXPLAIN, &mut self.explanation)?;
+        self.held.put(&mut self.text, entry, bytes)?;
+        self.watching.take(entry, bytes)?;
+        put_lines(&mut self.text, WATCH, &mut self.watching)?;
         Ok(None)
     }
 
@@ -94,23 +116,22 @@ impl Reading for Paging {
         room: &mut ReadBuffers,
         piece: &[u8],
     ) -> Result<Option<usize>, AllocError> {
-        let Some(passed) = reader.pass_body(piece, room) else {
+        let Some(next) = reader.next_body(piece, room) else {
             return Ok(None);
         };
-        let entry = Timed {
-            cycle: passed.cycle,
-            what: self.whole.make(&passed.body),
-        };
-        self.sheet.take(&entry, bytes_of(&passed.body))?;
-        Ok(Some(passed.used))
+        if !self.held.pass_body(next.passed.cycle, &next.body)? {
+            return Ok(None);
+        }
+        self.put_body(next.passed.cycle, &next.body)?;
+        Ok(Some(reader.go_past(piece, &next.passed)))
     }
 
     fn gathered(&self) -> &[u8] {
-        self.sheet.as_slice()
+        &self.text
     }
 
     fn clear(&mut self) {
-        self.sheet.clear();
+        self.text.clear();
     }
 
     fn close(&self, alloc: Global) -> Result<Closing<LogRefusal>, AllocError> {
@@ -125,22 +146,24 @@ impl Reading for Paging {
 }
 
 impl Framed for Paging {
-    ghost use Rattle.fw_log_words.specs.Texts.{page_frame, nothing_last};
+    ghost use Rattle.fw_log_words.specs.Pages.{page_frame, nothing_last};
 
     fn begin<K: Sink>(&self, sink: &mut K) -> Result<(), Failed> {
         sink.write(HEAD.as_bytes())
     }
 
     fn end(&mut self, end: LogEnd) -> Result<(), AllocError> {
-        self.sheet.finish(break_of(end))
+        self.put_closing(end)?;
+        put_log_line(&mut self.text, end)?;
+        put_word(&mut self.text, TAIL)
     }
 
     ghost frame = { λ s. page_frame (never_refused nothing) nothing_last };
 }
 
-/// Reads a log, and writes it as a page of HTML that stands alone (`docs/PAGE.md`): its head before anything is read, the rows of the
+/// Reads a log, and writes it as a page of HTML that stands alone (`docs/PAGE.md`): its head before anything is read, the lines of the
 /// entries that ended before more is read, and the end of the page also if the bytes are no log or too many come.
-pub fn page<S: Source, K: Sink>(
+pub fn page<S: Source, K: Flush>(
     alloc: Global,
     source: &mut S,
     sink: &mut K,

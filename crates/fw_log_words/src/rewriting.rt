@@ -14,12 +14,12 @@ ghost use Rattle.fw_log_words.specs.Texts.{log_form};
 ghost use Rattle.fw_log_reports.specs.Silences.{never_refused};
 
 use crate::LogRefusal;
-use crate::entry_room::{EntryRoom, long_head, short_head};
+use crate::entry_room::EntryRoom;
 use fw_log::{LogReader, PlainBody, ReadBuffers, Timed, Version, write_header};
 use fw_log_entry::codes::kind;
-use fw_log_entry::{epoch_after, head_of};
+use fw_log_entry::{epoch_after, head_of, long_head, short_head};
 use fw_log_loop::{Closing, LogEnding, Reading, Stop, read_log};
-use fw_outside::{Failed, Sink, Source};
+use fw_outside::{Failed, Flush, Sink, Source};
 use fw_words::quadlet_at;
 use std::alloc::{AllocError, Global};
 use std::marker::Model;
@@ -219,7 +219,7 @@ impl Reading for Rewriting {
 /// Reads a log of either version, and writes its entries as a log of this version.
 ///
 /// The header is written once the header of the log that is read was taken whole, and the entries as they end, before more is read.
-pub fn convert<S: Source, K: Sink>(
+pub fn convert<S: Source, K: Flush>(
     alloc: Global,
     version: Version,
     source: &mut S,

@@ -64,6 +64,7 @@ pub mod Decided
 pub mod OneResult
 pub mod OneLog
 pub mod Logs
+pub mod CarriedOut
 pub mod Changes
 pub mod Avoids
 pub mod Reclaiming

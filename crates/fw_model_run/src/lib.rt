@@ -4,6 +4,7 @@
 //! The definitions stand in specs/. The code has the terms that they share with the bus; the law functions do nothing.
 #![tactic(auto)]
 
+mod deciding;
 mod deck_laws;
 mod elections;
 mod laws;
@@ -13,6 +14,7 @@ mod recording;
 mod streams;
 mod withholding;
 
+pub use deciding::{decided_orders_are_their_actions, good_states_decide_deeds};
 pub use deck_laws::{commands_are_followed, decks_tell_linked_nodes, nodes_keep_decks};
 pub use elections::{candidates_can_bid, one_device_is_elected};
 pub use laws::{

@@ -1,5 +1,6 @@
 -- Which counts of faults rise in a call, by why it stopped, if it did. The first fault decides.
-use Rattle.std.specs.Prelude.{◌≡◌, ℕ, Option, Some, None}
+use Rattle.std.specs.Prelude.{◌≡◌, ℕ, Option, Some, None, Ok, Err}
+use Rattle.std.specs.declared.result.Result.{Result}
 use Rattle.fw_outside.specs.Outside.{Rose}
 use Rattle.fw_outside.specs.declared.stop.Stop.{Stop}
 use Rattle.fw_outside.specs.declared.stop.Stop.TheVariants.{ReadFault, WriteFault, TooLong, NoMemory}
@@ -19,3 +20,8 @@ WriteCount old new (Some ReadFault) = new ≡ old
 WriteCount old new (Some WriteFault) = Rose old new
 WriteCount old new (Some TooLong) = new ≡ old
 WriteCount old new (Some NoMemory) = new ≡ old
+
+-- why a call stopped that answers so
+abbrev pub stop_in : {T : Type 0} → Result T Stop → Option Stop
+stop_in (Ok _) = None
+stop_in (Err stop) = Some stop

@@ -1,7 +1,7 @@
 ghost use Rattle.std.specs.Prelude.{◌≡◌, List, ℕ, Bool, true, false, [], take, IsTrue, IsOk, OnOk, OnErr};
 ghost use Rattle.fw_outside.specs.Outside.{Rose};
 
-use crate::{BufferedSink, Failed, MemSink, Sink};
+use crate::{BufferedSink, Failed, GrowSink, MemSink, Nowhere, Sink};
 use std::io::Write;
 
 /// A sink that may keep bytes back.
@@ -32,6 +32,26 @@ impl<W: Write> Flush for BufferedSink<W> {
 }
 
 impl Flush for MemSink {
+    ghost kept = { λ _. [] };
+
+    ghost at_once = { λ _. true };
+
+    fn pass_all(&mut self) -> Result<(), Failed> {
+        Ok(())
+    }
+}
+
+impl Flush for GrowSink {
+    ghost kept = { λ _. [] };
+
+    ghost at_once = { λ _. true };
+
+    fn pass_all(&mut self) -> Result<(), Failed> {
+        Ok(())
+    }
+}
+
+impl Flush for Nowhere {
     ghost kept = { λ _. [] };
 
     ghost at_once = { λ _. true };

@@ -1,35 +1,24 @@
--- The end of a page: what is still held back, why the log ends, and what it amounts to (own).
-use Rattle.std.specs.Prelude.{ℕ, ◌+◌, Bool, List, [], ◌++◌, codes, Option, Some, None, if◌then◌else◌}
-use Rattle.fw_page_phrases.specs.Notes.{break_text}
-use Rattle.fw_page_phrases.specs.declared.note.Break.{Break}
-use Rattle.fw_page.specs.declared.tail.TheConstants.{TAIL}
-use Rattle.fw_page.specs.State.{State, TextAndState, says, becomes, then_do}
-use Rattle.fw_page.specs.Rows.{before, plain}
-use Rattle.fw_page.specs.Pieces.{release}
-use Rattle.fw_page_content.specs.Sums.{account_text, entries_text, answers_text, kinds_text}
+-- How a log ended, as a line (own).
+use Rattle.std.specs.Prelude.{List, ℕ, ◌++◌, codes, decimal}
+use Rattle.fw_log.specs.declared.LogWhy.{LogWhy}
+use Rattle.fw_log.specs.declared.LogWhy.TheVariants.{AfterEnd, BadHeader, BadKind, BadLength, TimeBack, BadBody, Cut, NoEnd, BadEpoch}
+use Rattle.fw_log_loop.specs.declared.ending.LogEnd.{LogEnd}
+use Rattle.fw_log_loop.specs.declared.ending.LogEnd.TheVariants.{Whole, NoLog, TooLong}
 
--- ---- the sum
+-- the name of a fault of a log
+abbrev pub why_text : LogWhy → List ℕ
+why_text AfterEnd = codes ": AfterEnd\n"
+why_text BadHeader = codes ": BadHeader\n"
+why_text BadKind = codes ": BadKind\n"
+why_text BadLength = codes ": BadLength\n"
+why_text TimeBack = codes ": TimeBack\n"
+why_text (BadBody fault) = codes ": BadBody\n"
+why_text Cut = codes ": Cut\n"
+why_text NoEnd = codes ": NoEnd\n"
+why_text (BadEpoch epoch) = codes ": BadEpoch\n"
 
-abbrev pub sum_text : State → List ℕ
-sum_text st =
-    codes "</main>\n<div id=\"sum\">\n" ++ entries_text st.number st.counts.resets st.last ++ answers_text st.counts ++ kinds_text st.counts ++ account_text st.followed.account st.followed.stop
-    ++ codes "</div>\n"
-
--- ---- the end
-
--- why the log ends, if it does not end as it should
-abbrev pub why : Option Break → State → TextAndState
-why None st = becomes st
-why (Some b) st = then_do (before st) (λ s. says (plain [] (codes "nt") (codes "The log ends here: " ++ break_text b) s) s)
-
--- the end of the section that is open
-abbrev pub section_end_text : Bool → List ℕ
-section_end_text begun = if begun then codes "</ol>\n</section>\n" else []
-
--- what is still held back, why the log ends, and the end of the section that is open
-abbrev pub closed : Option Break → State → TextAndState
-closed b st = then_do (then_do (release st) (why b)) (λ s. says (section_end_text s.begun) s)
-
--- all after the entries: the end piece, and the tail
-abbrev pub end_text : Option Break → State → List ℕ
-end_text b st = (closed b st).text ++ sum_text (closed b st).state ++ TAIL.now
+-- the status and the note of a word that reads the log
+abbrev pub log_line : LogEnd → List ℕ
+log_line Whole = codes ":log 0\n"
+log_line (NoLog fault) = codes ":log 4 byte " ++ decimal fault.place ++ why_text fault.why
+log_line TooLong = codes ":log 7 too long\n"

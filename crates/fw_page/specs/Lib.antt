@@ -1,10 +1,2 @@
-pub mod State
-pub mod Rows
-pub mod Requests
-pub mod Streams
-pub mod Events
-pub mod Resets
-pub mod Pieces
+pub mod Marks
 pub mod Ends
-pub mod Page
-pub mod Sheets

@@ -1,22 +1,12 @@
-//! A log as a page of HTML, piece by piece: a `Sheet` takes the entries of a log one after another, and has what each of them adds.
+//! A page: what stands before and after the lines of a log, the marks of these lines, and how a log ended.
 #![tactic(auto)]
 
-mod answers;
-mod cycles;
-mod ears;
-mod end;
-mod events;
-mod exchanges;
+mod ends;
 mod head;
-mod packets;
-mod plain;
-mod progress;
-mod reset;
-mod rows;
-mod sheet;
+mod marks;
 mod tail;
 
-pub use fw_page_phrases::Break;
+pub use ends::put_log_line;
 pub use head::HEAD;
-pub use sheet::Sheet;
+pub use marks::{EXPLAIN, HOLDERS, WATCH, put_marked};
 pub use tail::TAIL;

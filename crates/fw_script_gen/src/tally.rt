@@ -1,6 +1,6 @@
 //! What is counted of a log.
 
-ghost use Rattle.std.specs.Prelude.{◌≡◌, ◌+◌, ◌*◌, ◌^◌, ◌<◌, ◌≤◌, ◌++◌, ◌∷◌, [], List, ℕ, length, Some, None, IfSome, IfOk, OnOk, MatchResult, string_bytes};
+ghost use Rattle.std.specs.Prelude.{◌≡◌, ◌+◌, ◌^◌, ◌≤◌, ◌++◌, ◌∷◌, [], List, ℕ, length, IfOk, OnOk, MatchResult, string_bytes};
 ghost use Rattle.std.specs.List.{All};
 ghost use Rattle.fw_log_entry.specs.Log.{entry_bytes, entries_bytes, TimedFits};
 ghost use Rattle.fw_log_entry.specs.declared.version.Version.TheVariants.{Two};
@@ -8,6 +8,7 @@ ghost use Rattle.fw_log_entry.specs.declared.entry.Timed.{Timed};
 ghost use Rattle.fw_script_gen.specs.Summary.{number_line, summary_of, counted_outcome, counted_in, Counts};
 
 use fw_log_entry::codes::{kind, outcome};
+use fw_log_entry::entry_size;
 use fw_words::quadlet_at;
 use std::alloc::{AllocError, Global};
 
@@ -36,20 +37,6 @@ pub enum Counted {
     Shown(u32),
     /// None of these.
     Nothing,
-}
-
-// How many bytes the first entry takes, if they are all there.
-fn entry_size(log: &[u8]) -> Option<usize>
-    ensures first { (epoch : ℕ) (t : Timed) (more : List ℕ) → TimedFits t → log.now ≡ entry_bytes Two epoch t ++ more → result ≡ Some (length (entry_bytes Two epoch t)) }
-    ensures none { log.now ≡ [] → result ≡ None }
-    ensures within { IfSome result (λ n. (16 ≤ n) × (n ≤ length log.now)) }
-{
-    if log.len() < HEAD {
-        return None;
-    }
-    let quadlets = 256 * usize::from(log[2]) + usize::from(log[3]);
-    let size = HEAD + 4 * quadlets;
-    if log.len() < size { None } else { Some(size) }
 }
 
 // What is counted of an outcome, by its code.

@@ -10,7 +10,7 @@ const HEADER: [u8; 16] = [0x31, 0x33, 0x39, 0x34, 0, 0, 0, 2, 0, 0, 0, 0, 0, 0, 
 
 fn damaged(alloc: Global) -> Result<Vec<u8>, AllocError> {
     let mut log = HEADER.to_vec(alloc)?;
-    for _ in 0..10_406 {
+    for _ in 0..71_846 {
         log.push(0)?;
     }
     Ok(log)

@@ -12,11 +12,9 @@ use Rattle.fw_tool.specs.declared.ending.Unexplored.{Unexplored as Reason}
 use Rattle.fw_tool.specs.declared.ending.Unexplored.TheVariants.{Word, TooLarge}
 use Rattle.fw_explore_movers.specs.declared.fault.WordWhy.{WordWhy}
 use Rattle.fw_explore_movers.specs.declared.fault.WordWhy.TheVariants as Words
-use Rattle.fw_model_audit.specs.declared.fault.AuditFault.{AuditFault}
-use Rattle.fw_model_audit.specs.declared.fault.AuditFault.TheVariants.{NoNode, Overlap, Orphan, NotAllowed, WrongWord, NoMove, NoEvent}
 use Rattle.fw_map.specs.declared.MapWhy.{MapWhy}
 use Rattle.fw_map.specs.declared.MapWhy.TheVariants.{Parents, Missing, Left, Root}
-use Rattle.fw_log_text.specs.Line.{quadlet_text}
+use Rattle.fw_log_reports.specs.Unsounds.{unsound_text}
 use Rattle.fw_log_reports.specs.declared.refusal.NoMap.{NoMap as Unmapped}
 use Rattle.fw_log_reports.specs.declared.refusal.NoMap.TheVariants.{NoReset, NoTree}
 use Rattle.fw_order.specs.declared.rule.RuleFault.{RuleFault}
@@ -92,26 +90,6 @@ why_of Cut = codes ": Cut" ++ 10 ∷ []
 why_of NoLogEnd = codes ": NoEnd" ++ 10 ∷ []
 why_of (BadEpoch _) = codes ": BadEpoch" ++ 10 ∷ []
 
--- the note of a fault that an audit found, without its values
-abbrev pub fault_of : AuditFault → List ℕ
-fault_of (NoNode _) = codes ": NoNode"
-fault_of (Overlap _) = codes ": Overlap"
-fault_of (Orphan _) = codes ": Orphan"
-fault_of (NotAllowed _ _) = codes ": NotAllowed"
-fault_of (WrongWord _ _) = codes ": WrongWord"
-fault_of (NoMove _ _) = codes ": NoMove"
-fault_of (NoEvent _) = codes ": NoEvent"
-
--- the values of a fault, each as eight hexadecimal digits
-abbrev pub values_of : AuditFault → List ℕ
-values_of (NoNode id) = quadlet_text id
-values_of (Overlap id) = quadlet_text id
-values_of (Orphan id) = quadlet_text id
-values_of (NotAllowed id offset) = quadlet_text id ++ quadlet_text offset
-values_of (WrongWord found expected) = quadlet_text found ++ quadlet_text expected
-values_of (NoMove old value) = quadlet_text old ++ quadlet_text value
-values_of (NoEvent code) = quadlet_text code
-
 -- the note of self-ID packets that are no tree's
 abbrev pub tree_why_of : MapWhy → List ℕ
 tree_why_of Parents = codes ": Parents" ++ 10 ∷ []
@@ -146,7 +124,7 @@ note_of Usage = codes "usage" ++ 10 ∷ []
 note_of (Refused r) = codes "line " ++ decimal r.line ++ name_of r.why
 note_of (NoLog fault) = codes "byte " ++ decimal fault.place ++ why_of fault.why
 note_of (Stopped stop) = stop_note stop
-note_of (Unsound u) = codes "entry " ++ decimal u.entry ++ fault_of u.fault ++ values_of u.fault ++ 10 ∷ []
+note_of (Unsound u) = unsound_text u ++ 10 ∷ []
 note_of (NoMap no_map) = map_note no_map
 note_of (Unexplored why) = unexplored_note why
 

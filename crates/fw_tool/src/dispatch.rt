@@ -34,7 +34,7 @@ use crate::logs::ending_of_log;
 use crate::scripts::{ending_of_run, run_as};
 use crate::words::Word;
 use fw_log_words::read_as;
-use fw_outside::{Sink, Source, Stop};
+use fw_outside::{Flush, Source, Stop};
 use fw_script_words::run_seed;
 use fw_tape::Desk;
 use std::alloc::Global;
@@ -42,7 +42,7 @@ use std::alloc::Global;
 /// Does what the words say, and answers how that ended. Nothing is told yet.
 pub(crate) fn dispatch_form<
     S: Source,
-    K: Sink,
+    K: Flush,
     F: Fn(u16, u32, u16) -> [u8; 480],
     H: Fn(u32, u8) -> u8,
 >(alloc: Global, words: &[String], source: &mut S, sink: &mut K, desk: &Desk<F, H>) -> Ending

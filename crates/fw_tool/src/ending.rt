@@ -21,7 +21,8 @@ pub enum Ending {
     /// within that limit is refused. 8, `no memory`: memory was refused.
     Stopped(Stop),
     /// 9, `entry N: NAME VALUES`: entry N of the log, counted from 0, is the first that has a fault, and this is its first fault, with
-    /// its values as eight hexadecimal digits each. Nothing was written.
+    /// its values as eight hexadecimal digits each. If locks up to it were not judged, `, not judged M locks with labels other than 0`
+    /// stands behind it. `audit` wrote nothing, and `holders` the lines of the entries before.
     Unsound(Unsound),
     /// 10, `no reset`, or `node N: NAME`: the log has no bus reset, or no tree has the self-ID packets of its last one, and node N is
     /// the first that shows it. Nothing was written.

@@ -1,10 +1,9 @@
 //! The names that notes have for refusals and faults.
 
 ghost use Rattle.std.specs.Prelude.{◌≡◌, ◌≤◌, length};
-ghost use Rattle.fw_tool.specs.Notes.{stop_note, fault_of, tree_why_of, rule_of, name_of, why_of, word_why_of};
+ghost use Rattle.fw_tool.specs.Notes.{stop_note, tree_why_of, rule_of, name_of, why_of, word_why_of};
 
 use crate::Refusal;
-use fw_audit::AuditFault;
 use fw_explore_movers::WordWhy;
 use fw_log::LogWhy;
 use fw_map::MapWhy;
@@ -67,22 +66,6 @@ pub(crate) fn log_why(why: LogWhy) -> &'static [u8]
         LogWhy::Cut => b": Cut\n",
         LogWhy::NoEnd => b": NoEnd\n",
         LogWhy::BadEpoch(_) => b": BadEpoch\n",
-    }
-}
-
-/// The name of an audit's fault; its values follow it.
-pub(crate) fn fault_name(fault: AuditFault) -> &'static [u8]
-    ensures name { result.now ≡ fault_of fault }
-    ensures short { length result.now ≤ 12 }
-{
-    match fault {
-        AuditFault::NoNode(_) => b": NoNode",
-        AuditFault::Overlap(_) => b": Overlap",
-        AuditFault::Orphan(_) => b": Orphan",
-        AuditFault::NotAllowed(_, _) => b": NotAllowed",
-        AuditFault::WrongWord(_, _) => b": WrongWord",
-        AuditFault::NoMove(_, _) => b": NoMove",
-        AuditFault::NoEvent(_) => b": NoEvent",
     }
 }
 

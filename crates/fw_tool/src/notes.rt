@@ -2,74 +2,34 @@
 
 ghost use Rattle.std.specs.Prelude.{◌≡◌, ◌+◌, ◌<◌, ◌≤◌, ◌++◌, length};
 ghost use Rattle.arrayvec.specs.ArrayVec.{array_vec_len};
-ghost use Rattle.fw_log_text.specs.Line.{quadlet_text};
-ghost use Rattle.fw_tool.specs.Notes.{status_of, stop_status, values_of, map_note, unexplored_note, note_of, IsTold, IsPassedOn};
+ghost use Rattle.fw_tool.specs.Notes.{status_of, stop_status, map_note, unexplored_note, note_of, IsTold, IsPassedOn};
 
 use crate::ending::{Ending, Unexplored};
-use crate::names::{fault_name, log_why, refusal, stop_note, tree_why, word_why};
+use crate::names::{log_why, refusal, stop_note, tree_why, word_why};
 use arrayvec::ArrayVec;
-use fw_audit::AuditFault;
-use fw_log_text::quadlet_word;
+use fw_log_reports::unsound_text;
 use fw_log_words::NoMap;
 use fw_outside::{Failed, Sink, Stop};
 use itoa::Buffer;
 
-/// Room for any note, in bytes: the longest has 57, that of an entry of twenty digits with two values.
-pub const NOTE_ROOM: usize = 64;
+/// Room for any note, in bytes: the longest has 121, that of an entry that has a fault, after locks that no audit judges.
+pub const NOTE_ROOM: usize = 128;
 
 /// A note.
 type Note = ArrayVec<u8, NOTE_ROOM>;
 
 /// Appends a text.
 fn put(note: &mut Note, text: &[u8])
-    requires { array_vec_len note.old + length text.now ≤ 64 }
+    requires { array_vec_len note.old + length text.now ≤ 128 }
     ensures bytes { note.new.items ≡ note.old.items ++ text.now }
     ensures len { array_vec_len note.new ≡ array_vec_len note.old + length text.now }
 {
     let _ = note.try_extend_from_slice(text);
 }
 
-/// Appends a value of a fault.
-fn put_value(note: &mut Note, value: u32)
-    requires { array_vec_len note.old + 9 ≤ 64 }
-    ensures bytes { note.new.items ≡ note.old.items ++ quadlet_text value }
-    ensures len { array_vec_len note.new ≡ array_vec_len note.old + 9 }
-{
-    put(note, &quadlet_word(value));
-}
-
-/// Appends two values.
-fn put_values(note: &mut Note, first: u32, second: u32)
-    requires { array_vec_len note.old + 18 ≤ 64 }
-    ensures bytes { note.new.items ≡ note.old.items ++ (quadlet_text first ++ quadlet_text second) }
-    ensures len { array_vec_len note.new ≡ array_vec_len note.old + 18 }
-{
-    put_value(note, first);
-    put_value(note, second);
-}
-
-/// Appends the values of a fault.
-fn put_fault(note: &mut Note, fault: AuditFault)
-    requires { array_vec_len note.old + 18 ≤ 64 }
-    ensures bytes { note.new.items ≡ note.old.items ++ values_of fault }
-    ensures len { array_vec_len note.new ≤ array_vec_len note.old + 18 }
-{
-    match fault {
-        AuditFault::NoNode(id) => put_value(note, u32::from(id)),
-        AuditFault::Overlap(id) => put_value(note, u32::from(id)),
-        AuditFault::Orphan(id) => put_value(note, u32::from(id)),
-        AuditFault::NotAllowed(id, offset) => {
-            put_values(note, u32::from(id), u32::from(offset));
-        }
-        AuditFault::WrongWord(found, expected) => put_values(note, found, expected),
-        AuditFault::NoMove(old, new) => put_values(note, old, new),
-        AuditFault::NoEvent(code) => put_value(note, u32::from(code)),
-    }
-}
-
 /// Appends why a log has no map.
 fn put_no_map(note: &mut Note, no_map: NoMap)
-    requires { array_vec_len note.old + 40 ≤ 64 }
+    requires { array_vec_len note.old + 40 ≤ 128 }
     ensures { note.new.items ≡ note.old.items ++ map_note no_map }
 {
     match no_map {
@@ -84,7 +44,7 @@ fn put_no_map(note: &mut Note, no_map: NoMap)
 
 /// Appends why nothing was explored.
 fn put_unexplored(note: &mut Note, why: Unexplored)
-    requires { array_vec_len note.old + 40 ≤ 64 }
+    requires { array_vec_len note.old + 40 ≤ 128 }
     ensures { note.new.items ≡ note.old.items ++ unexplored_note why }
 {
     match why {
@@ -117,10 +77,7 @@ fn note(ending: Ending) -> Note
         }
         Ending::Stopped(stop) => put(&mut note, stop_note(stop)),
         Ending::Unsound(flaw) => {
-            put(&mut note, b"entry ");
-            put(&mut note, Buffer::new().format(flaw.entry).as_bytes());
-            put(&mut note, fault_name(flaw.fault));
-            put_fault(&mut note, flaw.fault);
+            put(&mut note, unsound_text(&flaw).as_slice());
             put(&mut note, b"\n");
         }
         Ending::NoMap(no_map) => put_no_map(&mut note, no_map),

@@ -10,7 +10,6 @@ use Rattle.fw_async.specs.declared.packet.Head.{Head}
 use Rattle.fw_async.specs.declared.packet.Packet.{Packet}
 use Rattle.fw_async.specs.declared.packet.Packet.TheVariants.{WriteQuadlet, WriteBlock, WriteReply, ReadQuadlet, ReadBlock, ReadQuadletReply, ReadBlockReply, CycleStart, Lock, LockReply}
 use Rattle.fw_words.specs.Quadlet.{quadlet_at}
-use Rattle.fw_words.specs.Swaps.{quadlet_swap, swap_bytes}
 use Rattle.fw_words.specs.declared.swap.Swap.{Swap}
 use Rattle.fw_log_entry.specs.declared.entry.Entry.TheVariants.{Async}
 use Rattle.fw_log_registers.specs.declared.place.RegisterPlace.{RegisterPlace}
@@ -172,13 +171,7 @@ pub request_kept : {X E : Type 0} (result : Result X E) (t t' : Traced) (cycle :
     → OnOk result (t'.telling ≡ telling_after t.telling (record { cycle = cycle; what = Async p }))
 request_kept result t t' cycle p q carried e same put = kept_same result t' _ _ (request_keeps t.telling cycle p q carried e same) put
 
--- ---- swaps, from their bytes
-
-pub swap_back : (s : Swap) → s.argument < 2 ^ 32 → s.new < 2 ^ 32 → quadlet_swap 2 (swap_bytes s) ≡ Some s
-swap_back s low small =
-    let first : quadlet_at (swap_bytes s) 0 ≡ s.argument = from_be_bytes-to_be_bytes_4 s.argument low in
-    let second : quadlet_at (swap_bytes s) 4 ≡ s.new = from_be_bytes-to_be_bytes_4 s.new small in
-    ap (λ (n : ℕ). Some (record { argument = n; new = quadlet_at (swap_bytes s) 4 })) first ∙ ap (λ (n : ℕ). Some (record { argument = s.argument; new = n })) second
+-- ---- a quadlet, from its bytes
 
 pub word_back : (word : ℕ) → word < 2 ^ 32 → quadlet_of (to_be_bytes w32 word) ≡ Some word
 word_back word small = ap Some (from_be_bytes-to_be_bytes_4 word small)

@@ -7,7 +7,7 @@ use Rattle.fw_log_entry.specs.declared.entry.OutcomeEntry.{OutcomeEntry}
 use Rattle.fw_log_entry.specs.declared.entry.ResetEntry.{ResetEntry}
 use Rattle.fw_log_entry.specs.declared.entry.ShownEntry.{ShownEntry}
 use Rattle.fw_log_names.specs.Names.{event_name, event_saying, outcome_name}
-use Rattle.fw_log_names.specs.Texts.{named}
+use Rattle.fw_text.specs.Texts.{named}
 use Rattle.fw_log_registers.specs.Words.{place_text}
 use Rattle.fw_log_explain.specs.Lines.{saying_text, tape_text, value_text, shown_place}
 use Rattle.fw_trace_lines.specs.Jobs.{doing_text}

@@ -1,16 +1,14 @@
 //! Bus resets, events, outcomes and shown words.
 
 ghost use Rattle.std.specs.Prelude.{◌≡◌, ◌++◌, OnOk};
-ghost use Rattle.fw_log_explain.specs.Lines.{shown_place};
 ghost use Rattle.fw_trace_lines.specs.Told.{manager_text, reset_text, event_device, event_text, missing_text, outcome_value, outcome_text, shown_text};
 
 use crate::job::{TracedConnection, put_doing};
-use crate::sayings::{put_saying, put_tape, put_value};
-use fw_csr::REGISTER_SPACE;
 use fw_log_entry::codes::{NO_DEVICE, outcome};
 use fw_log_entry::{EventEntry, OutcomeEntry, ResetEntry, ShownEntry};
+use fw_log_explain::{put_saying, put_tape, put_value, shown_place};
 use fw_log_names::{Pairs, event_name, event_saying, outcome_name, put_word};
-use fw_log_registers::{RegisterPlace, put_place};
+use fw_log_registers::append_place;
 use fw_trace_names::{Names, put_named_part, put_named_word, put_part};
 use std::alloc::AllocError;
 
@@ -115,13 +113,6 @@ pub(crate) fn put_outcome(
     put_outcome_value(text, pairs, names, o.code, o.value)
 }
 
-// What stands where a word is shown.
-fn shown_place(s: &ShownEntry) -> RegisterPlace
-    ensures { result ≡ shown_place s.now }
-{
-    RegisterPlace::of(REGISTER_SPACE + u64::from(s.offset))
-}
-
 // Appends a shown word.
 #[tactic(auto, unfolding(crate::specs::Told::shown_text))]
 pub(crate) fn put_shown(
@@ -136,6 +127,6 @@ pub(crate) fn put_shown(
     put_word(text, "shown ")?;
     names.put_device(text, u32::from(s.device))?;
     put_word(text, " ")?;
-    put_place(text, pairs, place)?;
+    append_place(text, place)?;
     put_named_word(text, pairs, names, place, s.word)
 }

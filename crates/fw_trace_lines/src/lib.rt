@@ -9,7 +9,6 @@ mod job;
 mod jobs;
 mod laws;
 mod line;
-mod sayings;
 mod streams;
 mod tracer;
 mod traffic;

@@ -4,7 +4,7 @@ use Rattle.fw_async_fields.specs.NodeIds.{number_of}
 use Rattle.fw_script_command.specs.declared.command.Command.{Command}
 use Rattle.fw_script_command.specs.declared.command.Command.TheVariants.{Device}
 use Rattle.fw_log_entry.specs.declared.nodes.NodeRow.{NodeRow}
-use Rattle.fw_log_names.specs.Texts.{named}
+use Rattle.fw_text.specs.Texts.{named}
 
 -- the names of the devices in order of declaration, and the device that each node is since the latest bus reset
 pub record Naming : Type 0 where

@@ -2,7 +2,7 @@
 use Rattle.std.specs.Prelude.{ℕ, ◌==◌, List, [], ◌++◌, codes, decimal, if◌then◌else◌}
 use Rattle.fw_words.specs.Quadlet.{field}
 use Rattle.fw_words.specs.declared.swap.Swap.{Swap}
-use Rattle.fw_log_names.specs.Texts.{quadlet_text}
+use Rattle.fw_text.specs.Texts.{quadlet_text}
 use Rattle.fw_log_registers.specs.declared.place.RegisterPlace.{RegisterPlace}
 use Rattle.fw_log_registers.specs.declared.place.RegisterPlace.TheVariants.{Named}
 use Rattle.fw_log_registers.specs.declared.register.NamedRegister.TheVariants.{OutputPlug, InputPlug, BusManagerId}

@@ -2,7 +2,7 @@
 
 ghost use Rattle.std.specs.Prelude.{◌≡◌, ◌≤◌, ◌++◌, OnOk, decimal, take};
 ghost use Rattle.std.specs.Option.{option_copied};
-ghost use Rattle.fw_log_names.specs.Texts.{named};
+ghost use Rattle.fw_text.specs.Texts.{named};
 ghost use Rattle.fw_trace_names.specs.CausedLines.{at_cycle};
 
 use fw_log_names::{CycleRow, put_named, put_number, put_word};

@@ -7,7 +7,7 @@ ghost use Rattle.fw_trace_names.specs.Registers.{number_told, connections_told, 
 use crate::naming::Names;
 use crate::parts::put_part;
 use fw_log_names::{Pairs, put_quadlet, put_word};
-use fw_log_registers::{NamedRegister, RegisterPlace, RegisterValue, put_told};
+use fw_log_registers::{NamedRegister, RegisterPlace, RegisterValue, append_told};
 use fw_words::Quadlet;
 use std::alloc::AllocError;
 
@@ -106,7 +106,6 @@ fn put_manager(text: &mut Vec<u8>, names: &Names, told: RegisterValue) -> Result
 #[tactic(auto, unfolding(crate::specs::Registers::named_told))]
 pub fn put_named_told(
     text: &mut Vec<u8>,
-    pairs: &Pairs,
     names: &Names,
     place: RegisterPlace,
     told: RegisterValue,
@@ -118,7 +117,7 @@ pub fn put_named_told(
             put_connections(text, told)
         }
         RegisterPlace::Named(NamedRegister::BusManagerId, _) => put_manager(text, names, told),
-        other => put_told(text, pairs, other, told),
+        other => append_told(text, other, told),
     }
 }
 
@@ -134,5 +133,5 @@ pub fn put_named_word(
     ensures { OnOk result (text.new.items ≡ text.old.items ++ named_word names.now place word) }
 {
     put_quadlet(text, pairs, word)?;
-    put_named_told(text, pairs, names, place, RegisterValue::Word(word))
+    put_named_told(text, names, place, RegisterValue::Word(word))
 }

@@ -1,7 +1,7 @@
 -- What is told of a place without a name is the same by any names.
 use Rattle.std.proofs.Common.{◌≡◌, refl, ap, ℕ, ◌==◌, List, ◌++◌, Some, None, if◌then◌else◌}
 use Rattle.std.specs.Prelude.{codes}
-use Rattle.fw_log_names.specs.Texts.{quadlet_text}
+use Rattle.fw_text.specs.Texts.{quadlet_text}
 use Rattle.fw_log_registers.specs.declared.place.RegisterPlace.{RegisterPlace}
 use Rattle.fw_log_registers.specs.declared.told.RegisterValue.{RegisterValue}
 use Rattle.fw_log_registers.specs.declared.told.RegisterValue.TheVariants.{Word as TheWord, Swap as TheSwap}

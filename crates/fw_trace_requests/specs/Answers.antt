@@ -6,7 +6,7 @@ use Rattle.fw_words.specs.declared.swap.Swap.{Swap}
 use Rattle.fw_async.specs.declared.packet.Packet.{Packet}
 use Rattle.fw_async.specs.declared.packet.Packet.TheVariants.{WriteQuadlet, WriteBlock, WriteReply, ReadQuadletReply, ReadBlockReply, LockReply}
 use Rattle.fw_log_names.specs.Names.{rcode_name}
-use Rattle.fw_log_names.specs.Texts.{named, quadlet_text}
+use Rattle.fw_text.specs.Texts.{named, quadlet_text}
 use Rattle.fw_log_registers.specs.declared.place.RegisterPlace.{RegisterPlace}
 use Rattle.fw_log_registers.specs.Places.{place_of}
 use Rattle.fw_log_registers.specs.Words.{place_text}

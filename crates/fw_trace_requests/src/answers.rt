@@ -83,16 +83,11 @@ pub(crate) fn put_changes(
 
 // Appends what a request would change that no answer has decided.
 #[tactic(auto, unfolding(crate::specs::Answers::changes_by, crate::specs::Answers::if_made))]
-fn put_changes_if_made(
-    text: &mut Vec<u8>,
-    pairs: &Pairs,
-    names: &Names,
-    q: &Asked,
-) -> Result<(), AllocError>
+fn put_changes_if_made(text: &mut Vec<u8>, names: &Names, q: &Asked) -> Result<(), AllocError>
     ensures { OnOk result (text.new.items ≡ text.old.items ++ if_made (changes_asked names.now q.now)) }
 {
     match q.swap {
-        Some(swap) => put_if_made(text, pairs, names, RegisterPlace::of(q.offset), swap),
+        Some(swap) => put_if_made(text, names, RegisterPlace::of(q.offset), swap),
         None => Ok(()),
     }
 }
@@ -110,8 +105,8 @@ fn put_apart(
     ensures { OnOk result (text.new.items ≡ text.old.items ++ (asked_text q.now ++ (frame_told carried ++ if_made (changes_asked names.now q.now)))) }
 {
     put_asked(text, pairs, memo, names, q)?;
-    put_frame_of(text, pairs, carried)?;
-    put_changes_if_made(text, pairs, names, q)
+    put_frame_of(text, carried)?;
+    put_changes_if_made(text, names, q)
 }
 
 // Appends what a request asks, carries and would change.

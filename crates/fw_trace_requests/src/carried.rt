@@ -5,8 +5,7 @@ ghost use Rattle.fw_trace_requests.specs.Answers.{carried_text};
 ghost use Rattle.fw_trace_requests.specs.Carried.{frame_told, pair_bytes};
 
 use fw_async::Packet;
-use fw_log_frames::put_frame;
-use fw_log_names::Pairs;
+use fw_log_frames::append_frame;
 use std::alloc::AllocError;
 
 /// What a request carries whose line is made when its turn comes: most frames are the quadlet of a write, or a block of two.
@@ -31,28 +30,24 @@ fn pair_bytes(first: u32, second: u32) -> [u8; 8]
 
 // Appends the frame that is carried, if any.
 #[tactic(auto, unfolding(crate::specs::Carried::frame_told))]
-pub(crate) fn put_frame_of(
-    text: &mut Vec<u8>,
-    pairs: &Pairs,
-    carried: Carried,
-) -> Result<(), AllocError>
+pub(crate) fn put_frame_of(text: &mut Vec<u8>, carried: Carried) -> Result<(), AllocError>
     ensures { OnOk result (text.new.items ≡ text.old.items ++ frame_told carried) }
 {
     match carried {
         Carried::Nothing => Ok(()),
-        Carried::Quadlet(quadlet) => put_frame(text, pairs, &quadlet.to_be_bytes()),
-        Carried::Pair(first, second) => put_frame(text, pairs, &pair_bytes(first, second)),
+        Carried::Quadlet(quadlet) => append_frame(text, &quadlet.to_be_bytes()),
+        Carried::Pair(first, second) => append_frame(text, &pair_bytes(first, second)),
     }
 }
 
 // Appends the frame that a request carries.
 #[tactic(auto, unfolding(crate::specs::Answers::carried_text))]
-pub(crate) fn put_carried(text: &mut Vec<u8>, pairs: &Pairs, p: &Packet) -> Result<(), AllocError>
+pub(crate) fn put_carried(text: &mut Vec<u8>, p: &Packet) -> Result<(), AllocError>
     ensures { OnOk result (text.new.items ≡ text.old.items ++ carried_text p.now) }
 {
     match p {
-        Packet::WriteQuadlet { value, .. } => put_frame(text, pairs, &value.to_be_bytes()),
-        Packet::WriteBlock { bytes, .. } => put_frame(text, pairs, bytes.as_slice()),
+        Packet::WriteQuadlet { value, .. } => append_frame(text, &value.to_be_bytes()),
+        Packet::WriteBlock { bytes, .. } => append_frame(text, bytes.as_slice()),
         _ => Ok(()),
     }
 }

@@ -84,7 +84,7 @@ fn put_carrying(
     ensures { OnOk result (line.new.items ≡ line.old.items ++ (id_text names.now q.now.destination ++ codes " " ++ asked_text q.now ++ carried_text p.now)) }
 {
     put_told(line, pairs, memo, names, q)?;
-    put_carried(line, pairs, p)
+    put_carried(line, p)
 }
 
 // Appends who is asked, and what, and the frame that is carried.
@@ -99,7 +99,7 @@ fn put_bare(
     ensures { OnOk result (line.new.items ≡ line.old.items ++ (id_text names.now q.now.destination ++ codes " " ++ asked_text q.now ++ frame_told carried)) }
 {
     put_told(line, pairs, memo, names, q)?;
-    put_frame_of(line, pairs, carried)
+    put_frame_of(line, carried)
 }
 
 // Puts what a request would change in place of what was there.

@@ -31,7 +31,7 @@ fn put_apart(
     ensures { OnOk result (text.new.items ≡ text.old.items ++ (asked_text q.now ++ (frame_told carried ++ reply_text names.now q.now r.now))) }
 {
     put_asked(text, pairs, memo, names, q)?;
-    put_frame_of(text, pairs, carried)?;
+    put_frame_of(text, carried)?;
     put_answer(text, pairs, memo, names, q, r)
 }
 

@@ -10,22 +10,17 @@ ghost use Rattle.fw_trace_requests.specs.Phrases.{words_text};
 use crate::carried::{Carried, put_frame_of};
 use crate::phrase::Words;
 use fw_log_names::{Pairs, put_quadlet, put_word};
-use fw_log_registers::{RegisterPlace, RegisterValue, put_place};
+use fw_log_registers::{RegisterPlace, RegisterValue, append_place};
 use fw_trace_names::{Names, put_named_told, put_named_word};
 use fw_words::Swap;
 use std::alloc::AllocError;
 
 // Appends a word, and what stands at a place.
-fn put_at(
-    text: &mut Vec<u8>,
-    pairs: &Pairs,
-    word: &str,
-    place: RegisterPlace,
-) -> Result<(), AllocError>
+fn put_at(text: &mut Vec<u8>, word: &str, place: RegisterPlace) -> Result<(), AllocError>
     ensures { OnOk result (text.new.items ≡ text.old.items ++ (word.now ++ place_text place)) }
 {
     put_word(text, word)?;
-    put_place(text, pairs, place)
+    append_place(text, place)
 }
 
 // Appends a swap that is asked.
@@ -39,9 +34,9 @@ fn put_swap_asked(
     ensures { OnOk result (text.new.items ≡ text.old.items ++ swap_asked place swap) }
 {
     let Some(swap) = swap else {
-        return put_at(text, pairs, "lock ", place);
+        return put_at(text, "lock ", place);
     };
-    put_at(text, pairs, "swap ", place)?;
+    put_at(text, "swap ", place)?;
     put_quadlet(text, pairs, swap.argument)?;
     put_word(text, " to")?;
     put_quadlet(text, pairs, swap.new)
@@ -50,7 +45,6 @@ fn put_swap_asked(
 // Appends what a swap at a place changes.
 fn put_changes_of(
     text: &mut Vec<u8>,
-    pairs: &Pairs,
     names: &Names,
     place: RegisterPlace,
     swap: Swap,
@@ -61,7 +55,7 @@ fn put_changes_of(
         old: swap.argument,
         new: swap.new,
     };
-    put_named_told(text, pairs, names, place, told)
+    put_named_told(text, names, place, told)
 }
 
 // Appends a read that is asked, and the word that it brings.
@@ -74,7 +68,7 @@ fn put_read(
 ) -> Result<(), AllocError>
     ensures { OnOk result (text.new.items ≡ text.old.items ++ (codes "read " ++ place_text place ++ named_word names.now place word)) }
 {
-    put_at(text, pairs, "read ", place)?;
+    put_at(text, "read ", place)?;
     put_named_word(text, pairs, names, place, word)
 }
 
@@ -82,7 +76,6 @@ fn put_read(
 #[tactic(auto, unfolding(crate::specs::Answers::if_made))]
 pub(crate) fn put_if_made(
     text: &mut Vec<u8>,
-    pairs: &Pairs,
     names: &Names,
     place: RegisterPlace,
     swap: Swap,
@@ -92,7 +85,7 @@ pub(crate) fn put_if_made(
     let before = text.len();
     put_word(text, "; if made")?;
     let begins = text.len();
-    put_changes_of(text, pairs, names, place, swap)?;
+    put_changes_of(text, names, place, swap)?;
     if text.len() == begins {
         text.truncate(before);
     }
@@ -110,7 +103,7 @@ fn put_proposed(
     ensures { OnOk result (text.new.items ≡ text.old.items ++ (swap_asked place (Some swap) ++ if_made (changes_of names.now place swap))) }
 {
     put_swap_asked(text, pairs, place, Some(swap))?;
-    put_if_made(text, pairs, names, place, swap)
+    put_if_made(text, names, place, swap)
 }
 
 // Appends that a swap was not made that found this word.
@@ -142,7 +135,7 @@ fn put_made(
 {
     if word == swap.argument {
         put_word(text, ": made")?;
-        put_changes_of(text, pairs, names, place, swap)
+        put_changes_of(text, names, place, swap)
     } else {
         put_not_made(text, pairs, names, place, word)
     }
@@ -164,16 +157,11 @@ fn put_swapped(
 }
 
 // Appends a write that is asked, and the frame that it carries.
-fn put_written(
-    text: &mut Vec<u8>,
-    pairs: &Pairs,
-    place: RegisterPlace,
-    carried: Carried,
-) -> Result<(), AllocError>
+fn put_written(text: &mut Vec<u8>, place: RegisterPlace, carried: Carried) -> Result<(), AllocError>
     ensures { OnOk result (text.new.items ≡ text.old.items ++ (codes "write " ++ place_text place ++ frame_told carried)) }
 {
-    put_at(text, pairs, "write ", place)?;
-    put_frame_of(text, pairs, carried)
+    put_at(text, "write ", place)?;
+    put_frame_of(text, carried)
 }
 
 // Appends what is told of a place.
@@ -188,14 +176,14 @@ pub(crate) fn put_words(
     ensures { OnOk result (text.new.items ≡ text.old.items ++ words_text names.now place words) }
 {
     match words {
-        Words::Write => put_at(text, pairs, "write ", place),
-        Words::Read => put_at(text, pairs, "read ", place),
+        Words::Write => put_at(text, "write ", place),
+        Words::Read => put_at(text, "read ", place),
         Words::Lock(swap) => put_swap_asked(text, pairs, place, swap),
         Words::Word(word) => put_named_word(text, pairs, names, place, word),
-        Words::Change(swap) => put_changes_of(text, pairs, names, place, swap),
+        Words::Change(swap) => put_changes_of(text, names, place, swap),
         Words::Brought(word) => put_read(text, pairs, names, place, word),
         Words::Proposed(swap) => put_proposed(text, pairs, names, place, swap),
         Words::Swapped(swap, word) => put_swapped(text, pairs, names, place, swap, word),
-        Words::Written(carried) => put_written(text, pairs, place, carried),
+        Words::Written(carried) => put_written(text, place, carried),
     }
 }

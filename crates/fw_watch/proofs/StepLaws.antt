@@ -17,7 +17,8 @@ use Rattle.fw_watch_known.proofs.UsualLaws.{usual_row, usual_heard}
 use Rattle.fw_watch_remarks.specs.Remarks.{WatchOutput, told}
 use Rattle.fw_watch.specs.Hearing.{start_remarks, two_remarks, free_remarks, owners_remarks, wrong_remarks, heard_remarks}
 use Rattle.fw_watch.specs.Holding.{held_remarks}
-use Rattle.fw_watch.specs.Steps.{IsBusOf, at_cycle, reset_remarks, what_remarks, after_what, ticked, remarks, after}
+use Rattle.fw_log_latest.specs.Latest.{IsBusOf}
+use Rattle.fw_watch.specs.Steps.{at_cycle, reset_remarks, what_remarks, after_what, ticked, remarks, after}
 use Rattle.fw_watch.proofs.WatchLaws.{told_more}
 
 -- a packet that shows nothing tells nothing

@@ -28,12 +28,6 @@ use Rattle.fw_watch.specs.Answering.{packet_remarks, after_packet}
 unfoldable pub reset_remarks : ℕ → ResetEntry → List Said
 reset_remarks cycle r = said cycle (Reset r.epoch (length r.nodes) r.manager) ∷ []
 
--- a reset has the epoch, the nodes and the resource manager of another: no more of it is looked at
-pub record IsBusOf (whole r : ResetEntry) : Type 0 where
-  pub epoch : whole.epoch ≡ r.epoch
-  pub nodes : whole.nodes ≡ r.nodes
-  pub manager : whole.manager ≡ r.manager
-
 -- an event: the log says that the second is over, or a controller died
 unfoldable pub after_event : EventEntry → State → State
 after_event e s =

@@ -8,7 +8,8 @@ ghost use Rattle.fw_async.specs.declared.packet.Packet.{Packet as AsyncPacket};
 ghost use Rattle.fw_log_entry.specs.declared.entry.Entry.TheVariants.{Async, Iso, Reset as ResetOf};
 ghost use Rattle.fw_log_entry.specs.declared.entry.ResetEntry.{ResetEntry as AReset};
 ghost use Rattle.fw_watch.specs.Holding.{held_remarks};
-ghost use Rattle.fw_watch.specs.Steps.{at_cycle, ticked, IsBusOf, reset_remarks, shown_at, shown_remarks, after_shown, after_event, what_remarks, after_what, remarks, after};
+ghost use Rattle.fw_log_latest.specs.Latest.{IsBusOf};
+ghost use Rattle.fw_watch.specs.Steps.{at_cycle, ticked, reset_remarks, shown_at, shown_remarks, after_shown, after_event, what_remarks, after_what, remarks, after};
 
 use crate::answer::{take_packet, take_packet_bytes};
 use crate::hear::take_iso;

@@ -6,7 +6,8 @@ ghost use Rattle.fw_async.specs.Reader.{IsPacket, Spells};
 ghost use Rattle.fw_async.specs.declared.packet.Packet.{Packet as AsyncPacket};
 ghost use Rattle.fw_log_entry.specs.declared.entry.Entry.TheVariants.{Async, Iso, Reset as ResetOf};
 ghost use Rattle.fw_log_entry.specs.declared.entry.ResetEntry.{ResetEntry as AReset};
-ghost use Rattle.fw_watch.specs.Steps.{at_cycle, IsBusOf};
+ghost use Rattle.fw_log_latest.specs.Latest.{IsBusOf};
+ghost use Rattle.fw_watch.specs.Steps.{at_cycle};
 ghost use Rattle.fw_watch.specs.Watched.{Watches, watched, watched_end, resets_text, unseen_text, judged_text, last_text};
 
 use crate::step::{follow_entry, step_iso, step_packet, step_reset};

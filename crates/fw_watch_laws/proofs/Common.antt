@@ -1,7 +1,7 @@
 -- What most files of proofs import.
 pub use Rattle.fw_model_account.specs.Account.{Account, Allocation, Locks, Operation, Reads, Request, total}
 pub use Rattle.fw_model_account.specs.Decode.{move_at, register_of_move}
-pub use Rattle.fw_model_account.specs.Events.{after_reset, after_second, after_withholding}
+pub use Rattle.fw_model_account.specs.Events.{after_second, after_withholding}
 pub use Rattle.fw_model_account.specs.Fold.{next_account, no_account}
 pub use Rattle.fw_model_account.specs.Moves.{AllocateChannel, AllocateUnits, ConnectFirst, ConnectInput, ConnectOverlaid, DisconnectInput, DisconnectOutput, Move, ReleaseChannel, ReleaseUnits}
 pub use Rattle.fw_model_account.specs.Packets.{Locked, Read as ReadReply, Reply, asked, asked_by, ended, is_reply_to, is_swapped, replied}
@@ -50,7 +50,6 @@ pub use Rattle.fw_watch_remarks.specs.Registers.{is_managed}
 unfoldable pub use Rattle.fw_watch_remarks.specs.Registers.{register_at}
 pub use Rattle.fw_watch_remarks.specs.Remarks.{Said, said}
 pub use Rattle.fw_watch_remarks.specs.declared.known.Known.{Known}
-pub use Rattle.fw_watch_remarks.specs.declared.known.Managed.{Managed}
 pub use Rattle.fw_watch_remarks.specs.declared.register.At.{At}
 pub use Rattle.fw_watch_remarks.specs.declared.register.WatchedRegister.{WatchedRegister}
 pub use Rattle.fw_watch_remarks.specs.declared.register.WatchedRegister.TheVariants.{Bandwidth, ChannelsHigh, ChannelsLow, Input, Output}

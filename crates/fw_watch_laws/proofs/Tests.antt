@@ -4,8 +4,8 @@ use Rattle.fw_watch_remarks.specs.declared.remark.Remark.{Remark}
 use Rattle.fw_watch_remarks.specs.declared.remark.Remark.TheVariants.{Reset, Units, Takes, Returns, Plug, Sends, UnusedChannel, NotManager}
 use Rattle.fw_watch_remarks.specs.declared.remark.Remark.TheVariants.{TooMany, Several, MoreThanMove, TwoSenders, NotTaken, OtherPlug}
 use Rattle.fw_watch_laws.specs.ChangedUnseen.{tells_unseen}
-use Rattle.fw_watch_laws.specs.Orderly.{is_not_manager, is_too_many, is_several, is_more, is_new_in_second}
-use Rattle.fw_watch_laws.proofs.Remarked.{Kind, OfWord, OfRefused, OfMany, OfUnits, OfNew, OfSeveral, OfMore, kind_of}
+use Rattle.fw_watch_laws.specs.Orderly.{is_not_manager, is_too_many, is_several, is_more}
+use Rattle.fw_watch_laws.proofs.Remarked.{Kind, OfWord, OfRefused, OfMany, OfSeveral, OfMore, kind_of}
 
 abbrev pub is_of_word : Kind → Bool
 is_of_word OfWord = true
@@ -121,27 +121,3 @@ is_more_by (MoreThanMove by at old new) = refl
 is_more_by (TwoSenders channel first second) = refl
 is_more_by (NotTaken channel node) = refl
 is_more_by (OtherPlug channel node owners) = refl
-
-abbrev pub is_of_second : Kind → Bool
-is_of_second OfUnits = true
-is_of_second OfNew = true
-is_of_second _ = false
-
-pub is_new_in_second_by : (r : Remark) → is_new_in_second r ≡ is_of_second (kind_of r)
-is_new_in_second_by (Reset epoch nodes manager) = refl
-is_new_in_second_by (Units by old new) = refl
-is_new_in_second_by (Takes by channel) = refl
-is_new_in_second_by (Returns by channel) = refl
-is_new_in_second_by (Plug by at old new) = refl
-is_new_in_second_by (Unseen at known found) = refl
-is_new_in_second_by (Sends node channel) = refl
-is_new_in_second_by (UnusedChannel node channel) = refl
-is_new_in_second_by (NotManager by at manager) = refl
-is_new_in_second_by (TooMany by left) = refl
-is_new_in_second_by (UnitsInSecond by epoch taken held) = refl
-is_new_in_second_by (NewInSecond by channel epoch) = refl
-is_new_in_second_by (Several by count) = refl
-is_new_in_second_by (MoreThanMove by at old new) = refl
-is_new_in_second_by (TwoSenders channel first second) = refl
-is_new_in_second_by (NotTaken channel node) = refl
-is_new_in_second_by (OtherPlug channel node owners) = refl

@@ -2,4 +2,3 @@ pub mod LastKnown
 pub mod ChangedUnseen
 pub mod TwoSenders
 pub mod Orderly
-pub mod Counting

@@ -1,30 +1,24 @@
 -- Logs without an audit fault, in which `watch` finds nothing; and what it does not find there.
-use Rattle.std.specs.Prelude.{◌≡◌, ◌≢◌, ◌<◌, ℕ, ◌+◌, ◌*◌, ⊤, IsTrue, is_some, Bool, true, false, List, [], ◌∷◌, ◌++◌, length, Option, Some, None}
+use Rattle.std.specs.Prelude.{◌≡◌, ℕ, ◌+◌, ◌*◌, ⊤, IsTrue, is_some, Bool, true, false, List}
 use Rattle.std.specs.List.{All, list_any}
 use Rattle.fw_terms.specs.declared.label.Label.TheVariants.{Procedure}
 use Rattle.fw_terms.specs.Labels.{label_code}
 use Rattle.fw_csr.specs.declared.low_offset.TheConstants.{BANDWIDTH_AVAILABLE, CHANNELS_AVAILABLE_HI, CHANNELS_AVAILABLE_LO, OPCR, IPCR}
-use Rattle.fw_async.specs.declared.packet.Head.{Head}
 use Rattle.fw_async.specs.declared.packet.Packet.{Packet}
 use Rattle.fw_async.specs.declared.packet.Packet.TheVariants.{WriteQuadlet, WriteBlock, WriteReply, ReadQuadlet, ReadBlock, ReadQuadletReply, ReadBlockReply, CycleStart, Lock, LockReply}
 use Rattle.fw_log_entry.specs.Log.{InOrder}
-use Rattle.fw_log_entry.specs.declared.entry.ResetEntry.{ResetEntry}
 use Rattle.fw_log_entry.specs.declared.entry.Entry.{Entry}
 use Rattle.fw_log_entry.specs.declared.entry.Entry.TheVariants.{Reset, Async, Iso, Event, Outcome, Shown, End}
 use Rattle.fw_log_entry.specs.declared.entry.Timed.{Timed}
-use Rattle.fw_model_account.specs.Account.{Account}
-use Rattle.fw_model_account.specs.Words.{word_at}
-use Rattle.fw_model_account.specs.Fold.{account_of, entries_of}
+use Rattle.fw_model_account.specs.Fold.{entries_of}
 use Rattle.fw_model_audit.specs.Audited.{IsAudited}
 use Rattle.fw_watch_remarks.specs.declared.remark.Remark.{Remark}
-use Rattle.fw_watch_remarks.specs.declared.remark.Remark.TheVariants.{NotManager, TooMany, UnitsInSecond, NewInSecond, Several, MoreThanMove}
+use Rattle.fw_watch_remarks.specs.declared.remark.Remark.TheVariants.{NotManager, TooMany, Several, MoreThanMove}
 use Rattle.fw_watch_remarks.specs.declared.register.WatchedRegister.{WatchedRegister}
 use Rattle.fw_watch_remarks.specs.declared.register.WatchedRegister.TheVariants.{Bandwidth, ChannelsHigh, ChannelsLow, Output, Input}
 use Rattle.fw_watch_remarks.specs.Registers.{register_at}
 use Rattle.fw_watch_remarks.specs.Remarks.{Said}
-use Rattle.fw_watch_requests.specs.declared.asked.Answer.{Answer}
-use Rattle.fw_watch_requests.specs.Standing.{answer_of}
-use Rattle.fw_watch.specs.Watched.{known, all_remarks}
+use Rattle.fw_watch.specs.Watched.{all_remarks}
 
 -- a lock at a watched register has the label of procedures
 abbrev pub IsLabelled : Packet → Type 0
@@ -49,29 +43,6 @@ IsLabelledIn (Outcome o) = ⊤
 IsLabelledIn (Shown w) = ⊤
 IsLabelledIn End = ⊤
 
--- no write and no block read has that label
-abbrev pub IsApartOf : Packet → Type 0
-IsApartOf (WriteQuadlet h offset value) = h.tl ≢ label_code Procedure
-IsApartOf (WriteBlock h offset bytes) = h.tl ≢ label_code Procedure
-IsApartOf (WriteReply h rcode) = ⊤
-IsApartOf (ReadQuadlet h offset) = ⊤
-IsApartOf (ReadBlock h offset len) = h.tl ≢ label_code Procedure
-IsApartOf (ReadQuadletReply h rcode value) = ⊤
-IsApartOf (ReadBlockReply h rcode bytes) = ⊤
-IsApartOf (CycleStart h offset time) = ⊤
-IsApartOf (Lock h offset function bytes) = ⊤
-IsApartOf (LockReply h rcode function bytes) = ⊤
-
--- of an entry
-abbrev pub IsApartIn : Entry → Type 0
-IsApartIn (Reset r) = ⊤
-IsApartIn (Async p) = IsApartOf p
-IsApartIn (Iso p) = ⊤
-IsApartIn (Event e) = ⊤
-IsApartIn (Outcome o) = ⊤
-IsApartIn (Shown w) = ⊤
-IsApartIn End = ⊤
-
 -- the entries of a log in which an audit finds no fault, whose locks at watched registers are those of procedures
 pub record IsOrderly (entries : List Timed) : Type 0 where
   pub order : InOrder 0 entries
@@ -85,37 +56,6 @@ offset_of ChannelsHigh = CHANNELS_AVAILABLE_HI
 offset_of ChannelsLow = CHANNELS_AVAILABLE_LO
 offset_of (Output number) = OPCR + 4 * number
 offset_of (Input number) = IPCR + 4 * number
-
--- What `watch` sees of such a log is the account's: answers to others than procedures, which an audit does not look at, show its words; no write and no
--- block read takes the place of a request of a procedure; and fewer than 256 requests at watched registers stand at a time, so that none is forgotten.
-pub record ShowsAccount (entries : List Timed) : Type 0 where
-  pub reads : (prefix rest : List Timed) (t : Timed) (h : Head) (value : ℕ) (a : Answer) (l : Account) → entries ≡ prefix ++ t ∷ rest
-      → account_of (entries_of prefix) ≡ Some l → t.what ≡ Async (ReadQuadletReply h 0 value) → h.tl ≢ label_code Procedure
-      → answer_of (known prefix).standing (ReadQuadletReply h 0 value) ≡ Some a → word_at l a.at.node (offset_of a.at.register) ≡ Some value
-  pub others : All (λ t. IsApartIn t.what) entries
-  pub few : (prefix rest : List Timed) → entries ≡ prefix ++ rest → length (known prefix).standing < 256
-
--- the cycle of the latest bus reset
-abbrev pub reset_cycle : Option ℕ → ℕ → Entry → Option ℕ
-reset_cycle since cycle (Reset r) = Some cycle
-reset_cycle since cycle (Async p) = since
-reset_cycle since cycle (Iso p) = since
-reset_cycle since cycle (Event e) = since
-reset_cycle since cycle (Outcome o) = since
-reset_cycle since cycle (Shown w) = since
-reset_cycle since cycle End = since
-
--- of entries
-abbrev pub last_reset : Option ℕ → List Timed → Option ℕ
-last_reset since [] = since
-last_reset since (t ∷ ts) = last_reset (reset_cycle since t.cycle t.what) ts
-
--- a bus reset that comes while the second of the account runs comes within 8000 cycles of the one before it
-abbrev pub HasTimelyResets : List Timed → Type 0
-HasTimelyResets entries =
-    (prefix rest : List Timed) (cycle : ℕ) (r : ResetEntry) (l : Account) → entries ≡ prefix ++ (record { cycle = cycle; what = Reset r }) ∷ rest → account_of (entries_of prefix) ≡ Some l
-    → IsTrue l.reclaiming
-    → (since : ℕ) × (last_reset None prefix ≡ Some since) × (cycle < since + 8000)
 
 -- ---- what is not found there
 
@@ -138,12 +78,6 @@ is_several _ = false
 abbrev pub is_more : Remark → Bool
 is_more (MoreThanMove by at old new) = true
 is_more _ = false
-
--- units or a channel are taken in the second after a bus reset that were not held before it
-abbrev pub is_new_in_second : Remark → Bool
-is_new_in_second (UnitsInSecond by epoch taken held) = true
-is_new_in_second (NewInSecond by channel epoch) = true
-is_new_in_second _ = false
 
 -- a log has no such remark
 abbrev pub HasNone : (Remark → Bool) → List Timed → Type 0

@@ -9,9 +9,7 @@ ghost use Rattle.fw_watch_known.specs.States.{known_of};
 ghost use Rattle.fw_watch.specs.Watched.{known};
 ghost use Rattle.fw_watch.specs.Steps.{remarks};
 ghost use Rattle.fw_watch_laws.specs.LastKnown.{IsPlace, last_known};
-ghost use Rattle.fw_watch_laws.specs.ChangedUnseen.{is_unseen, unseen_due, tells_unseen};
-ghost use Rattle.fw_watch_laws.specs.Orderly.{IsOrderly, is_not_manager, is_too_many, is_several, is_more, HasNone, ShowsAccount, HasTimelyResets, is_new_in_second};
-ghost use Rattle.fw_watch_laws.specs.Counting.{AreCounted};
+ghost use Rattle.fw_watch_laws.specs.ChangedUnseen.{is_unseen, unseen_due};
 ghost use Rattle.fw_watch_laws.specs.TwoSenders.{IsPacket, stays, TwoTold};
 
 /// A word is told as changed unseen exactly if it differs, in a bit that is known, from the last that was known of its register.
@@ -29,41 +27,4 @@ pub fn changed_words_are_told()
 pub fn two_senders_are_told()
     ensures { (prefix mid : List Timed) (p q : Timed) (channel a b : ℕ) → InOrder 0 (prefix ++ p ∷ (mid ++ q ∷ [])) → channel < 64 → IsPacket p channel a → IsPacket q channel b → a ≢ b
         → stays (known (prefix ++ p ∷ [])) mid channel ≡ true → TwoTold (prefix ++ p ∷ (mid ++ q ∷ [])) channel }
-{}
-
-/// In a log without an audit fault, whose locks at watched registers are those of procedures, no swap is made at a node that is not the resource manager.
-pub fn sound_logs_swap_at_the_manager()
-    ensures { (entries : List Timed) → IsOrderly entries → HasNone is_not_manager entries }
-{}
-
-/// In such a log no swap leaves more units than there are.
-pub fn sound_logs_leave_no_more_than_there_is()
-    ensures { (entries : List Timed) → IsOrderly entries → HasNone is_too_many entries }
-{}
-
-/// In such a log no swap changes more than one channel.
-pub fn sound_logs_change_one_channel()
-    ensures { (entries : List Timed) → IsOrderly entries → HasNone is_several entries }
-{}
-
-/// In such a log no swap changes more of a plug than a connection.
-pub fn sound_logs_make_moves_alone()
-    ensures { (entries : List Timed) → IsOrderly entries → HasNone is_more entries }
-{}
-
-/// In such a log whose other answers show the words of the account, and in which fewer than 256 requests at watched registers stand at a time, no
-/// word changes unseen.
-pub fn sound_logs_show_what_is_known()
-    ensures { (entries : List Timed) → IsOrderly entries → ShowsAccount entries → HasNone tells_unseen entries }
-{}
-
-/// The numbers of the last line are those of entries and lines, up to the greatest that 64 bits have: of bus resets; of answers and shown words at
-/// registers that are followed, of which something was known, or nothing; of words told as changed unseen; of isochronous packets; and of findings.
-pub fn counts_are_right()
-    ensures { (entries : List Timed) → AreCounted entries }
-{}
-
-/// In such a log whose bus resets come in time, nothing is taken in the second after a bus reset that was not held before it.
-pub fn sound_logs_take_back_what_they_held()
-    ensures { (entries : List Timed) → IsOrderly entries → ShowsAccount entries → HasTimelyResets entries → HasNone is_new_in_second entries }
 {}

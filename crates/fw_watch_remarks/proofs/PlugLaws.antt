@@ -2,7 +2,7 @@
 use Rattle.std.proofs.Common.{◌≡◌, refl, ℕ, ◌+◌, ◌/◌, ◌%◌, ◌<◌, ◌≤◌, List, [], ◌∷◌, ◌++◌, codes, decimal, if◌then◌else◌, Result, Ok, Err, OnOk}
 use Rattle.std.specs.Result.{is_ok}
 use Rattle.std.proofs.lemmas.Fmt.{decimal_digit}
-use Rattle.fw_log_names.proofs.DecimalLaws.{two_digits}
+use Rattle.fw_text.proofs.DecimalLaws.{two_digits}
 use Rattle.fw_log_registers.specs.Words.{place_text}
 use Rattle.fw_watch_remarks.specs.declared.register.At.{At}
 use Rattle.fw_watch_remarks.specs.declared.register.WatchedRegister.TheVariants.{Output, Input}

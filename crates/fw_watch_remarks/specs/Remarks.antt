@@ -1,7 +1,7 @@
 -- The lines that tell remarks, and which of them are findings.
 use Rattle.std.specs.Prelude.{ℕ, ◌+◌, ◌-◌, ◌^◌, ◌==◌, nat_lt, Bool, true, false, bit_and, min, List, [], ◌∷◌, ◌++◌, codes, decimal, Option, if◌then◌else◌}
 use Rattle.fw_words.specs.Quadlet.{field}
-use Rattle.fw_log_names.specs.Texts.{hex}
+use Rattle.fw_text.specs.Texts.{hex}
 use Rattle.fw_watch_remarks.specs.declared.register.WatchedRegister.{WatchedRegister}
 use Rattle.fw_watch_remarks.specs.declared.register.At.{At}
 use Rattle.fw_watch_remarks.specs.declared.known.Known.{Known}

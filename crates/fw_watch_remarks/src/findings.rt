@@ -39,7 +39,7 @@ fn put_swapper(text: &mut Vec<u8>, pairs: &Pairs, by: u16, at: At) -> Result<(),
 {
     put_asker(text, pairs, by)?;
     put_word(text, " swaps ")?;
-    put_at(text, pairs, at)
+    put_at(text, at)
 }
 
 #[tactic(auto, unfolding(crate::specs::Remarks::not_manager_text))]
@@ -83,7 +83,7 @@ fn put_changer(text: &mut Vec<u8>, pairs: &Pairs, by: u16, at: At) -> Result<(),
 {
     put_asker(text, pairs, by)?;
     put_word(text, " changes more than a connection of ")?;
-    put_at(text, pairs, at)
+    put_at(text, at)
 }
 
 // Appends the word that a plug became.

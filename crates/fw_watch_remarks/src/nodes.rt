@@ -10,7 +10,7 @@ use std::alloc::AllocError;
 
 // Appends a node by its number.
 #[inline(always)]
-#[tactic(auto, using(fw_log_names::proofs::DecimalLaws::two_digits))]
+#[tactic(auto, using(fw_text::proofs::DecimalLaws::two_digits))]
 fn put_node_number(text: &mut Vec<u8>, node: u8) -> Result<(), AllocError>
     ensures { OnOk result (text.new.items ≡ text.old.items ++ part (codes "node ") node) }
 {
@@ -44,7 +44,7 @@ pub fn put_who(text: &mut Vec<u8>, pairs: &Pairs, by: u16) -> Result<(), AllocEr
 
 /// Appends an oPCR or an iPCR, of which this is the first letter, by its number and its node.
 #[inline(always)]
-#[tactic(auto, using(std::proofs::lemmas::Fmt::decimal_digit, fw_log_names::proofs::DecimalLaws::two_digits))]
+#[tactic(auto, using(std::proofs::lemmas::Fmt::decimal_digit, fw_text::proofs::DecimalLaws::two_digits))]
 pub fn put_plug_of_node(
     text: &mut Vec<u8>,
     letter: u8,

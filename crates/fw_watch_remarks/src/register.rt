@@ -7,8 +7,8 @@ use crate::nodes::put_plug_of_node;
 use fw_csr::offset::{
     BANDWIDTH_AVAILABLE, CHANNELS_AVAILABLE_HI, CHANNELS_AVAILABLE_LO, IPCR, OPCR,
 };
-use fw_log_names::{Pairs, put_number, put_word};
-use fw_log_registers::{NamedRegister as Named, RegisterPlace, put_place};
+use fw_log_names::{put_number, put_word};
+use fw_log_registers::{NamedRegister as Named, RegisterPlace, append_place};
 use std::alloc::AllocError;
 
 /// A register that is watched: the resource manager's three, and the plug control registers of each node.
@@ -119,16 +119,16 @@ impl WatchedRegister {
 
 // Appends any register by its name and its node.
 #[tactic(auto, unfolding(crate::specs::Registers::at_text))]
-fn put_any(text: &mut Vec<u8>, pairs: &Pairs, at: At) -> Result<(), AllocError>
+fn put_any(text: &mut Vec<u8>, at: At) -> Result<(), AllocError>
     ensures { OnOk result (text.new.items ≡ text.old.items ++ at_text at) }
 {
-    put_place(text, pairs, at.register.place())?;
+    append_place(text, at.register.place())?;
     put_word(text, " of node ")?;
     put_number(text, u64::from(at.node))
 }
 
 // Appends a register by its name and its node.
-pub fn put_at(text: &mut Vec<u8>, pairs: &Pairs, at: At) -> Result<(), AllocError>
+pub fn put_at(text: &mut Vec<u8>, at: At) -> Result<(), AllocError>
     ensures { OnOk result (text.new.items ≡ text.old.items ++ at_text at) }
 {
     match at.register {
@@ -138,6 +138,6 @@ pub fn put_at(text: &mut Vec<u8>, pairs: &Pairs, at: At) -> Result<(), AllocErro
         WatchedRegister::Input(number) if number < 10 => put_plug_of_node(
             text, b'i', number, at.node,
         ),
-        _ => put_any(text, pairs, at),
+        _ => put_any(text, at),
     }
 }

@@ -103,7 +103,7 @@ fn put_done(
 {
     put_who(text, pairs, by)?;
     put_word(text, does)?;
-    put_at(text, pairs, at)
+    put_at(text, at)
 }
 
 // Appends a plug whose word became another.

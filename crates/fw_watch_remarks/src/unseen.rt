@@ -11,11 +11,11 @@ use std::alloc::AllocError;
 
 // Appends where a word was found.
 #[tactic(auto, unfolding(crate::specs::Remarks::place_found))]
-fn put_place_found(text: &mut Vec<u8>, pairs: &Pairs, at: At) -> Result<(), AllocError>
+fn put_place_found(text: &mut Vec<u8>, at: At) -> Result<(), AllocError>
     ensures { OnOk result (text.new.items ≡ text.old.items ++ place_found at) }
 {
     put_word(text, "? ")?;
-    put_at(text, pairs, at)?;
+    put_at(text, at)?;
     put_word(text, " is ")
 }
 
@@ -40,7 +40,7 @@ fn put_found(
 ) -> Result<(), AllocError>
     ensures { OnOk result (text.new.items ≡ text.old.items ++ found_text at known found) }
 {
-    put_place_found(text, pairs, at)?;
+    put_place_found(text, at)?;
     put_hex8(text, pairs, found)?;
     put_known(text, pairs, known)
 }

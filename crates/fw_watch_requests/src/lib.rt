@@ -2,7 +2,6 @@
 #![tactic(auto)]
 
 mod asked;
-mod glance;
 mod standing;
 mod taking;
 

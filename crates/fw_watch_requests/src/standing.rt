@@ -3,16 +3,18 @@
 ghost use Rattle.std.specs.Prelude.{◌≡◌, ◌==◌, ◌++◌, ◌∷◌, true, false, [], None, drop, if◌then◌else◌};
 ghost use Rattle.fw_async.specs.Reader.{IsPacket, Spells};
 ghost use Rattle.fw_async.specs.declared.packet.Packet.{Packet as AsyncPacket};
-ghost use Rattle.fw_watch_requests.specs.Standing.{asked, is_of, latest, standing_following, without_answered, without_same, without_source, with_request, answered, read_answer, lock_answer, answer_of};
+ghost use Rattle.fw_words.specs.Swaps.{swap_bytes};
+ghost use Rattle.fw_words.specs.declared.swap.TheConstants.{COMPARE_SWAP};
+ghost use Rattle.fw_watch_requests.specs.Standing.{asked, is_of, lock_of, latest, standing_following, without_answered, without_same, without_source, with_request, answered, read_answer, lock_answer, answer_of};
 
 use crate::asked::{Answer, Asked, Asking};
-use crate::glance::{Kind, head_at, kind_at, offset_at, rcode_at, swap_at};
 use crate::taking::{
     ASKERS, asker_of, first_answered, make_room, take_answered, take_same, take_source,
 };
 use fw_async::{Head, Packet, whole_packet};
+use fw_async_glance::{Glance, glance_at};
 use fw_request_queue::Queue;
-use fw_words::{COMPARE_SWAP, quadlet_at};
+use fw_words::{COMPARE_SWAP, Quadlet, Swap, put_quadlet};
 use std::marker::Model;
 
 /// The requests at watched registers that no response has answered since the latest bus reset, the oldest first: at most 256, of
@@ -87,6 +89,14 @@ impl OutstandingRequests {
             Some(new) => self.add_request(head, new),
             None => self.end_same(head),
         }
+    }
+
+    // The same of a quadlet compare_swap.
+    #[inline(always)]
+    fn ask_swap(&mut self, head: &Head, offset: u64, swap: Swap)
+        ensures { self.new ≡ with_request (asked head.now offset (lock_of COMPARE_SWAP (swap_bytes swap))) (without_same head.now self.old) }
+    {
+        self.ask(head, offset, Asking::Swap(swap));
     }
 
     /// Those of a node whose controller died end.
@@ -214,36 +224,30 @@ impl OutstandingRequests {
         ensures value { (p : AsyncPacket) → Spells p bytes.now → result ≡ answer_of self.old p }
         ensures known { (p : AsyncPacket) → Spells p bytes.now → self.new ≡ standing_following p self.old }
     {
-        match kind_at(bytes) {
-            Kind::Write => {
-                self.end_same(&head_at(bytes));
+        match glance_at(bytes) {
+            Glance::Write { head, .. } => {
+                self.end_same(&head);
                 None
             }
-            Kind::Read => {
-                self.ask(&head_at(bytes), offset_at(bytes), Asking::Read);
+            Glance::WritePair { head, .. } => {
+                self.end_same(&head);
                 None
             }
-            Kind::Swap => {
-                self.ask(
-                    &head_at(bytes),
-                    offset_at(bytes),
-                    Asking::Swap(swap_at(bytes)),
-                );
+            Glance::Read { head, offset } => {
+                self.ask(&head, offset, Asking::Read);
                 None
             }
-            Kind::ReadReply => {
-                self.take_read(&head_at(bytes), rcode_at(bytes), quadlet_at(bytes, 12).0)
+            Glance::Swap { head, offset, swap } => {
+                self.ask_swap(&head, offset, swap);
+                None
             }
-            Kind::SwapReply => {
-                self.take_lock(
-                    &head_at(bytes),
-                    rcode_at(bytes),
-                    COMPARE_SWAP,
-                    &bytes[16..20],
-                )
+            Glance::ReadReply { head, rcode, value } => self.take_read(&head, rcode, value),
+            Glance::SwapReply { head, rcode, old } => {
+                self.take_lock(&head, rcode, COMPARE_SWAP, &put_quadlet(Quadlet(old)))
             }
-            Kind::WriteReply => None,
-            Kind::Other => self.take_other(bytes),
+            Glance::WriteReply { .. } => None,
+            Glance::CycleStart { .. } => None,
+            Glance::Other => self.take_other(bytes),
         }
     }
 }

@@ -10,9 +10,9 @@ use Rattle.fw_log_explain.proofs.tail.put_brought.Goals as goal
 pub returns : goal.returns
 unfolding brought_text
 returns c =
-    on_ok_weaker c.put_register_word.result
+    on_ok_weaker c.append_register_word.result
     (λ piece. stepped _ _ _ (codes " read_quadlet_response" ++ rcode_text 0 ++ at_text c.args.place) (word_text c.args.place c.args.value) _
     (stepped _ _ _ (codes " read_quadlet_response" ++ rcode_text 0) (at_text c.args.place) (codes " read_quadlet_response" ++ rcode_text 0 ++ at_text c.args.place)
     (stepped _ _ _ (codes " read_quadlet_response") (rcode_text 0)
     (codes " read_quadlet_response" ++ rcode_text 0) c.in_ok-put_word.ensures c.in_ok-put_rcode.ensures refl) c.in_ok-put_at.ensures refl) piece refl)
-    c.put_register_word.ensures
+    c.append_register_word.ensures

@@ -1,5 +1,5 @@
 use Rattle.std.proofs.Common.{List, ℕ, ◌++◌, ◌∙◌, ap, codes, decimal, take}
-use Rattle.fw_log_names.specs.Texts.{hex}
+use Rattle.fw_text.specs.Texts.{hex}
 use Rattle.fw_words.specs.Quadlet.{field}
 use Rattle.fw_log_explainer.proofs.JoinLaws.{one_more}
 use Rattle.fw_log_explainer.proofs.cycle_start.write_time.Goals as goal

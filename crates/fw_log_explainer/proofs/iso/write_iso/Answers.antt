@@ -1,7 +1,7 @@
 use Rattle.std.proofs.Common.{Bool, List, ℕ, ◌++◌, ◌∙◌, ◌%◌, ◌^◌, append_assoc, ap, sym, codes, take, arith}
 use Rattle.std.specs.Option.{is_some}
 use Rattle.fw_log_names.specs.Names.{format_name}
-use Rattle.fw_log_names.specs.Texts.{hex}
+use Rattle.fw_text.specs.Texts.{hex}
 use Rattle.fw_log_explain.specs.Lines.{block_word, format_text, iso_text, stream_text}
 use Rattle.fw_log_explainer.proofs.JoinLaws.{after_row, one_more, parts_of_iso}
 use Rattle.fw_log_explainer.proofs.iso.write_iso.Goals as goal

@@ -1,8 +1,8 @@
 use Rattle.std.proofs.Common.{◌≡◌, ◌++◌, ◌+◌, ◌*◌, ◌<◌, ◌∙◌, List, ℕ, [], ◌∷◌, length, take, get_or, arith, ap, sym, append_assoc}
 use Rattle.std.proofs.lemmas.List.{take_more}
 use Rattle.std.proofs.lemmas.Grind.{flat_map-append}
-use Rattle.fw_log_names.specs.Digits.{byte_digits}
-use Rattle.fw_log_names.specs.Texts.{hex_bytes}
+use Rattle.fw_text.specs.Digits.{byte_digits}
+use Rattle.fw_text.specs.Texts.{hex_bytes}
 use Rattle.fw_log_json_packets.proofs.digits.write_digits.Goals as goal
 
 -- the digits of a byte more

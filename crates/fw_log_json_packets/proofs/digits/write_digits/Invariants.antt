@@ -1,5 +1,5 @@
 use Rattle.std.proofs.Common.{◌≡◌, ◌+◌, ◌*◌, ◌++◌, length, take}
-use Rattle.fw_log_names.specs.Texts.{hex_bytes}
+use Rattle.fw_text.specs.Texts.{hex_bytes}
 use Rattle.fw_log_json_packets.proofs.digits.write_digits.Given as goal
 
 abbrev pub invariant-loop-place : goal.invariant-loop-place

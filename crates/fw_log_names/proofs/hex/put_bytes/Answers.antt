@@ -1,8 +1,8 @@
 use Rattle.std.proofs.Common.{◌≡◌, ◌++◌, ◌∙◌, List, ℕ, ap, sym, append_assoc, take, drop}
 use Rattle.std.proofs.lemmas.List.{take-append-drop}
 use Rattle.std.proofs.lemmas.Grind.{flat_map-append}
-use Rattle.fw_log_names.specs.Digits.{byte_digits}
-use Rattle.fw_log_names.specs.Texts.{hex_bytes}
+use Rattle.fw_text.specs.Digits.{byte_digits}
+use Rattle.fw_text.specs.Texts.{hex_bytes}
 use Rattle.fw_log_names.proofs.hex.put_bytes.Goals as goal
 
 pub loop-four-preserved : goal.loop-four-preserved

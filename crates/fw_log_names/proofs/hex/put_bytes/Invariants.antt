@@ -1,5 +1,5 @@
 use Rattle.std.proofs.Common.{◌≡◌, ◌++◌, length}
-use Rattle.fw_log_names.specs.Texts.{hex_bytes}
+use Rattle.fw_text.specs.Texts.{hex_bytes}
 use Rattle.fw_log_names.proofs.hex.put_bytes.Given as goal
 
 abbrev pub invariant-loop-four : goal.invariant-loop-four

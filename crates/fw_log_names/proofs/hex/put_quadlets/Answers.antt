@@ -1,8 +1,8 @@
 use Rattle.std.proofs.Common.{◌≡◌, ◌++◌, ◌∙◌, ◌≤◌, List, ℕ, length, ap, refl, sym, append_assoc}
 use Rattle.std.specs.Int.{from_be_bytes, w32}
 use Rattle.fw_words.specs.Quadlet.{quadlet_at}
-use Rattle.fw_log_names.specs.Texts.{quadlet_text, quadlets_text}
-use Rattle.fw_log_names.proofs.BodyLaws.{quadlets_then}
+use Rattle.fw_text.specs.Texts.{quadlet_text, quadlets_text}
+use Rattle.fw_text.proofs.BodyLaws.{quadlets_then}
 use Rattle.fw_log_names.proofs.hex.put_quadlets.Goals as goal
 
 pub loop-four-preserved : goal.loop-four-preserved

@@ -1,5 +1,5 @@
 use Rattle.std.proofs.Common.{◌≡◌, ◌++◌, length}
-use Rattle.fw_log_names.specs.Texts.{quadlets_text}
+use Rattle.fw_text.specs.Texts.{quadlets_text}
 use Rattle.fw_log_names.proofs.hex.put_quadlets.Given as goal
 
 abbrev pub invariant-loop-four : goal.invariant-loop-four

@@ -5,11 +5,11 @@ use Rattle.fw_log_registers.proofs.ChannelLaws.{none, next}
 use Rattle.fw_log_registers.proofs.channels.put_channels.Goals as goal
 
 pub loop-bit-init : goal.loop-bit-init
-loop-bit-init c = rw (none c.args.first c.args.set) (sym (append-nil c.args.text.now.items))
+loop-bit-init c = rw (none c.args.first c.args.set) (sym (append-nil c.args.text.now))
 
 pub loop-bit-preserved : goal.loop-bit-preserved
 loop-bit-preserved c =
     let before : List ℕ = first_channels c.args.first c.args.set c.loop-bit.bit in
     let one : List ℕ = channel_text c.args.first c.args.set c.loop-bit.bit in
-    c.in_ok-put_channel.ensures ∙ ap (λ (x : List ℕ). x ++ one) c.loop-bit.invariant ∙ append_assoc c.args.text.now.items before one
-    ∙ ap (λ (x : List ℕ). c.args.text.now.items ++ x) (sym (next c.args.first c.args.set c.loop-bit.bit))
+    c.put_channel.ensures ∙ ap (λ (x : List ℕ). x ++ one) c.loop-bit.invariant ∙ append_assoc c.args.text.now before one
+    ∙ ap (λ (x : List ℕ). c.args.text.now ++ x) (sym (next c.args.first c.args.set c.loop-bit.bit))

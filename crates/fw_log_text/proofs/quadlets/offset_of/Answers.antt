@@ -1,5 +1,5 @@
 use Rattle.std.proofs.Common.{List, ℕ, ◌∷◌, ◌∙◌, ap, sym}
-use Rattle.fw_log_names.proofs.HexLaws.{four_digits}
+use Rattle.fw_text.proofs.HexLaws.{four_digits}
 use Rattle.fw_log_text.proofs.HexLaws.{three_digits}
 use Rattle.fw_log_text.proofs.quadlets.offset_of.Goals as goal
 

@@ -1,5 +1,5 @@
 use Rattle.std.proofs.Common.{List, ℕ, ◌∷◌, ◌∙◌, ap, sym}
-use Rattle.fw_log_names.proofs.HexLaws.{eight_digits}
+use Rattle.fw_text.proofs.HexLaws.{eight_digits}
 use Rattle.fw_log_text.proofs.quadlets.word_of.Goals as goal
 
 pub returns : goal.returns

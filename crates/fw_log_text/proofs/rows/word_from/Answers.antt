@@ -1,6 +1,6 @@
 use Rattle.std.proofs.Common.{rules, ◌≡◌, ◌∙◌, ◌<◌, ◌∷◌, List, ℕ, ap, sym}
 use Rattle.std.specs.List.{slice_index}
-use Rattle.fw_log_names.specs.Digits.{byte_digits}
+use Rattle.fw_text.specs.Digits.{byte_digits}
 use Rattle.fw_log_text.proofs.HexLaws.{four_bytes}
 use Rattle.fw_log_text.proofs.rows.word_from.Goals as goal
 

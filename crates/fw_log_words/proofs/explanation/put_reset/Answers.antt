@@ -6,7 +6,7 @@ use Rattle.fw_log_entry.specs.declared.entry.ResetEntry.{ResetEntry}
 use Rattle.fw_log_text.proofs.ResetLaws.{long}
 use Rattle.fw_log_explain.specs.Explained.{ExplainerState}
 use Rattle.fw_log_explain.specs.Lines.{line}
-use Rattle.fw_log_words.proofs.LatestLaws.{again_is, later_is}
+use Rattle.fw_log_latest.proofs.LatestLaws.{again_is, later_is}
 use Rattle.fw_log_words.proofs.explanation.put_reset.Goals as goal
 
 pub slice_bounds-later-count : goal.slice_bounds-later-count

@@ -5,7 +5,7 @@ use Rattle.fw_log_entry.specs.declared.entry.Entry.TheVariants.{Reset}
 use Rattle.fw_log_entry.specs.declared.entry.ResetEntry.{ResetEntry}
 use Rattle.fw_log_text.proofs.ResetLaws.{long}
 use Rattle.fw_log_json.specs.Objects.{object}
-use Rattle.fw_log_words.proofs.LatestLaws.{again_is, later_is}
+use Rattle.fw_log_latest.proofs.LatestLaws.{again_is, later_is}
 use Rattle.fw_log_words.proofs.objects.put_reset.Goals as goal
 
 pub slice_bounds-later-count : goal.slice_bounds-later-count

@@ -1,5 +1,4 @@
-use Rattle.std.proofs.Common.{◌∙◌, ◌++◌, ◌+◌, ap, refl, string_bytes}
-use Rattle.fw_script_gen.specs.Gen.{device_line}
+use Rattle.std.proofs.Common.{◌∙◌, ◌++◌, ap, refl, string_bytes}
 use Rattle.fw_script_gen.proofs.GenLaws.{devices_first, devices_more, drawn_is}
 use Rattle.fw_script_gen.proofs.seed.put_devices.Goals as goal
 

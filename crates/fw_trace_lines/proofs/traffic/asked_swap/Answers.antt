@@ -1,7 +1,7 @@
 use Rattle.std.proofs.Common.{◌∙◌, ◌<◌, ◌^◌, ap, sym, arith}
 use Rattle.fw_log_requests.specs.declared.asked.Answer.TheVariants.{Lock as LockResponse}
 use Rattle.fw_log_requests.specs.Requests.{asked}
-use Rattle.fw_trace_lines.proofs.ReplyLaws.{swap_back}
+use Rattle.fw_async_glance.proofs.GlanceLaws.{swap_back}
 use Rattle.fw_trace_lines.proofs.traffic.asked_swap.Goals as goal
 
 pub returns : goal.returns

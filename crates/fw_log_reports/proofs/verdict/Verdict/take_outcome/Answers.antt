@@ -1,5 +1,5 @@
-use Rattle.std.proofs.Common.{◌≡◌, ◌+◌, arith, refl}
-use Rattle.fw_log_reports.proofs.PassedAudits.{outcome_passed, passed_audits}
+use Rattle.std.proofs.Common.{arith, refl}
+use Rattle.fw_log_reports.proofs.PassedAudits.{outcome_judged, outcome_passed, passed_audits}
 use Rattle.fw_log_reports.proofs.Passings.{few_read}
 use Rattle.fw_log_reports.proofs.verdict.Verdict.take_outcome.Goals as goal
 
@@ -8,5 +8,5 @@ returns-clause-history c entries bytes h a =
     let x = c.in_ok-annotation.ensures.history entries bytes h in
     let up = c.in_ok-annotation.ensures.counts in
     let few = few_read entries x.entry _ c.pass_annotation.new.self x.read (omega (arith, c.requires, up.total, up.within)) in
-    let n : c.saturating_add-self.result ≡ c.args.self.now.count + 1 = (let k = a.count in grind (arith, k, few, c.saturating_add-self.ensures)) in
-    record { entry = x.entry; read = x.read; took = passed_audits c.args.self.now c.saturating_add-self.result entries x.entry a (outcome_passed x.entry.what x.is.kind) n; gathered = refl }
+    let counts = c.take.ensures entries x.entry few (outcome_judged x.entry.what x.is.kind) a.tally in
+    record { entry = x.entry; read = x.read; took = passed_audits c.args.self.now c.take.new.self entries x.entry a (outcome_passed x.entry.what x.is.kind) counts; gathered = refl }

@@ -5,7 +5,8 @@ use Rattle.fw_log_entry.specs.declared.entry.Entry.TheVariants.{Async, Iso, Rese
 use Rattle.fw_log.specs.Passing.{HasBody}
 use Rattle.fw_log.specs.declared.plain.PlainBody.{PlainBody}
 use Rattle.fw_log_entry.specs.declared.entry.ResetEntry.{ResetEntry}
-use Rattle.fw_watch.specs.Steps.{at_cycle, IsBusOf}
+use Rattle.fw_log_latest.specs.Latest.{IsBusOf}
+use Rattle.fw_watch.specs.Steps.{at_cycle}
 use Rattle.fw_watch.specs.Watched.{Watches, watched}
 use Rattle.fw_log_reports.proofs.watching.Watching.put.Goals as goal
 
@@ -54,18 +55,18 @@ returns-in-Iso-clause-following c e m before w =
     let L : Entry → Type 0 = λ x. OnOk c.put_iso.result (Watches c.put_iso.new.self (before ++ at_cycle c.args.cycle x ∷ [])) in
     subst L (sym is) (c.put_iso.ensures.following before w)
 
-pub read_whole_bus-requires : goal.read_whole_bus-requires
-read_whole_bus-requires c =
+pub read_bus-requires : goal.read_bus-requires
+read_bus-requires c =
     let P : PlainBody → Type 0 = λ b. HasBody b c.requires.0 in
     let made = subst P c.in-Reset.is c.requires.1 in
-    record { reset = made.0; fits = made.2; same = made.3 ∙ sym c.as_slice-in-Reset.ensures }
+    (made.0, made.2, made.3 ∙ sym c.as_slice-in-Reset.ensures)
 
 pub returns-in-Reset-clause-lines : goal.returns-in-Reset-clause-lines
 returns-in-Reset-clause-lines c e m before w =
     let P : PlainBody → Type 0 = λ b. HasBody b e in
     let made = subst P c.in-Reset.is m in
     let B : ResetEntry → Type 0 = IsBusOf made.0 in
-    let bus = subst B (sym c.deref.ensures) (c.read_whole_bus.ensures.bus made.0 made.2 (made.3 ∙ sym c.as_slice-in-Reset.ensures)) in
+    let bus = subst B (sym c.deref.ensures) (c.read_bus.ensures made.0 made.2 (made.3 ∙ sym c.as_slice-in-Reset.ensures)) in
     let L : Entry → Type 0 = λ x. OnOk c.put_reset.result (c.put_reset.new.self.told.text ≡ c.args.self.now.watch.told.text ++ watched before (at_cycle c.args.cycle x ∷ [])) in
     subst L (sym made.1) (c.put_reset.ensures.lines made.0 bus before w)
 
@@ -74,6 +75,6 @@ returns-in-Reset-clause-following c e m before w =
     let P : PlainBody → Type 0 = λ b. HasBody b e in
     let made = subst P c.in-Reset.is m in
     let B : ResetEntry → Type 0 = IsBusOf made.0 in
-    let bus = subst B (sym c.deref.ensures) (c.read_whole_bus.ensures.bus made.0 made.2 (made.3 ∙ sym c.as_slice-in-Reset.ensures)) in
+    let bus = subst B (sym c.deref.ensures) (c.read_bus.ensures made.0 made.2 (made.3 ∙ sym c.as_slice-in-Reset.ensures)) in
     let L : Entry → Type 0 = λ x. OnOk c.put_reset.result (Watches c.put_reset.new.self (before ++ at_cycle c.args.cycle x ∷ [])) in
     subst L (sym made.1) (c.put_reset.ensures.following made.0 bus before w)

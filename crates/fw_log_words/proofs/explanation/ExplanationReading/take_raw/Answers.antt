@@ -7,5 +7,5 @@ put_body-requires c = c.in-Some.ensures.body
 pub returns-clause-history : goal.returns-clause-history
 returns-clause-history c entries bytes h t =
     let x = c.in-Some.ensures.history entries bytes h in
-    told_passes c.args.self.now.explainer c.put_body.new.explainer entries _ c.pass_body.new.self c.in-Some.passed x t
+    told_passes c.args.self.now.explainer c.put_body.new.self.explainer entries _ c.pass_body.new.self c.in-Some.passed x t
     (c.in_ok-put_body.ensures.line x.entry.what x.made) (c.in_ok-put_body.ensures.requests x.entry.what x.made)

@@ -1,22 +1,14 @@
-use Rattle.std.proofs.Common.{subst, sym, ap, ◌∙◌}
-use Rattle.fw_log_entry.specs.Log.{Fits, body}
-use Rattle.fw_log_words.proofs.PagePassings.{fits_by, page_passes}
+use Rattle.std.proofs.Common.{arith}
+use Rattle.fw_log_reports.proofs.Passings.{few_read}
+use Rattle.fw_log_words.proofs.PageLaws.{one_entry}
 use Rattle.fw_log_words.proofs.paging.PagingReading.take_raw.Goals as goal
 
-pub make-requires : goal.make-requires
-make-requires c = c.in-Some.ensures.body
-
-pub take-requires-clause-fits : goal.take-requires-clause-fits
-take-requires-clause-fits c =
-    let w = c.in-Some.ensures.body in
-    subst Fits (sym (c.make.ensures w.0 w.1)) (fits_by c.in-Some.passed.body w.0 w.1)
-
-pub take-requires-clause-bytes : goal.take-requires-clause-bytes
-take-requires-clause-bytes c =
-    let w = c.in-Some.ensures.body in
-    c.bytes_of.ensures w.0 w.1 ∙ ap body (sym (c.make.ensures w.0 w.1))
-
 pub returns-clause-history : goal.returns-clause-history
-returns-clause-history c entries bytes h t =
-    let x = c.in-Some.ensures.history entries bytes h in
-    page_passes c.args.self.now.sheet c.take.new.self entries _ c.pass_body.new.self c.in-Some.passed x c.make.result (c.make.ensures x.entry.what x.made) t c.in_ok-take.ensures
+returns-clause-history c entries bytes h k =
+    let x = c.go_past.ensures.history c.in-Some.next.body c.in-Some.ensures entries bytes h in
+    let up = c.go_past.ensures.counts in
+    let few = few_read entries x.entry _ c.go_past.new.self x.read (omega (arith, c.requires, up.total, up.within)) in
+    let passed = c.in_ok-pass_body.ensures.passed entries x.entry x.cycle x.made few k.follows c.if-not-branch.false in
+    let y = c.in_ok-put_body.ensures entries x.entry x.cycle x.made
+    (record { objects = k.objects; explained = k.explained; requests = k.requests; passed = passed; watched = k.watched; watches = k.watches }) in
+    record { entry = x.entry; read = x.read; took = y.1; gathered = one_entry c.args.self.now.text.items c.put_body.new.self.text.items entries x.entry y.0 }

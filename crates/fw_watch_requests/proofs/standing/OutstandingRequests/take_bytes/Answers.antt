@@ -1,108 +1,87 @@
-use Rattle.std.proofs.Common.{◌<◌, ◌∙◌, ℕ, slice_index, take, drop, refl, ap, sym, arith}
+use Rattle.std.proofs.Common.{◌≡◌, ◌∙◌, ◌==◌, ℕ, List, false, None, if◌then◌else◌, ap, sym, subst}
+use Rattle.fw_words.specs.declared.swap.TheConstants.{COMPARE_SWAP}
 use Rattle.fw_async.specs.declared.packet.Packet.{Packet}
-use Rattle.fw_watch_requests.specs.declared.asked.Asking.{Asking}
-use Rattle.fw_watch_requests.specs.Standing.{asked, answer_of, standing_following, with_request, without_same}
-use Rattle.fw_watch_requests.proofs.GlanceLaws.{HasHead, HasOffset, read_is, swap_is, pair_asks, read_reply_is, swap_reply_is, write_ends, write_reply_passes}
+use Rattle.fw_async_glance.specs.Glances.{IsGlance}
+use Rattle.fw_async_glance.specs.declared.glance.Glance.{Glance}
+use Rattle.fw_watch_requests.specs.Standing.{answer_of, answered, lock_answer, standing_following}
 use Rattle.fw_watch_requests.proofs.standing.OutstandingRequests.take_bytes.Goals as goal
 
+-- what is seen is so of the packet
+is_so : (seen known : Glance) (p : Packet) → seen ≡ known → IsGlance seen p → IsGlance known p
+is_so seen known p e s = subst (λ (g : Glance). IsGlance g p) e s
+
 pub returns-in-Write-clause-value : goal.returns-in-Write-clause-value
-returns-in-Write-clause-value c = λ p s.
-    let fit = λ (i : ℕ). let x : slice_index c.args.bytes.now i < 256 = omega (arith, c.type_inv.bytes i) in x in
-    sym ((write_ends p c.args.bytes.now c.head_at.result fit s c.in-Write.ensures c.head_at.ensures.fits c.head_at.ensures.first c.head_at.ensures.source).answers c.args.self.now)
+unfolding answer_of
+returns-in-Write-clause-value c = λ p s. sym (ap (answer_of c.args.self.now) (is_so _ _ p c.in-Write.is (c.glance_at.ensures p s)))
 
 pub returns-in-Write-clause-known : goal.returns-in-Write-clause-known
+unfolding standing_following
 returns-in-Write-clause-known c = λ p s.
-    let fit = λ (i : ℕ). let x : slice_index c.args.bytes.now i < 256 = omega (arith, c.type_inv.bytes i) in x in
-    c.end_same.ensures
-    ∙ sym ((write_ends p c.args.bytes.now c.head_at.result fit s c.in-Write.ensures c.head_at.ensures.fits c.head_at.ensures.first c.head_at.ensures.source).following c.args.self.now)
+    c.end_same.ensures ∙ sym (ap (λ (q : Packet). standing_following q c.args.self.now) (is_so _ _ p c.in-Write.is (c.glance_at.ensures p s)))
+
+pub returns-in-WritePair-clause-value : goal.returns-in-WritePair-clause-value
+unfolding answer_of
+returns-in-WritePair-clause-value c = λ p s. sym (ap (answer_of c.args.self.now) (is_so _ _ p c.in-WritePair.is (c.glance_at.ensures p s)))
+
+pub returns-in-WritePair-clause-known : goal.returns-in-WritePair-clause-known
+unfolding standing_following
+returns-in-WritePair-clause-known c = λ p s.
+    c.end_same-in-WritePair.ensures ∙ sym (ap (λ (q : Packet). standing_following q c.args.self.now) (is_so _ _ p c.in-WritePair.is (c.glance_at.ensures p s)))
 
 pub returns-in-Read-clause-value : goal.returns-in-Read-clause-value
 unfolding answer_of
-returns-in-Read-clause-value c = λ p s.
-    let fit = λ (i : ℕ). let x : slice_index c.args.bytes.now i < 256 = omega (arith, c.type_inv.bytes i) in x in
-    let head : HasHead 4 c.args.bytes.now c.head_at-in-Read.result =
-    record { kind = c.in-Read.ensures; fits = c.head_at-in-Read.ensures.fits; first = c.head_at-in-Read.ensures.first; source = c.head_at-in-Read.ensures.source } in
-    let place : HasOffset c.args.bytes.now c.offset_at.result = record { small = c.offset_at.ensures.small; high = c.offset_at.ensures.high; low = c.offset_at.ensures.low } in
-    sym (ap (answer_of c.args.self.now) (read_is p c.args.bytes.now c.head_at-in-Read.result c.offset_at.result fit s head place))
+returns-in-Read-clause-value c = λ p s. sym (ap (answer_of c.args.self.now) (is_so _ _ p c.in-Read.is (c.glance_at.ensures p s)))
 
 pub returns-in-Read-clause-known : goal.returns-in-Read-clause-known
 unfolding standing_following
 returns-in-Read-clause-known c = λ p s.
-    let fit = λ (i : ℕ). let x : slice_index c.args.bytes.now i < 256 = omega (arith, c.type_inv.bytes i) in x in
-    let head : HasHead 4 c.args.bytes.now c.head_at-in-Read.result =
-    record { kind = c.in-Read.ensures; fits = c.head_at-in-Read.ensures.fits; first = c.head_at-in-Read.ensures.first; source = c.head_at-in-Read.ensures.source } in
-    let place : HasOffset c.args.bytes.now c.offset_at.result = record { small = c.offset_at.ensures.small; high = c.offset_at.ensures.high; low = c.offset_at.ensures.low } in
-    c.ask.ensures ∙ sym (ap (λ (q : Packet). standing_following q c.args.self.now) (read_is p c.args.bytes.now c.head_at-in-Read.result c.offset_at.result fit s head place))
+    c.ask.ensures ∙ sym (ap (λ (q : Packet). standing_following q c.args.self.now) (is_so _ _ p c.in-Read.is (c.glance_at.ensures p s)))
 
 pub returns-in-Swap-clause-value : goal.returns-in-Swap-clause-value
 unfolding answer_of
-returns-in-Swap-clause-value c = λ p s.
-    let fit = λ (i : ℕ). let x : slice_index c.args.bytes.now i < 256 = omega (arith, c.type_inv.bytes i) in x in
-    let head : HasHead 9 c.args.bytes.now c.head_at-in-Swap.result =
-    record { kind = c.in-Swap.ensures.0; fits = c.head_at-in-Swap.ensures.fits; first = c.head_at-in-Swap.ensures.first; source = c.head_at-in-Swap.ensures.source } in
-    let place : HasOffset c.args.bytes.now c.offset_at-in-Swap.result =
-    record { small = c.offset_at-in-Swap.ensures.small; high = c.offset_at-in-Swap.ensures.high; low = c.offset_at-in-Swap.ensures.low } in
-    sym (ap (answer_of c.args.self.now)
-    (swap_is p c.args.bytes.now c.head_at-in-Swap.result c.offset_at-in-Swap.result c.swap_at.result fit s head place c.in-Swap.ensures.1 c.swap_at.ensures.argument c.swap_at.ensures.new))
+returns-in-Swap-clause-value c = λ p s. sym (ap (answer_of c.args.self.now) (is_so _ _ p c.in-Swap.is (c.glance_at.ensures p s)))
 
 pub returns-in-Swap-clause-known : goal.returns-in-Swap-clause-known
 unfolding standing_following
 returns-in-Swap-clause-known c = λ p s.
-    let fit = λ (i : ℕ). let x : slice_index c.args.bytes.now i < 256 = omega (arith, c.type_inv.bytes i) in x in
-    let head : HasHead 9 c.args.bytes.now c.head_at-in-Swap.result =
-    record { kind = c.in-Swap.ensures.0; fits = c.head_at-in-Swap.ensures.fits; first = c.head_at-in-Swap.ensures.first; source = c.head_at-in-Swap.ensures.source } in
-    let place : HasOffset c.args.bytes.now c.offset_at-in-Swap.result =
-    record { small = c.offset_at-in-Swap.ensures.small; high = c.offset_at-in-Swap.ensures.high; low = c.offset_at-in-Swap.ensures.low } in
-    let asks = pair_asks c.swap_at.result c.swap_at.ensures.small.0 c.swap_at.ensures.small.1 in
-    c.ask-in-Swap.ensures
-    ∙ ap (λ (a : Asking). with_request (asked c.head_at-in-Swap.result c.offset_at-in-Swap.result a) (without_same c.head_at-in-Swap.result c.args.self.now)) asks
-    ∙ sym (ap (λ (q : Packet). standing_following q c.args.self.now)
-    (swap_is p c.args.bytes.now c.head_at-in-Swap.result c.offset_at-in-Swap.result c.swap_at.result fit s head place c.in-Swap.ensures.1 c.swap_at.ensures.argument c.swap_at.ensures.new))
+    c.ask_swap.ensures ∙ sym (ap (λ (q : Packet). standing_following q c.args.self.now) (is_so _ _ p c.in-Swap.is (c.glance_at.ensures p s)))
 
 pub returns-in-ReadReply-clause-value : goal.returns-in-ReadReply-clause-value
 unfolding answer_of
-returns-in-ReadReply-clause-value c = λ p s.
-    let fit = λ (i : ℕ). let x : slice_index c.args.bytes.now i < 256 = omega (arith, c.type_inv.bytes i) in x in
-    let head : HasHead 6 c.args.bytes.now c.head_at-in-ReadReply.result =
-    record { kind = c.in-ReadReply.ensures; fits = c.head_at-in-ReadReply.ensures.fits; first = c.head_at-in-ReadReply.ensures.first; source = c.head_at-in-ReadReply.ensures.source } in
-    c.take_read.ensures.value ∙ sym (ap (answer_of c.args.self.now)
-    (read_reply_is p c.args.bytes.now c.head_at-in-ReadReply.result c.rcode_at.result c.quadlet_at.result.0 fit s head c.rcode_at.ensures c.quadlet_at.ensures.value))
+returns-in-ReadReply-clause-value c = λ p s. c.take_read.ensures.value ∙ sym (ap (answer_of c.args.self.now) (is_so _ _ p c.in-ReadReply.is (c.glance_at.ensures p s)))
 
 pub returns-in-ReadReply-clause-known : goal.returns-in-ReadReply-clause-known
 unfolding standing_following
 returns-in-ReadReply-clause-known c = λ p s.
-    let fit = λ (i : ℕ). let x : slice_index c.args.bytes.now i < 256 = omega (arith, c.type_inv.bytes i) in x in
-    let head : HasHead 6 c.args.bytes.now c.head_at-in-ReadReply.result =
-    record { kind = c.in-ReadReply.ensures; fits = c.head_at-in-ReadReply.ensures.fits; first = c.head_at-in-ReadReply.ensures.first; source = c.head_at-in-ReadReply.ensures.source } in
-    c.take_read.ensures.known ∙ sym (ap (λ (q : Packet). standing_following q c.args.self.now)
-    (read_reply_is p c.args.bytes.now c.head_at-in-ReadReply.result c.rcode_at.result c.quadlet_at.result.0 fit s head c.rcode_at.ensures c.quadlet_at.ensures.value))
+    c.take_read.ensures.known ∙ sym (ap (λ (q : Packet). standing_following q c.args.self.now) (is_so _ _ p c.in-ReadReply.is (c.glance_at.ensures p s)))
 
 pub returns-in-SwapReply-clause-value : goal.returns-in-SwapReply-clause-value
 unfolding answer_of
 returns-in-SwapReply-clause-value c = λ p s.
-    let fit = λ (i : ℕ). let x : slice_index c.args.bytes.now i < 256 = omega (arith, c.type_inv.bytes i) in x in
-    let head : HasHead 11 c.args.bytes.now c.head_at-in-SwapReply.result =
-    record { kind = c.in-SwapReply.ensures.0; fits = c.head_at-in-SwapReply.ensures.fits; first = c.head_at-in-SwapReply.ensures.first; source = c.head_at-in-SwapReply.ensures.source } in
-    c.take_lock.ensures.value ∙ sym (ap (answer_of c.args.self.now)
-    (swap_reply_is p c.args.bytes.now c.head_at-in-SwapReply.result c.rcode_at-in-SwapReply.result
-    (take 4 (drop 16 c.args.bytes.now)) fit s head c.rcode_at-in-SwapReply.ensures c.in-SwapReply.ensures.1 refl))
+    let x = c.in-SwapReply in
+    c.take_lock.ensures.value
+    ∙ ap (λ (b : List ℕ). if x.rcode == 0 then lock_answer (answered false x.head c.args.self.now) COMPARE_SWAP b else None) c.put_quadlet.ensures.bytes
+    ∙ sym (ap (answer_of c.args.self.now) (is_so _ _ p c.in-SwapReply.is (c.glance_at.ensures p s)))
 
 pub returns-in-SwapReply-clause-known : goal.returns-in-SwapReply-clause-known
 unfolding standing_following
 returns-in-SwapReply-clause-known c = λ p s.
-    let fit = λ (i : ℕ). let x : slice_index c.args.bytes.now i < 256 = omega (arith, c.type_inv.bytes i) in x in
-    let head : HasHead 11 c.args.bytes.now c.head_at-in-SwapReply.result =
-    record { kind = c.in-SwapReply.ensures.0; fits = c.head_at-in-SwapReply.ensures.fits; first = c.head_at-in-SwapReply.ensures.first; source = c.head_at-in-SwapReply.ensures.source } in
-    c.take_lock.ensures.known ∙ sym (ap (λ (q : Packet). standing_following q c.args.self.now)
-    (swap_reply_is p c.args.bytes.now c.head_at-in-SwapReply.result c.rcode_at-in-SwapReply.result
-    (take 4 (drop 16 c.args.bytes.now)) fit s head c.rcode_at-in-SwapReply.ensures c.in-SwapReply.ensures.1 refl))
+    c.take_lock.ensures.known ∙ sym (ap (λ (q : Packet). standing_following q c.args.self.now) (is_so _ _ p c.in-SwapReply.is (c.glance_at.ensures p s)))
 
 pub returns-in-WriteReply-clause-value : goal.returns-in-WriteReply-clause-value
-returns-in-WriteReply-clause-value c = λ p s.
-    let fit = λ (i : ℕ). let x : slice_index c.args.bytes.now i < 256 = omega (arith, c.type_inv.bytes i) in x in
-    sym ((write_reply_passes p c.args.bytes.now fit s c.in-WriteReply.ensures).answers c.args.self.now)
+unfolding answer_of
+returns-in-WriteReply-clause-value c = λ p s. sym (ap (answer_of c.args.self.now) (is_so _ _ p c.in-WriteReply.is (c.glance_at.ensures p s)))
 
 pub returns-in-WriteReply-clause-known : goal.returns-in-WriteReply-clause-known
+unfolding standing_following
 returns-in-WriteReply-clause-known c = λ p s.
-    let fit = λ (i : ℕ). let x : slice_index c.args.bytes.now i < 256 = omega (arith, c.type_inv.bytes i) in x in
-    sym ((write_reply_passes p c.args.bytes.now fit s c.in-WriteReply.ensures).following c.args.self.now)
+    sym (ap (λ (q : Packet). standing_following q c.args.self.now) (is_so _ _ p c.in-WriteReply.is (c.glance_at.ensures p s)))
+
+pub returns-in-CycleStart-clause-value : goal.returns-in-CycleStart-clause-value
+unfolding answer_of
+returns-in-CycleStart-clause-value c = λ p s. sym (ap (answer_of c.args.self.now) (is_so _ _ p c.in-CycleStart.is (c.glance_at.ensures p s)))
+
+pub returns-in-CycleStart-clause-known : goal.returns-in-CycleStart-clause-known
+unfolding standing_following
+returns-in-CycleStart-clause-known c = λ p s.
+    sym (ap (λ (q : Packet). standing_following q c.args.self.now) (is_so _ _ p c.in-CycleStart.is (c.glance_at.ensures p s)))

@@ -1,3 +1,0 @@
-pub mod ToDeeds
-pub mod FromDeeds
-pub mod Decided

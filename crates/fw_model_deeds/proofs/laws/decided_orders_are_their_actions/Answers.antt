@@ -1,6 +1,0 @@
-use Rattle.fw_model_run.proofs.Decided.{actions_are_decided}
-use Rattle.fw_model_deeds.proofs.Decided.{decided_is_carried}
-use Rattle.fw_model_deeds.proofs.laws.decided_orders_are_their_actions.Goals as goal
-
-pub returns : goal.returns
-returns c = record { actions = actions_are_decided; carried = decided_is_carried }

@@ -1,3 +1,0 @@
-pub mod FigureLaws
-pub mod LaterLaws
-pub mod TextLaws

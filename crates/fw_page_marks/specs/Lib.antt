@@ -1,4 +1,0 @@
-pub mod Small
-pub mod Shapes
-pub mod Places
-pub mod Arrows

@@ -1,6 +1,0 @@
-pub mod Lives
-pub mod Lines
-pub mod Bars
-pub mod Followed
-pub mod Beside
-pub mod Laws

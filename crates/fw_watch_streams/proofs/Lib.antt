@@ -1,9 +1,0 @@
-pub mod PlugChannel
-pub mod Bits
-pub mod Packets
-pub mod KnownPlugs
-pub mod Continues
-pub mod Senders
-pub mod Owners
-pub mod FreeChannels
-pub mod Tuned
